@@ -1,0 +1,3 @@
+-- The calendar, plainly.
+pub mod Gregorian
+pub mod IsoWeek

@@ -1,0 +1,1 @@
+// The proleptic Gregorian calendar.

@@ -1,0 +1,3 @@
+-- Notation that every crate's definitions share.
+pub mod Choice
+pub mod Text
