@@ -1,0 +1,111 @@
+-- The tests of a byte's class, by comparisons of the byte. Assumes nothing.
+use mathlib.Core.Path.{_≡_, _∙_, refl, sym}
+use mathlib.Core.Bool.{Bool, true, false, not, _&&_, _||_, false≢true}
+use Prim.Native.Nat.{ℕ, _+_, _≤_, _<_}
+use native.Mathlib.Omega.{arith}
+use borrow.Author.Tests.{ne-eqb}
+use lib.Dec.{eqb}
+use Rattle.notation.specs.Choice.{if_then_else_}
+use Rattle.chars.specs.Range.{_‥_, _∈_}
+use Rattle.chars.specs.Class.{Class, space, digit, letter, separator, other, classOf, _is_, isSpace, isDigit, isLetter, isSeparator}
+use Rattle.chars.proofs.Ranges.{inside, below, above, bounds}
+
+-- a class by its four tests, made in order
+abbrev ordered : Bool → Bool → Bool → Bool → Class
+ordered s d l p = if s then space else if d then digit else if l then letter else if p then separator else other
+
+first : (s d l p : Bool) → ordered s d l p is space ≡ s
+first true d l p = refl
+first false true l p = refl
+first false false true p = refl
+first false false false true = refl
+first false false false false = refl
+
+second : (s d l p : Bool) → (d ≡ true → s ≡ false) → ordered s d l p is digit ≡ d
+second true true l p f = absurd (false≢true (sym (f refl)))
+second true false l p f = refl
+second false true l p f = refl
+second false false true p f = refl
+second false false false true f = refl
+second false false false false f = refl
+
+third : (s d l p : Bool) → (l ≡ true → s || d ≡ false) → ordered s d l p is letter ≡ l
+third true d true p f = absurd (false≢true (sym (f refl)))
+third true d false p f = refl
+third false true true p f = absurd (false≢true (sym (f refl)))
+third false true false p f = refl
+third false false true p f = refl
+third false false false true f = refl
+third false false false false f = refl
+
+fourth : (s d l p : Bool) → (p ≡ true → s ≡ false) → ordered s d l p is separator ≡ (p && not l && not d)
+fourth true d l true f = absurd (false≢true (sym (f refl)))
+fourth true d l false f = refl
+fourth false true true true f = refl
+fourth false true false true f = refl
+fourth false true l false f = refl
+fourth false false true true f = refl
+fourth false false true false f = refl
+fourth false false false true f = refl
+fourth false false false false f = refl
+
+module _ (b : ℕ) where
+  abbrev blank : Bool
+  blank = b ∈ 9 ‥ 13 || eqb b 32
+
+  abbrev numeral : Bool
+  numeral = b ∈ 48 ‥ 57
+
+  abbrev alphabetic : Bool
+  alphabetic = b ∈ 65 ‥ 90 || b ∈ 97 ‥ 122
+
+  abbrev printed : Bool
+  printed = b ∈ 33 ‥ 126
+
+  -- above the blank there is no space
+  no-space : 33 ≤ b → blank ≡ false
+  no-space h = rw (above (9 ‥ 13) b (omega arith), ne-eqb b 32 (omega arith))
+
+  -- the letters stand above the digits
+  letters-from : (u v : Bool) → b ∈ 65 ‥ 90 ≡ u → b ∈ 97 ‥ 122 ≡ v → u || v ≡ true → 65 ≤ b
+  letters-from true v e f t = bounds (65 ‥ 90) b e .0
+  letters-from false true e f t = omega (arith, bounds (97 ‥ 122) b f)
+  letters-from false false e f t = absurd (false≢true t)
+
+  pub space-test : isSpace b ≡ (b ∈ 9 ‥ 13 || eqb b 32)
+  unfolding classOf
+  space-test = first blank numeral alphabetic printed
+
+  pub digit-test : isDigit b ≡ b ∈ 48 ‥ 57
+  unfolding classOf
+  digit-test = second blank numeral alphabetic printed (λ e. no-space (omega (arith, bounds (48 ‥ 57) b e)))
+
+  pub letter-test : isLetter b ≡ (b ∈ 65 ‥ 90 || b ∈ 97 ‥ 122)
+  unfolding classOf
+  letter-test =
+      third blank numeral alphabetic printed
+      (λ e. let h = letters-from _ _ refl refl e in rw (no-space (omega arith), above (48 ‥ 57) b (omega arith)))
+
+  raw-separator : isSeparator b ≡ (printed && not alphabetic && not numeral)
+  unfolding classOf
+  raw-separator = fourth blank numeral alphabetic printed (λ e. no-space (bounds (33 ‥ 126) b e .0))
+
+  pub separator-test : isSeparator b ≡ (b ∈ 33 ‥ 126 && not (isLetter b) && not (isDigit b))
+  separator-test = raw-separator ∙ rw (letter-test, digit-test)
+
+  -- a digit
+  pub digit-class : 48 ≤ b → b ≤ 57 → classOf b ≡ digit
+  unfolding classOf
+  digit-class l h = rw (no-space (omega arith), inside (48 ‥ 57) b l h)
+
+  -- what is not ASCII
+  pub wide-class : 128 ≤ b → classOf b ≡ other
+  unfolding classOf
+  wide-class h =
+      rw (
+        no-space (omega arith),
+        above (48 ‥ 57) b (omega arith),
+        above (65 ‥ 90) b (omega arith),
+        above (97 ‥ 122) b (omega arith),
+        above (33 ‥ 126) b (omega arith),
+      )

@@ -1,0 +1,6 @@
+pub mod Ranges
+pub mod Classes
+pub mod Characters
+pub mod Rows
+pub mod Sequences
+pub mod WellFormed

@@ -1,0 +1,23 @@
+-- Where a byte lies, as a fact and as a test. Assumes nothing.
+use mathlib.Core.Path.{_≡_}
+use mathlib.Core.Bool.{true, false, and-false}
+use Prim.Native.Nat.{ℕ, _≤_, _<_}
+use borrow.Author.Tests.{le-leb, lt-leb, leb-true}
+use lib.Dec.{leb}
+use Rattle.notation.proofs.Cases.{both}
+use Rattle.chars.specs.Range.{Range, _∈_}
+
+module _ (r : Range) (b : ℕ) where
+  pub inside : r .low ≤ b → b ≤ r .high → b ∈ r ≡ true
+  inside l h = rw (le-leb (r .low) b l, le-leb b (r .high) h)
+
+  pub below : b < r .low → b ∈ r ≡ false
+  below l = rw (lt-leb (r .low) b l)
+
+  pub above : r .high < b → b ∈ r ≡ false
+  above h = rw (lt-leb b (r .high) h) (and-false (leb (r .low) b))
+
+  pub bounds : b ∈ r ≡ true → (r .low ≤ b) × (b ≤ r .high)
+  bounds e =
+      let t = both (leb (r .low) b) (leb b (r .high)) e in
+      (leb-true _ _ (t .0), leb-true _ _ (t .1))

@@ -1,0 +1,97 @@
+-- Well-formed UTF-8: a sequence taken off, texts joined, and the step from character to character. Assumes nothing.
+use mathlib.Core.Path.{_≡_, _∙_, refl, sym, ap}
+use mathlib.Core.Bool.{Bool, true, false, _&&_, false≢true}
+use mathlib.Core.List.{List, [], _∷_, _++_}
+use Prim.Native.Nat.{ℕ, zero, suc, pred, _+_, _-_, _≤_, _<_, min}
+use native.Mathlib.Omega.{arith}
+use native.Mathlib.Nat.{le-of-suc-le-suc, not-suc-le-zero}
+use native.Mathlib.Numerals.{add-one}
+use lib.Dec.{ltb}
+use lib.ListN.{length, getD, drop, drop-of-length-le, length-drop}
+use lib.Seq.{drop-nil, drop-cons, drop-drop}
+use borrow.Author.Tests.{lt-ltb, ltb-true, ltb-false}
+use Rattle.notation.proofs.Cases.{both}
+use Rattle.notation.specs.Text.{byteAt}
+use Rattle.chars.specs.Character.{lead, charLength}
+use Rattle.chars.specs.Utf8.{sequence, wellFormedAfter, wellFormed}
+use Rattle.chars.proofs.Sequences.{sequence-within, sequence-append, sequence-lead}
+
+pub empty : wellFormed [] ≡ true
+unfolding wellFormedAfter
+empty = refl
+
+-- the rest of a sequence is passed over
+after-drop : (k : ℕ) (s : List ℕ) → wellFormedAfter k s ≡ wellFormed (drop k s)
+unfolding wellFormedAfter
+after-drop zero s = refl
+after-drop (suc k) [] = refl
+after-drop (suc k) (b ∷ s) = after-drop k s
+
+-- a sequence taken off
+pub on : (s : List ℕ) → wellFormed (drop (sequence s) s) ≡ wellFormed s
+unfolding wellFormedAfter
+on [] = rw drop-nil
+on (b ∷ s) =
+    (elim (sequence (b ∷ s)) as (λ n. sequence (b ∷ s) ≡ n → wellFormed (drop n (b ∷ s)) ≡ wellFormed (b ∷ s)) [
+      | zero ↦ λ e. refl
+      | suc n ↦ λ e. rw (e, lt-ltb 0 (suc n) (omega arith)) (sym (after-drop n s))
+    ]) refl
+
+-- the same at a place
+pub on-at : (s : List ℕ) (at n : ℕ) → n ≡ sequence (drop at s) → wellFormed (drop (at + n) s) ≡ wellFormed (drop at s)
+on-at s at n e = rw (e, ← drop-drop (sequence (drop at s)) at s) (on (drop at s))
+
+-- where no sequence begins
+stuck : (b : ℕ) (s : List ℕ) → sequence (b ∷ s) ≡ 0 → wellFormed (b ∷ s) ≡ false
+unfolding wellFormedAfter
+stuck b s e = rw e
+
+pub stuck-at : (s : List ℕ) (at : ℕ) → at < length s → 0 ≡ sequence (drop at s) → wellFormed (drop at s) ≡ false
+stuck-at s at h e =
+    let d = drop-cons s at 0 h in
+    rw d (stuck (byteAt s at) (drop (suc at) s) (sym (rw d at e)))
+
+-- at the end
+pub done : (s : List ℕ) (at : ℕ) → length s ≤ at → wellFormed (drop at s) ≡ true
+done s at h = rw (drop-of-length-le s h) empty
+
+-- a text that is not empty begins with a sequence
+begun : (b : ℕ) (s : List ℕ) → wellFormed (b ∷ s) ≡ true → 0 < sequence (b ∷ s)
+unfolding wellFormedAfter
+begun b s e = ltb-true _ _ (both (ltb 0 (sequence (b ∷ s))) _ e .0)
+
+-- a well-formed text in front of another
+append-after : (k : ℕ) (s t : List ℕ) → k ≤ length s → wellFormedAfter k s ≡ true → wellFormedAfter k (s ++ t) ≡ wellFormed t
+unfolding wellFormedAfter
+append-after zero [] t h e = refl
+append-after (suc k) [] t h e = absurd (not-suc-le-zero h)
+append-after (suc k) (b ∷ s) t h e = append-after k s t (le-of-suc-le-suc h) e
+append-after zero (b ∷ s) t h e =
+    (elim (sequence (b ∷ s)) as (λ n. sequence (b ∷ s) ≡ n → wellFormed (b ∷ s ++ t) ≡ wellFormed t) [
+      | zero ↦ λ q. absurd (omega (arith, begun b s e))
+      | suc n ↦ λ q.
+          rw (sequence-append b s t n q, lt-ltb 0 (suc n) (omega arith))
+          (append-after n s t (omega (arith, sequence-within (b ∷ s))) (rw (q, lt-ltb 0 (suc n) (omega arith)) at e))
+    ]) refl
+
+pub append : (s t : List ℕ) → wellFormed s ≡ true → wellFormed (s ++ t) ≡ wellFormed t
+append s t e = append-after 0 s t (omega arith) e
+
+-- at the start of a character, its length by the first byte is that of its sequence
+pub boundary : (s : List ℕ) (at : ℕ) → at < length s → wellFormed (drop at s) ≡ true → charLength s at ≡ sequence (drop at s)
+unfolding charLength
+boundary s at h e =
+    let b = byteAt s at in
+    let t = drop (suc at) s in
+    let d : drop at s ≡ b ∷ t = drop-cons s at 0 h in
+    let some : 0 < sequence (b ∷ t) = begun b t (rw d at e) in
+    let room : sequence (b ∷ t) ≤ length s - at = omega (arith, sequence-within (b ∷ t), length-drop (suc at) s) in
+    rw d (omega (arith, sequence-lead b t some))
+
+-- a step by that length goes from the start of a character to the start of the next, or to the end
+pub next : (s : List ℕ) (at : ℕ) → wellFormed (drop at s) ≡ true → wellFormed (drop (at + charLength s at) s) ≡ true
+next s at e =
+    (elim (ltb at (length s)) as (λ t. ltb at (length s) ≡ t → wellFormed (drop (at + charLength s at) s) ≡ true) [
+      | true ↦ λ q. on-at s at (charLength s at) (boundary s at (ltb-true _ _ q) e) ∙ e
+      | false ↦ λ q. done s (at + charLength s at) (omega (arith, ltb-false at (length s) q))
+    ]) refl

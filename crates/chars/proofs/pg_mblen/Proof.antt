@@ -1,0 +1,24 @@
+-- `chars::pg_mblen` meets its contract: the lesser of the two lengths is theirs. Assumes nothing.
+use native.Mathlib.Omega.{arith}
+use borrow.Author.Needs.{needs}
+use Rattle.chars.specs.Character.{charLength}
+use Rattle.chars.proofs.Characters.{measured}
+use Rattle.chars.proofs.pg_mblen.Statement.{statement}
+use Rattle.chars.proofs.pg_mblen.Tie as tie
+
+returns : tie.Need-returns
+unfolding charLength
+returns c = measured _ _ _ (omega arith)
+
+returns-2 : tie.Need-returns-2
+unfolding charLength
+returns-2 c = measured _ _ _ (omega arith)
+
+returns-3 : tie.Need-returns-3
+unfolding charLength
+returns-3 c = measured _ _ _ (omega arith)
+
+pub pg-mblen-spec : {M : Type 1} → statement M
+pg-mblen-spec =
+    tie.close
+    (tie.spec returns (λ c. search needs) (λ c κs. search needs) (λ c. search needs) returns-2 returns-3)

@@ -1,0 +1,25 @@
+-- The affix at a place is that of its two letters. Assumes nothing.
+use mathlib.Core.Path.{_≡_, refl}
+use mathlib.Core.Bool.{Bool, true, false}
+use mathlib.Core.List.{List, [], _∷_}
+use Prim.Native.Nat.{ℕ, _+_, _≤_}
+use native.Mathlib.Omega.{arith}
+use lib.Dec.{eqb}
+use lib.ListN.{length, List·getD-eq-default}
+use Rattle.notation.proofs.Cases.{by-if}
+use Rattle.notation.specs.Text.{byteAt}
+use Rattle.patterns.specs.Affixes.{affixLength, bitAt}
+
+pub by-letters : (wanted : Bool) (t : List ℕ) (at : ℕ) → bitAt wanted t at ≡ bitAt wanted (byteAt t at ∷ byteAt t (at + 1) ∷ []) 0
+unfolding bitAt
+by-letters wanted t at = refl
+
+-- none stands past the end
+pub none-past : (wanted : Bool) (t : List ℕ) (at : ℕ) → length t ≤ at → bitAt wanted t at ≡ 0
+unfolding bitAt
+none-past true t at h = simp (List·getD-eq-default t 0 h)
+none-past false t at h = simp (List·getD-eq-default t 0 h)
+
+-- an affix has at most two letters
+pub affix-short : (bit : ℕ) → affixLength bit ≤ 2
+affix-short bit = by-if (λ (n : ℕ). n ≤ 2) (eqb bit 0) 0 2 (λ e. omega arith) (λ e. omega arith)

@@ -1,0 +1,3 @@
+-- Laws of the compiler.
+pub mod Steps
+pub mod Turns

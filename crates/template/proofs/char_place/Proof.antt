@@ -1,0 +1,78 @@
+-- `template::char_place` meets its contract. Assumes nothing.
+use mathlib.Core.Path.{_≡_, _∙_, sym}
+use mathlib.Core.Bool.{and-false}
+use native.Mathlib.Omega.{arith}
+use borrow.Author.Needs.{needs}
+use borrow.Author.Tests.{eq-eqb, ne-eqb, lt-ltb, le-ltb}
+use denote.Ref.{now}
+use Rattle.template.specs.Template.{charPlace}
+use Rattle.template.proofs.Steps.{within}
+use Rattle.template.proofs.char_place.Statement.{statement}
+use Rattle.template.proofs.char_place.Tie as tie
+
+returns : tie.Need-returns
+unfolding charPlace
+returns c =
+    record { is = simp (ne-eqb _ _ (c .if1 .taken)); from = omega arith; near = omega arith; within = search needs }
+
+returns-2 : tie.Need-returns-2
+unfolding charPlace
+returns-2 c =
+    let d = c .before .before in
+    record {
+      is = simp (d .if1 .left, c .before .if2 .taken, lt-ltb _ _ (c .if3 .taken));
+      from = omega arith;
+      near = omega arith;
+      within = c .if3 .taken;
+    }
+
+returns-3 : tie.Need-returns-3
+unfolding charPlace
+returns-3 c =
+    let d = c .before .before in
+    record {
+      is = simp (d .if1 .left, c .before .if2 .taken, le-ltb _ _ (c .if3 .left));
+      from = omega arith;
+      near = omega arith;
+      within = search needs;
+    }
+
+returns-4 : tie.Need-returns-4
+unfolding charPlace
+returns-4 c =
+    let d = c .before .before .before in
+    let a = d .before .before .before .args in
+    let e = sym (c .before .byte-at .ensures) ∙ c .if4 .taken in
+    record {
+      is = simp (d .if1 .left, c .before .before .if2 .left, eq-eqb _ _ e);
+      from = omega arith;
+      near = omega arith;
+      within = within (now (a .t)) _ (λ z. omega (arith, e, z));
+    }
+
+returns-5 : tie.Need-returns-5
+unfolding charPlace
+returns-5 c =
+    let d = c .before .before .before in
+    record {
+      is = simp (d .if1 .left, c .before .before .if2 .left, ne-eqb _ _ (λ z. c .if4 .left (c .before .byte-at .ensures ∙ z)));
+      from = omega arith;
+      near = omega arith;
+      within = search needs;
+    }
+
+pub char-place-spec : {M : Type 1} → statement M
+char-place-spec =
+    tie.close
+    (tie.spec
+    (λ c. search needs)
+    returns
+    (λ c. search needs)
+    (λ c. search needs)
+    returns-2
+    returns-3
+    (λ c. search needs)
+    (λ c κs. search needs)
+    (λ c. search needs)
+    returns-4
+    returns-5)

@@ -1,0 +1,80 @@
+-- `template::parse_format` meets its contract. The invariant: the nodes stored, before those of what is left, are the template's.
+-- Assumes nothing.
+use mathlib.Core.Path.{_≡_, refl}
+use Prim.Native.Nat.{ℕ, _-_, _≤_}
+use native.Mathlib.Omega.{arith}
+use borrow.Author.Needs.{needs}
+use denote.Ref.{now}
+use lib.ListN.{length}
+use Rattle.template.proofs.Turns.{Read, begun, kept, passed, ended}
+use Rattle.template.proofs.parse_format.Statement.{statement}
+use Rattle.template.proofs.parse_format.Tie as tie
+
+abbrev Inv-loop : tie.InvT-loop
+Inv-loop t index names out₀ n₀ at₀ quoted₀ out n at quoted = (n ≤ at) × (n ≤ 256) × (length (out .nodes) ≡ 257) × Read t (out .nodes) n at quoted
+
+abbrev μ-loop : tie.MeasureT-loop
+μ-loop t index names out₀ n₀ at₀ quoted₀ out n at quoted = length t - at
+
+loop-holds : tie.Need-loop-holds Inv-loop μ-loop
+loop-holds c = (search needs, search needs, refl, begun _)
+
+step-at-requires : tie.Need-step-at-requires Inv-loop μ-loop
+step-at-requires c κs =
+    let n = c .before .before .before .before in
+    (n .before .dch-index .ensures, n .dch-names .ensures, search needs, search needs)
+
+loop-less : tie.Need-loop-less Inv-loop μ-loop
+loop-less c = omega (arith, c .before .before .step-at .ensures .on)
+
+loop-again : tie.Need-loop-again Inv-loop μ-loop
+loop-again c =
+    let s = c .before .before in
+    let l = s .before .before .before .before in
+    let a = l .before .before .before .before .args in (
+      omega (arith, s .step-at .ensures .on),
+      omega arith,
+      search needs,
+      kept (now (a .t)) (l .loop .out .nodes) (l .loop .n) (l .loop .at) (l .loop .quoted) (s .step-at .result) (s .step-at .ensures .is) (search needs)
+          (s .step-at .ensures .on) (omega arith) (c .before .if1 .taken) (l .loop .inv .3),
+    )
+
+loop-less-2 : tie.Need-loop-less-2 Inv-loop μ-loop
+loop-less-2 c = omega (arith, c .before .step-at .ensures .on)
+
+loop-again-2 : tie.Need-loop-again-2 Inv-loop μ-loop
+loop-again-2 c =
+    let s = c .before in
+    let l = s .before .before .before .before in
+    let a = l .before .before .before .before .args in (
+      omega (arith, s .step-at .ensures .on),
+      search needs,
+      search needs,
+      passed (now (a .t)) (l .loop .out .nodes) (l .loop .n) (l .loop .at) (l .loop .quoted) (s .step-at .result) (s .step-at .ensures .is) (search needs)
+          (s .step-at .ensures .on) (c .if1 .left) (l .loop .inv .3),
+    )
+
+returns : tie.Need-returns Inv-loop μ-loop
+returns c =
+    let l = c .before in
+    let e = ended (now (l .before .before .before .before .args .t)) _ _ _ _ (l .loop .inv .3) (search needs) in
+    λ i. record { nodes = e .0 i; count = e .1 i }
+
+pub parse-format-spec : {M : Type 1} → statement M
+parse-format-spec =
+    tie.close
+    (tie.spec
+    Inv-loop
+    μ-loop
+    (λ c κs. search needs)
+    (λ c κs. search needs)
+    loop-holds
+    step-at-requires
+    (λ c. search needs)
+    (λ c. search needs)
+    (λ c. search needs)
+    loop-less
+    loop-again
+    loop-less-2
+    loop-again-2
+    returns)

@@ -1,0 +1,3 @@
+-- What a template compiles to.
+pub mod Template
+pub mod Examples

@@ -1,0 +1,224 @@
+// The template compiler: parse_format of PostgreSQL's formatting.c for dates.
+ghost use mathlib.Core.Path.{_≡_};
+ghost use Prim.Native.Nat.{_+_, _<_, _≤_};
+ghost use mathlib.Core.Bool.{true, false};
+ghost use lib.ListN.{length};
+ghost use Rattle.patterns.specs.Affixes.{affixLength};
+ghost use Rattle.patterns.specs.Search.{nameTable, indexTable};
+ghost use Rattle.template.specs.Template.{Placed, Stepped, actionAt, charAt, compiledOf, elementAt, kindOf, literalAt, plainAt, skip, stepAt};
+use patterns::Found;
+
+// The kinds of a node.
+pub const FN_END: u8 = 0;
+
+pub const FN_ACTION: u8 = 1;
+
+pub const FN_CHAR: u8 = 2;
+
+pub const FN_SEPARATOR: u8 = 3;
+
+pub const FN_SPACE: u8 = 4;
+
+// A pattern with the bits of its prefix and suffix, or one literal character. `start` and `len` tell where its name or its
+// bytes stand in the template; `pattern` is its place in the table.
+pub struct Node {
+    pub start: u16,
+    pub len: u8,
+    pub kind: u8,
+    pub pattern: u8,
+    pub suffix: u8,
+}
+
+// The nodes of a template; the first `count` are its own, all others END.
+pub struct Compiled {
+    pub nodes: [Node; 257],
+    pub count: usize,
+}
+
+// One step through a template: the node that it made, if any, where it ended, and whether it ended in quotes.
+pub struct Step {
+    pub made: bool,
+    pub node: Node,
+    pub next: usize,
+    pub quoted: bool,
+}
+
+fn skipped(next: usize, quoted: bool) -> Step
+    ensures { λ r. ⌜ r ≡ skip next quoted ⌝ }
+{
+    let node = Node {
+        start: 0,
+        len: 0,
+        kind: FN_END,
+        pattern: 0,
+        suffix: 0,
+    };
+    Step {
+        made: false,
+        node,
+        next,
+        quoted,
+    }
+}
+
+fn kind_of(b: u8) -> u8
+    ensures { λ r. ⌜ r ≡ kindOf b ⌝ }
+{
+    if chars::is_separator_char(b) {
+        return FN_SEPARATOR;
+    }
+    if chars::is_space_c(b) {
+        return FN_SPACE;
+    }
+    FN_CHAR
+}
+
+// One character as a node.
+fn char_at(t: &[u8], at: usize, kind: u8, quoted: bool) -> Step
+    requires { ⌜ (at < length (now t)) × (length (now t) ≤ 256) ⌝ }
+    ensures { λ r. ⌜ Stepped at 4 (charAt (now (t .entry)) at kind quoted) r ⌝ }
+{
+    let n = chars::pg_mblen(t, at);
+    let node = Node {
+        start: at as u16,
+        len: n as u8,
+        kind,
+        pattern: 0,
+        suffix: 0,
+    };
+    Step {
+        made: true,
+        node,
+        next: at + n,
+        quoted,
+    }
+}
+
+// Where the literal character stands: past a backslash, unless that is one itself. In quotes it is one as the last byte,
+// outside quotes everywhere but before a quote.
+fn char_place(t: &[u8], at: usize, quoted: bool) -> usize
+    requires { ⌜ at < length (now t) ⌝ }
+    ensures { λ r. ⌜ Placed (now (t .entry)) at quoted r ⌝ }
+{
+    if t[at] != b'\\' {
+        return at;
+    }
+    if quoted {
+        if at + 1 < t.len() {
+            return at + 1;
+        }
+        return at;
+    }
+    if chars::byte_at(t, at + 1) == b'"' {
+        return at + 1;
+    }
+    at
+}
+
+// A quote, or one literal character.
+fn literal_step(t: &[u8], at: usize, quoted: bool) -> Step
+    requires { ⌜ (at < length (now t)) × (length (now t) ≤ 256) ⌝ }
+    ensures { λ r. ⌜ Stepped at 7 (literalAt (now (t .entry)) at quoted) r ⌝ }
+{
+    if t[at] == b'"' {
+        return skipped(at + 1, !quoted);
+    }
+    let place = char_place(t, at, quoted);
+    if quoted {
+        return char_at(t, place, FN_CHAR, true);
+    }
+    char_at(t, place, kind_of(t[place]), false)
+}
+
+fn past_affix(at: usize, bit: u8) -> usize
+    requires { ⌜ at ≤ 512 ⌝ }
+    ensures { λ r. ⌜ r ≡ at + affixLength bit ⌝ }
+{
+    if bit == 0 { at } else { at + 2 }
+}
+
+// A pattern whose name stands at a place, and the suffix behind it.
+fn action_step(t: &[u8], at: usize, prefix: u8, place: usize, len: usize) -> Step
+    requires { ⌜ (at ≤ 256) × (place < 112) × (1 ≤ len) × (len ≤ 5) ⌝ }
+    ensures { λ r. ⌜ Stepped at 7 (actionAt (now (t .entry)) at prefix place len) r ⌝ }
+{
+    let suffix = patterns::fmt_suffix_search(t, at + len, false);
+    let node = Node {
+        start: at as u16,
+        len: len as u8,
+        kind: FN_ACTION,
+        pattern: place as u8,
+        suffix: prefix | suffix,
+    };
+    Step {
+        made: true,
+        node,
+        next: past_affix(at + len, suffix),
+        quoted: false,
+    }
+}
+
+// A pattern, or a literal, before which the prefix is dropped.
+fn element_step(index: &[i8; 128], names: &[u8; 560], t: &[u8], at: usize, prefix: u8) -> Step
+    requires { ⌜ (now index ≡ indexTable) × (now names ≡ nameTable) × (at < length (now t)) × (length (now t) ≤ 256) ⌝ }
+    ensures { λ r. ⌜ Stepped at 7 (elementAt (now (t .entry)) at prefix) r ⌝ }
+{
+    match patterns::fmt_index_search(index, names, t, at) {
+        Found::Pattern { place, len } => action_step(t, at, prefix, place, len),
+        Found::Nothing => literal_step(t, at, false),
+    }
+}
+
+fn plain_step(index: &[i8; 128], names: &[u8; 560], t: &[u8], at: usize) -> Step
+    requires { ⌜ (now index ≡ indexTable) × (now names ≡ nameTable) × (at < length (now t)) × (length (now t) ≤ 256) ⌝ }
+    ensures { λ r. ⌜ Stepped at 9 (plainAt (now (t .entry)) at) r ⌝ }
+{
+    let prefix = patterns::fmt_suffix_search(t, at, true);
+    let start = past_affix(at, prefix);
+    if start < t.len() {
+        return element_step(index, names, t, start, prefix);
+    }
+    skipped(start, false)
+}
+
+fn step_at(index: &[i8; 128], names: &[u8; 560], t: &[u8], at: usize, quoted: bool) -> Step
+    requires { ⌜ (now index ≡ indexTable) × (now names ≡ nameTable) × (at < length (now t)) × (length (now t) ≤ 256) ⌝ }
+    ensures { λ r. ⌜ Stepped at 9 (stepAt (now (t .entry)) at quoted) r ⌝ }
+{
+    if quoted {
+        return literal_step(t, at, true);
+    }
+    plain_step(index, names, t, at)
+}
+
+pub fn parse_format(t: &[u8]) -> Compiled
+    requires { ⌜ length (now t) ≤ 256 ⌝ }
+    ensures { λ r. ⌜ r ≡ compiledOf (now (t .entry)) ⌝ }
+{
+    let index = patterns::dch_index();
+    let names = patterns::dch_names();
+    let end = Node {
+        start: 0,
+        len: 0,
+        kind: FN_END,
+        pattern: 0,
+        suffix: 0,
+    };
+    let nodes = [end; 257];
+    let mut out = Compiled { nodes, count: 0 };
+    let mut n: usize = 0;
+    let mut at: usize = 0;
+    let mut quoted = false;
+    while at < t.len() {
+        let s = step_at(&index, &names, t, at, quoted);
+        if s.made {
+            let node = s.node;
+            out.nodes[n] = node;
+            n += 1;
+        }
+        at = s.next;
+        quoted = s.quoted;
+    }
+    out.count = n;
+    out
+}
