@@ -1,3 +1,4 @@
 -- The calendar, plainly.
 pub mod Gregorian
 pub mod IsoWeek
+pub mod Civil

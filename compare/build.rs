@@ -1,0 +1,36 @@
+//! Writes the declarations by which the ported module's files are built where they stand, unchanged. `SOURCES` names their folder.
+
+use std::path::PathBuf;
+use std::{env, fs};
+
+fn main() {
+    println!("cargo:rerun-if-env-changed=SOURCES");
+    let folder = env::var("SOURCES").expect("SOURCES names the folder of the ported module");
+    let folder = fs::canonicalize(folder).expect("the folder of the ported module can be read");
+    let source = |name: &str| {
+        let path = folder.join(format!("src--impl--rust--src--{name}.rs.txt"));
+        println!("cargo:rerun-if-changed={}", path.display());
+        path
+    };
+    let read = |path: PathBuf| fs::read_to_string(&path).unwrap_or_else(|e| panic!("{}: {e}", path.display()));
+    let out = PathBuf::from(env::var("OUT_DIR").unwrap());
+    let here = PathBuf::from(env::var("CARGO_MANIFEST_DIR").unwrap());
+
+    // The functions of formatting.rs are private, but in reach of a module inside it: a line after its text declares that module.
+    let declared = format!("#[path = {:?}]\npub mod answers;\n", here.join("src/answers/mod.rs"));
+    let formatting = out.join("formatting.rs");
+    fs::write(&formatting, read(source("formatting")) + "\n" + &declared).unwrap();
+
+    // Of date.rs only its constants: the rest leans on a parser that is not there.
+    let date = read(source("date"));
+    let constants: String = date.lines().filter(|line| line.starts_with("pub const ")).collect();
+
+    let module = |name: &str, path: PathBuf| format!("#[allow(dead_code)]\n#[path = {path:?}]\nmod {name};\n");
+    let declarations = [
+        module("costs", source("costs")),
+        module("error", source("error")),
+        module("formatting", formatting),
+        format!("mod date {{ {constants} }}\n"),
+    ];
+    fs::write(out.join("modules.rs"), declarations.concat()).unwrap();
+}

@@ -1,0 +1,135 @@
+//! The numbered answers to a template and an input: what the module reads, or a refusal told from the text of its error.
+
+use super::*;
+use std::fmt;
+
+const TEMPLATE_LIMIT: usize = 256;
+const INPUT_LIMIT: usize = 512;
+
+/// The answer of the line program to one line, "template TAB input".
+pub fn line(line: &[u8]) -> String {
+    if line.len() > TEMPLATE_LIMIT + 1 + INPUT_LIMIT {
+        return Refusal::plain(1).to_string();
+    }
+    let tab = line.iter().position(|&byte| byte == b'\t');
+    let (template, input) = tab.map_or((line, &[][..]), |at| (&line[..at], &line[at + 1..]));
+    parts(template, input)
+}
+
+/// 0, then year, month, day, hour, minute, second, microseconds, precision, offset or `none`; or a refusal.
+pub fn parts(template: &[u8], input: &[u8]) -> String {
+    read(template, input, to_timestamp_parts, |parts| {
+        let TimestampParts { tm, fsec, fprec, tz_east } = parts;
+        let date = format!("{} {} {}", tm.year, tm.mon, tm.mday);
+        let time = format!("{} {} {} {fsec}", tm.hour, tm.min, tm.sec);
+        let offset = tz_east.map_or("none".to_string(), |east| east.to_string());
+        format!("0 {date} {time} {fprec} {offset}")
+    })
+}
+
+/// 0, then microseconds since 1970-01-01, a text without an offset read as UTC; or a refusal.
+pub fn instant(template: &[u8], input: &[u8]) -> String {
+    let by = |input: &str, template: &str| to_timestamp_text(input, template, &ZoneRef::Fixed(0), &mut Meter);
+    read(template, input, by, |micros| format!("0 {micros}"))
+}
+
+/// 0, then days since 1970-01-01; or a refusal.
+pub fn date(template: &[u8], input: &[u8]) -> String {
+    read(template, input, to_date_text, |days| format!("0 {days}"))
+}
+
+fn read<T>(
+    template: &[u8],
+    input: &[u8],
+    by: impl Fn(&str, &str) -> Result<T>,
+    accepted: impl Fn(T) -> String,
+) -> String {
+    if template.len() > TEMPLATE_LIMIT || input.len() > INPUT_LIMIT {
+        return Refusal::plain(1).to_string();
+    }
+    let (Ok(template), Ok(input)) = (std::str::from_utf8(template), std::str::from_utf8(input)) else {
+        return Refusal::plain(2).to_string();
+    };
+    match by(input, template) {
+        Ok(value) => accepted(value),
+        Err(error) => refusal(&error, template, input).to_string(),
+    }
+}
+
+/// A refusal: its number, the pattern as the template spells it, two figures.
+struct Refusal {
+    number: u8,
+    pattern: Option<String>,
+    figures: [i64; 2],
+}
+
+impl Refusal {
+    fn plain(number: u8) -> Refusal {
+        Refusal { number, pattern: None, figures: [0, 0] }
+    }
+}
+
+impl fmt::Display for Refusal {
+    fn fmt(&self, f: &mut fmt::Formatter) -> fmt::Result {
+        let [first, second] = self.figures;
+        write!(f, "{} {} {first} {second}", self.number, self.pattern.as_deref().unwrap_or("-"))
+    }
+}
+
+/// How the error's message and its detail begin, for each refusal; an empty detail is none.
+const ERRORS: [(u8, &str, &str); 16] = [
+    (3, "invalid combination of date conventions", ""),
+    (4, "conflicting values for ", "This value contradicts a previous setting "),
+    (5, "source string too short for ", "Field requires "),
+    (6, "invalid value ", "Field requires "),
+    (7, "invalid value ", "Value must be an integer."),
+    (8, "value for ", "Value must be in the range "),
+    (9, "invalid value ", "The given value did not match any "),
+    (10, "invalid value ", ""),
+    (11, "value for ", ""),
+    (12, "time zone abbreviations are not supported ", ""),
+    (13, "hour ", ""),
+    (14, "cannot calculate day of year ", ""),
+    (15, "date/time field value out of range", ""),
+    (16, "time zone displacement out of range", ""),
+    (17, "timestamp out of range", ""),
+    (18, "date out of range", ""),
+];
+
+fn refusal(error: &EngineError, template: &str, input: &str) -> Refusal {
+    let detail = error.detail.as_deref().unwrap_or_default();
+    let begins = |(_, message, of_detail): &&(u8, &str, &str)| {
+        error.message.starts_with(message) && detail.starts_with(of_detail) && detail.is_empty() == of_detail.is_empty()
+    };
+    let known = ERRORS.iter().find(begins);
+    let (number, ..) = *known.unwrap_or_else(|| panic!("an unknown error: {error:?}"));
+    // the last word in quotes: the input may stand in quotes before it
+    let quoted = error.message.rsplit('"').nth(1).unwrap_or_default();
+    let pattern = match number {
+        3 | 10 | 11 | 12 => Some(stopped_at(error, template, input).to_string()),
+        4..=9 => Some(quoted.to_string()),
+        _ => None,
+    };
+    let figures = match number {
+        5 | 6 => {
+            let mut numbers = detail.split(|c: char| !c.is_ascii_digit()).filter_map(|n| n.parse().ok());
+            [numbers.next().unwrap(), numbers.next().unwrap()]
+        }
+        13 => [super::number(quoted), 0],
+        _ => [0, 0],
+    };
+    Refusal { number, pattern, figures }
+}
+
+/// The pattern at which reading stopped, where the error does not name it as the template spells it: the last one of the shortest
+/// beginning of the node list that gives the same error. These refusals do not depend on the node that follows.
+fn stopped_at(error: &EngineError, template: &str, input: &str) -> &'static str {
+    let nodes = parse(template.as_bytes());
+    let (end, nodes) = nodes.split_last().unwrap();
+    let stops = |count: &usize| {
+        let begun = [&nodes[..*count], &[*end]].concat();
+        dch_from_char(&begun, input.as_bytes(), &mut TmFromChar::default()).as_ref() == Err(error)
+    };
+    let count = (1..=nodes.len()).find(stops).expect("the whole list gives the error");
+    nodes[count - 1].key().name
+}

@@ -1,0 +1,10 @@
+pub mod Closed
+pub mod Cycles
+pub mod DaysFrom
+pub mod Ends
+pub mod Leap
+pub mod Lengths
+pub mod Months
+pub mod Ordinal
+pub mod Shift
+pub mod Signed
