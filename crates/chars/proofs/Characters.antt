@@ -1,11 +1,8 @@
 -- The length of a character: its bounds, and its cases by the first byte. Assumes nothing.
 use mathlib.Core.Path.{_≡_, refl}
-use mathlib.Core.Bool.{true, false}
 use mathlib.Core.List.{List}
-use Prim.Native.Nat.{ℕ, _+_, _-_, _≤_, _<_, min}
+use Prim.Native.Nat.{ℕ, _≤_, _<_}
 use native.Mathlib.Omega.{arith}
-use lib.ListN.{length}
-use Rattle.notation.specs.Choice.{if_then_else_}
 use Rattle.notation.specs.Text.{byteAt}
 use Rattle.notation.proofs.Cases.{by-if}
 use Rattle.chars.specs.Range.{_‥_, _∈_}

@@ -1,14 +1,31 @@
 -- The tests of a byte's class, by comparisons of the byte. Assumes nothing.
-use mathlib.Core.Path.{_≡_, _∙_, refl, sym}
+use mathlib.Core.Path.{_≡_, _∙_, refl, sym, ap}
 use mathlib.Core.Bool.{Bool, true, false, not, _&&_, _||_, false≢true}
-use Prim.Native.Nat.{ℕ, _+_, _≤_, _<_}
+use mathlib.Core.List.{[], _∷_}
+use Prim.Native.Nat.{ℕ, _≤_}
 use native.Mathlib.Omega.{arith}
-use borrow.Author.Tests.{ne-eqb}
+use borrow.Author.Tests.{ne-eqb, eqb-true}
 use lib.Dec.{eqb}
+use lib.ListN.{getD}
 use Rattle.notation.specs.Choice.{if_then_else_}
 use Rattle.chars.specs.Range.{_‥_, _∈_}
-use Rattle.chars.specs.Class.{Class, space, digit, letter, separator, other, classOf, _is_, isSpace, isDigit, isLetter, isSeparator}
-use Rattle.chars.proofs.Ranges.{inside, below, above, bounds}
+use Rattle.chars.specs.Class.{Class, space, digit, letter, separator, other, classOf, rank, _is_, isSpace, isDigit, isLetter, isSeparator}
+use Rattle.chars.proofs.Ranges.{inside, above, bounds}
+
+-- a test that passed says which class it is
+numbered : ℕ → Class
+numbered n = getD (space ∷ digit ∷ letter ∷ separator ∷ []) n other
+
+of-rank : (c : Class) → numbered (rank c) ≡ c
+unfolding numbered
+of-rank space = refl
+of-rank digit = refl
+of-rank letter = refl
+of-rank separator = refl
+of-rank other = refl
+
+pub the-class : (c k : Class) → c is k ≡ true → c ≡ k
+the-class c k e = sym (of-rank c) ∙ ap numbered (eqb-true _ _ e) ∙ of-rank k
 
 -- a class by its four tests, made in order
 abbrev ordered : Bool → Bool → Bool → Bool → Class

@@ -2,5 +2,6 @@ pub mod Ranges
 pub mod Classes
 pub mod Characters
 pub mod Rows
+pub mod Runs
 pub mod Sequences
 pub mod WellFormed

@@ -1,17 +1,17 @@
 -- The row of the table that a first byte picks: the rows' first ranges do not overlap. Assumes nothing.
-use mathlib.Core.Path.{_≡_, _∙_, refl}
+use mathlib.Core.Path.{_≡_, refl}
 use mathlib.Core.Bool.{Bool, true, false, _&&_, false≢true}
-use mathlib.Core.List.{List, [], _∷_, _++_}
-use Prim.Native.Nat.{ℕ, zero, suc, _+_, _≤_, _<_}
+use mathlib.Core.List.{List, [], _∷_}
+use Prim.Native.Nat.{ℕ, zero, suc, _≤_, _<_}
 use native.Mathlib.Nat.{le-of-suc-le-suc, not-suc-le-zero}
 use native.Mathlib.Omega.{arith}
 use borrow.Author.Tests.{leb-true, ltb-true}
 use lib.Dec.{leb, ltb}
-use lib.ListN.{length, getD, drop}
+use lib.ListN.{length, getD}
 use Rattle.notation.specs.Choice.{if_then_else_}
-use Rattle.notation.proofs.Cases.{both, by-if}
+use Rattle.notation.proofs.Cases.{both}
 use Rattle.chars.specs.Range.{Range, _‥_, _∈_}
-use Rattle.chars.specs.Utf8.{table, begins, firstRow, sequence}
+use Rattle.chars.specs.Utf8.{begins, firstRow}
 use Rattle.chars.proofs.Ranges.{below, above, bounds}
 
 -- the first ranges of the rows go upwards, from m on

@@ -7,7 +7,7 @@ use native.Mathlib.Omega.{arith}
 use native.Mathlib.Numerals.{add-one}
 use lib.ListN.{length, getD, drop, replicate, drop-of-length-le}
 use lib.Seq.{drop-cons}
-use lib.Dec.{ltb, eqb}
+use lib.Dec.{ltb, eqb, lit<}
 use borrow.Author.Tests.{ltb-true, ltb-false, eqb-true}
 use Rattle.notation.specs.Choice.{if_then_else_}
 use Rattle.notation.specs.Text.{byteAt}
@@ -35,6 +35,9 @@ module _ (b : ℕ) (s : List ℕ) where
   no-row-high : 0xf5 ≤ b → sequence (b ∷ s) ≡ 0
   unfolding sequence
   no-row-high h = over b s 0xf5 table refl h
+
+  pub ascii : b ∈ 0x00 ‥ 0x7f ≡ true → sequence (b ∷ s) ≡ 1
+  ascii q = by-row 0 (lit< tt) q
 
   fits : (n : ℕ) → sequence (b ∷ s) ≡ suc n → Fits b s table (suc n)
   unfolding sequence

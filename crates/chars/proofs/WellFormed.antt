@@ -1,20 +1,20 @@
 -- Well-formed UTF-8: a sequence taken off, texts joined, and the step from character to character. Assumes nothing.
-use mathlib.Core.Path.{_≡_, _∙_, refl, sym, ap}
-use mathlib.Core.Bool.{Bool, true, false, _&&_, false≢true}
+use mathlib.Core.Path.{_≡_, _∙_, refl, sym}
+use mathlib.Core.Bool.{true, false, false≢true}
 use mathlib.Core.List.{List, [], _∷_, _++_}
-use Prim.Native.Nat.{ℕ, zero, suc, pred, _+_, _-_, _≤_, _<_, min}
+use Prim.Native.Nat.{ℕ, zero, suc, _+_, _-_, _≤_, _<_}
 use native.Mathlib.Omega.{arith}
 use native.Mathlib.Nat.{le-of-suc-le-suc, not-suc-le-zero}
-use native.Mathlib.Numerals.{add-one}
 use lib.Dec.{ltb}
-use lib.ListN.{length, getD, drop, drop-of-length-le, length-drop}
+use lib.ListN.{length, drop, replicate, drop-of-length-le, length-drop}
 use lib.Seq.{drop-nil, drop-cons, drop-drop}
 use borrow.Author.Tests.{lt-ltb, ltb-true, ltb-false}
 use Rattle.notation.proofs.Cases.{both}
 use Rattle.notation.specs.Text.{byteAt}
-use Rattle.chars.specs.Character.{lead, charLength}
-use Rattle.chars.specs.Utf8.{sequence, wellFormedAfter, wellFormed}
-use Rattle.chars.proofs.Sequences.{sequence-within, sequence-append, sequence-lead}
+use Rattle.chars.specs.Character.{charLength}
+use Rattle.chars.specs.Range.{_‥_, _∈_}
+use Rattle.chars.specs.Utf8.{begins, sequence, wellFormedAfter, wellFormed}
+use Rattle.chars.proofs.Sequences.{sequence-within, sequence-append, sequence-lead, ascii}
 
 pub empty : wellFormed [] ≡ true
 unfolding wellFormedAfter
@@ -40,6 +40,14 @@ on (b ∷ s) =
 -- the same at a place
 pub on-at : (s : List ℕ) (at n : ℕ) → n ≡ sequence (drop at s) → wellFormed (drop (at + n) s) ≡ wellFormed (drop at s)
 on-at s at n e = rw (e, ← drop-drop (sequence (drop at s)) at s) (on (drop at s))
+
+-- a run of ASCII taken off
+pub ascii-run : (n : ℕ) (s : List ℕ) → begins (replicate n (0x00 ‥ 0x7f)) s ≡ true → wellFormed (drop n s) ≡ wellFormed s
+ascii-run zero s e = refl
+ascii-run (suc n) [] e = absurd (false≢true e)
+ascii-run (suc n) (b ∷ s) e =
+    let p = both (b ∈ 0x00 ‥ 0x7f) _ e in
+    ascii-run n s (p .1) ∙ on-at (b ∷ s) 0 1 (sym (ascii b s (p .0)))
 
 -- where no sequence begins
 stuck : (b : ℕ) (s : List ℕ) → sequence (b ∷ s) ≡ 0 → wellFormed (b ∷ s) ≡ false

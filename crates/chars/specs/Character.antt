@@ -1,6 +1,6 @@
 -- A character of a text is one UTF-8 sequence, as long as its first byte says.
 use mathlib.Core.Path.{_≡_, refl}
-use mathlib.Core.List.{List, [], _∷_, _++_, map}
+use mathlib.Core.List.{List, [], _∷_, map}
 use Prim.Native.Nat.{ℕ, _-_, _≤_, min}
 use lib.ListN.{length, take}
 use Rattle.notation.specs.Choice.{if_then_else_}
@@ -33,7 +33,7 @@ pub leads
 unfolding lead
 leads = refl
 
--- the letter à at place 2 has 2 bytes; its first byte alone, at a text's end, is a character of 1, and nothing is past the end
+-- the letter à at place 3 has 2 bytes; its first byte alone, at a text's end, is a character of 1, and nothing is past the end
 pub cut-at-end : (charLength (utf8 "ngày") 2 ≡ 2) × (charLength (take 3 (utf8 "ngày")) 2 ≡ 1) × (charLength (utf8 "ngày") 5 ≡ 0)
 unfolding charLength lead
 cut-at-end = (refl, refl, refl)

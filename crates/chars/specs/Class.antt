@@ -1,7 +1,7 @@
 -- The class of a byte in C's locale. Each byte has one, so no byte passes two of the tests.
 use mathlib.Core.Path.{_≡_, refl}
-use mathlib.Core.Bool.{Bool, true, false, _||_}
-use mathlib.Core.List.{List, [], _∷_, map}
+use mathlib.Core.Bool.{Bool, _||_}
+use mathlib.Core.List.{[], _∷_, map}
 use Prim.Native.Nat.{ℕ}
 use Prim.Native.Char.{code}
 use lib.Dec.{eqb}
@@ -20,7 +20,8 @@ classOf b =
     else if b ∈ code "!" ‥ code "~" then separator
     else other
 
-abbrev rank : Class → ℕ
+-- the classes by number
+abbrev pub rank : Class → ℕ
 rank space = 0
 rank digit = 1
 rank letter = 2

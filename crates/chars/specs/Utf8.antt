@@ -2,9 +2,9 @@
 use mathlib.Core.Path.{_≡_, refl}
 use mathlib.Core.Bool.{Bool, true, false, _&&_}
 use mathlib.Core.List.{List, [], _∷_, map}
-use Prim.Native.Nat.{ℕ, zero, suc, pred}
+use Prim.Native.Nat.{ℕ, zero, suc, pred, _≤_}
 use lib.Dec.{ltb}
-use lib.ListN.{length, replicate}
+use lib.ListN.{length, drop, replicate}
 use Rattle.notation.specs.Choice.{if_then_else_}
 use Rattle.notation.specs.Text.{utf8}
 use Rattle.chars.specs.Range.{Range, _‥_, _∈_}
@@ -48,6 +48,11 @@ wellFormedAfter zero (b ∷ s) =
 -- the list is sequences one after another
 abbrev pub wellFormed : List ℕ → Bool
 wellFormed s = wellFormedAfter 0 s
+
+-- at is a place of the list from which on the rest is well-formed exactly when the list is
+pub record Passed (s : List ℕ) (at : ℕ) : Type 0 where
+  pub within : at ≤ length s
+  pub same : wellFormed (drop at s) ≡ wellFormed s
 
 -- texts of characters of 1, 2, 3 and 4 bytes
 pub texts : (wellFormed [] ≡ true) × (wellFormed (utf8 "ngày 05") ≡ true) × (wellFormed (utf8 "€𝄞") ≡ true)

@@ -1,14 +1,14 @@
 // Bytes and characters of a text in UTF-8.
 ghost use mathlib.Core.List.{[], _∷_};
 ghost use mathlib.Core.Path.{_≡_};
-ghost use Rattle.notation.specs.Text.{byteAt};
-ghost use Prim.Native.Nat.{_+_, _<_};
-ghost use lib.ListN.{length, drop};
+ghost use Prim.Native.Nat.{_+_, _<_, _≤_};
+ghost use lib.ListN.{length, drop, replicate};
 ghost use Rattle.notation.specs.Choice.{if_then_else_};
+ghost use Rattle.notation.specs.Text.{byteAt};
 ghost use Rattle.chars.specs.Character.{lead, Measured};
 ghost use Rattle.chars.specs.Class.{isSpace, isDigit, isLetter, isSeparator};
 ghost use Rattle.chars.specs.Range.{_‥_};
-ghost use Rattle.chars.specs.Utf8.{begins, sequence, wellFormed};
+ghost use Rattle.chars.specs.Utf8.{begins, sequence, wellFormed, Passed};
 
 // C's isspace in the C locale.
 pub fn is_space_c(b: u8) -> bool
@@ -151,11 +151,35 @@ fn sequence_at(s: &[u8], at: usize) -> usize
     }
 }
 
+// Whether the eight bytes from a place on are all ASCII.
+fn eight_ascii(s: &[u8], at: usize) -> bool
+    requires { ⌜ at + 8 ≤ length (now s) ⌝ }
+    ensures { λ r. ⌜ r ≡ begins (replicate 8 (0x00 ‥ 0x7f)) (drop at (now (s .entry))) ⌝ }
+{
+    let high = s[at + 4] | (s[at + 5] | (s[at + 6] | s[at + 7]));
+    (s[at] | (s[at + 1] | (s[at + 2] | (s[at + 3] | high)))) < 0x80
+}
+
+// How far `s` is ASCII, in steps of eight bytes.
+fn ascii_blocks(s: &[u8]) -> usize
+    ensures { λ r. ⌜ Passed (now (s .entry)) r ⌝ }
+{
+    let mut i = 0;
+    while 8 <= s.len() - i {
+        if eight_ascii(s, i) {
+            i += 8;
+        } else {
+            return i;
+        }
+    }
+    i
+}
+
 // Whether `s` is well-formed UTF-8, as a Rust `str` is: no overlong form, no surrogate, nothing above U+10FFFF.
 pub fn is_utf8(s: &[u8]) -> bool
     ensures { λ r. ⌜ r ≡ wellFormed (now (s .entry)) ⌝ }
 {
-    let mut i = 0;
+    let mut i = ascii_blocks(s);
     while i < s.len() {
         if s[i] < 0x80 {
             i += 1;

@@ -9,13 +9,13 @@ returns : tie.Need-returns
 returns c =
     let d = c .before .before in
     let e = d .before .before in
-    rw (begins-on, ← e .before .in-range .ensures, e .if1 .taken, begins-on, add-assoc, ← d .before .in-range2 .ensures, d .if2 .taken, add-assoc, ← c .before .in-range3 .ensures, c .if3 .taken)
+    rw (begins-on, add-assoc, ← e .before .in-range .ensures, e .if1 .taken, begins-on, add-assoc, ← d .before .in-range2 .ensures, d .if2 .taken, add-assoc, ← c .before .in-range3 .ensures, c .if3 .taken)
 
 returns-2 : tie.Need-returns-2
 returns-2 c =
     let d = c .before .before in
     let e = d .before .before in
-    rw (begins-on, ← e .before .in-range .ensures, e .if1 .taken, begins-on, add-assoc, ← d .before .in-range2 .ensures, d .if2 .taken, add-assoc, ← c .before .in-range3 .ensures, c .if3 .left)
+    rw (begins-on, add-assoc, ← e .before .in-range .ensures, e .if1 .taken, begins-on, add-assoc, ← d .before .in-range2 .ensures, d .if2 .taken, add-assoc, ← c .before .in-range3 .ensures, c .if3 .left)
 
 returns-3 : tie.Need-returns-3
 returns-3 c =
