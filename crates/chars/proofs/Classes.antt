@@ -97,6 +97,9 @@ module _ (b : ℕ) where
   unfolding classOf
   digit-test = second blank numeral alphabetic printed (λ e. no-space (omega (arith, bounds (48 ‥ 57) b e)))
 
+  pub digit-bounds : isDigit b ≡ true → (48 ≤ b) × (b ≤ 57)
+  digit-bounds e = bounds (48 ‥ 57) b (sym digit-test ∙ e)
+
   pub letter-test : isLetter b ≡ (b ∈ 65 ‥ 90 || b ∈ 97 ‥ 122)
   unfolding classOf
   letter-test =

@@ -1,5 +1,5 @@
 -- The days before a year, in closed form. Assumes nothing.
-use mathlib.Core.Path.{_≡_, refl, _∙_, ap}
+use mathlib.Core.Path.{_≡_, refl, ap}
 use mathlib.Core.Bool.{Bool, true, false, not, _&&_, _||_, false≢true}
 use Prim.Native.Nat.{ℕ, zero, suc, _+_, _-_, _*_, _/_, _%_, _≤_, _<_}
 use native.Mathlib.Nat.{mod-lt, div-add-mod'}
@@ -27,7 +27,7 @@ module _ (k : ℕ) (h : 0 < k) where
   at : (n q r : ℕ) → n ≡ q * k + r → r < k → n / k + one-if (eqb r 0) ≡ q + one-if (multiple k n)
   at n q r e l = rw (e, digits-div q l, digits-mod q l)
 
-  pub grows : (y : ℕ) → suc y / k ≡ y / k + one-if (multiple k (suc y))
+  grows : (y : ℕ) → suc y / k ≡ y / k + one-if (multiple k (suc y))
   grows y = by (ltb (suc (y % k)) k) refl
     where
       by : (t : Bool) → ltb (suc (y % k)) k ≡ t → suc y / k ≡ y / k + one-if (multiple k (suc y))
@@ -61,8 +61,8 @@ module _ (y : ℕ) where
   unfolding leap
   leap-is = counted (multiple 4 y) (multiple 100 y) (multiple 400 y) fourth century
 
-  less : y / 100 ≤ y / 4
-  less = omega arith
+  pub centuries-le : y / 100 ≤ y / 4
+  centuries-le = omega arith
 
 pub next-year : (y : ℕ) → beforeYear (y + 1) ≡ beforeYear y + (365 + leap y)
 unfolding beforeYear
@@ -77,7 +77,7 @@ pub closed : (y : ℕ) → beforeYear (suc y) ≡ 366 + 365 * y + y / 4 - y / 10
 closed zero = unfold beforeYear leap in refl
 closed (suc y) =
     rw (← add-one (suc y), next-year (suc y), grows 4 (lit< tt) y, grows 100 (lit< tt) y, grows 400 (lit< tt) y)
-    (next y (beforeYear (suc y)) _ _ _ _ _ _ (leap (suc y)) (less y) (one-if-le (multiple 100 (suc y))) (closed y) (leap-is (suc y)))
+    (next y (beforeYear (suc y)) _ _ _ _ _ _ (leap (suc y)) (centuries-le y) (one-if-le (multiple 100 (suc y))) (closed y) (leap-is (suc y)))
 
 pub before-bound : (y : ℕ) → beforeYear y ≤ 366 * y
 unfolding beforeYear

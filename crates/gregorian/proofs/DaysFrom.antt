@@ -16,7 +16,8 @@ use Rattle.gregorian.proofs.Closed.{before-bound}
 use Rattle.gregorian.proofs.Cycles.{cycles, back}
 use Rattle.gregorian.proofs.Lengths.{sum-take-le}
 use Rattle.gregorian.proofs.Shift.{start-small}
-use Rattle.gregorian.proofs.Signed.{add-mag, sub-mag, sub-same, sub-sub, swap}
+use Rattle.notation.proofs.Magnitudes.{add-mag, sub-mag}
+use Rattle.gregorian.proofs.Signed.{sub-same, sub-sub, swap}
 
 -- a year has at most 366 days before a month
 pub days-before-le : (inLeap : Bool) (m : ℤ) → daysBefore inLeap m ≤ 366

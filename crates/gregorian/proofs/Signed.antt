@@ -1,15 +1,15 @@
 -- Signed sums: an i32 as an i64, what fits, and differences of natural numbers. Assumes nothing.
 use mathlib.Core.Path.{_≡_, refl, _∙_, ap, sym}
-use mathlib.Core.Bool.{Bool, true, false, cond}
-use Prim.Native.Nat.{ℕ, zero, suc, _+_, _-_, _≤_}
+use mathlib.Core.Bool.{Bool, true, false}
+use Prim.Native.Nat.{ℕ, _+_}
 use native.Mathlib.Omega.{arith}
 use borrow.Author.Tests.{lt-ltb, le-ltb, ltb-true, ltb-false}
 use lib.Dec.{ltb}
 use lib.IntN.{ℤ, pos, negsuc, negℤ, subℕ, _+ℤ_, _-ℤ_, +ℤ-assoc, +ℤ-comm, negℤ-+ℤ}
-use lib.Signed.{mag}
 use mir.Facts.{toZ-ofZ, sfits-widen}
 use mir.Syntax.{w32, w64}
 use mir.Val.{SFits, toZ, ofZ}
+use Rattle.notation.proofs.Magnitudes.{sub-is}
 
 -- an i32 cast to i64
 module _ {z : ℤ} (f : SFits w32 z) where
@@ -18,24 +18,6 @@ module _ {z : ℤ} (f : SFits w32 z) where
 
   pub wide : toZ w64 (ofZ w64 (toZ w32 (ofZ w32 z))) ≡ z
   wide = toZ-ofZ wide-fits ∙ toZ-ofZ f
-
-cond-mag : (t : Bool) (a b : ℕ) → mag (cond t (negsuc (b - suc a)) (pos (a - b))) ≤ a + b
-cond-mag true a b = omega arith
-cond-mag false a b = omega arith
-
-pub add-mag : (a b : ℤ) → mag (a +ℤ b) ≤ mag a + mag b + 1
-add-mag (pos a) (pos b) = omega arith
-add-mag (pos a) (negsuc b) = omega (arith, cond-mag (ltb a (suc b)) a (suc b))
-add-mag (negsuc a) (pos b) = omega (arith, cond-mag (ltb b (suc a)) b (suc a))
-add-mag (negsuc a) (negsuc b) = omega arith
-
--- a - b, for two naturals
-sub-is : (a b : ℕ) → pos a -ℤ pos b ≡ subℕ a b
-sub-is a zero = rw (le-ltb a 0 (omega arith)) (ap pos (omega arith))
-sub-is a (suc b) = refl
-
-pub sub-mag : (a b : ℕ) → mag (pos a -ℤ pos b) ≤ a + b
-sub-mag a b = rw (sub-is a b) (cond-mag (ltb a b) a b)
 
 subℕ-same : (a b c d : ℕ) → a + d ≡ c + b → subℕ a b ≡ subℕ c d
 subℕ-same a b c d e = split (ltb a b) refl

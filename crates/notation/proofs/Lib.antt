@@ -1,2 +1,3 @@
 pub mod Cases
+pub mod Magnitudes
 pub mod Table

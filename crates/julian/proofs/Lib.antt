@@ -1,0 +1,6 @@
+mod Fields
+mod Sevens
+mod Cycles
+pub mod DayNumber
+pub mod Inverse
+pub mod IsoWeeks

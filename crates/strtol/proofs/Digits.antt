@@ -1,0 +1,70 @@
+-- Digits read one by one up to a limit: the number is held at the limit once it is beyond it. Assumes nothing.
+use mathlib.Core.Path.{_≡_, _∙_, refl, sym, ap}
+use mathlib.Core.Bool.{Bool, true, false}
+use mathlib.Core.List.{List}
+use Prim.Native.Nat.{ℕ, _+_, _-_, _*_, _/_, _^_, _≤_, _<_, min}
+use native.Mathlib.Omega.{arith}
+use borrow.Author.Tests.{lt-ltb, le-ltb}
+use lib.Dec.{ltb}
+use lib.ListN.{length, drop}
+use Rattle.notation.specs.Text.{byteAt}
+use Rattle.chars.specs.Class.{isDigit}
+use Rattle.chars.proofs.Classes.{digit-bounds}
+use Rattle.strtol.specs.Runs.{digits, number, numberFrom}
+use Rattle.strtol.specs.Strtol.{limit, digitsRead}
+use Rattle.strtol.proofs.Leading.{leading-on, leading-stop, leading-end, number-on, number-stop, number-end}
+
+pub limits : (neg : Bool) (most : ℕ) → most ≡ limit neg → (2 ^ 63 - 1 ≤ most) × (most ≤ 2 ^ 63)
+limits true most e = omega arith
+limits false most e = omega arith
+
+-- from at to i the digits of the number n are read: value is n held at the limit, over whether n is beyond it
+pub record Reading (most : ℕ) (s : List ℕ) (at value : ℕ) (over : Bool) (i : ℕ) : Type 0 where
+  pub n : ℕ
+  pub held : value ≡ min n most
+  pub beyond : over ≡ ltb most n
+  pub same : numberFrom n (drop i s) ≡ number (drop at s)
+  pub ends : i + digits (drop i s) ≡ at + digits (drop at s)
+
+module _ (most : ℕ) (s : List ℕ) (at : ℕ) where
+  pub begun : Reading most s at 0 false at
+  begun = record { n = 0; held = omega arith; beyond = sym (le-ltb most 0 (omega arith)); same = refl; ends = refl }
+
+  module _ (value : ℕ) (over : Bool) (i : ℕ) (r : Reading most s at value over i) where
+    abbrev Answer : ℕ → Type 0
+    Answer lim = record { value = value; end = i; over = over } ≡ digitsRead lim at (drop at s)
+
+    finish : (lim : ℕ) → most ≡ lim → numberFrom (r .n) (drop i s) ≡ r .n → digits (drop i s) ≡ 0 → Answer lim
+    finish lim m e d =
+        let q : r .n ≡ number (drop at s) = sym e ∙ r .same in
+        let z : i ≡ at + digits (drop at s) = omega (arith, r .ends) in
+        λ j. record {
+          value = (r .held ∙ ap (λ (n : ℕ). min n most) q ∙ ap (min (number (drop at s))) m) j;
+          end = z j;
+          over = (r .beyond ∙ ap (λ (n : ℕ). ltb most n) q ∙ ap (λ (k : ℕ). ltb k (number (drop at s))) m) j;
+        }
+
+    -- the first byte that is no digit, or the end
+    pub stopped : (lim : ℕ) → most ≡ lim → i < length s → isDigit (byteAt s i) ≡ false → Answer lim
+    stopped lim m h e = finish lim m (number-stop (r .n) s i h e) (leading-stop isDigit s i h e)
+
+    pub ended : (lim : ℕ) → most ≡ lim → length s ≤ i → Answer lim
+    ended lim m h = finish lim m (number-end (r .n) s i h) (leading-end isDigit s i h)
+
+    module _ (h : i < length s) (e : isDigit (byteAt s i) ≡ true) (large : 9 ≤ most) where
+      on : (value′ : ℕ) (over′ : Bool) → value′ ≡ min (r .n * 10 + (byteAt s i - 48)) most → over′ ≡ ltb most (r .n * 10 + (byteAt s i - 48)) → Reading most s at value′ over′ (i + 1)
+      on value′ over′ v o =
+          record {
+            n = r .n * 10 + (byteAt s i - 48);
+            held = v;
+            beyond = o;
+            same = sym (number-on (r .n) s i h e) ∙ r .same;
+            ends = omega (arith, leading-on isDigit s i h e, r .ends);
+          }
+
+      pub full : (most - (byteAt s i - 48)) / 10 < value → Reading most s at most true (i + 1)
+      full f = on most true (omega (arith, r .held, digit-bounds (byteAt s i) e)) (sym (lt-ltb most (r .n * 10 + (byteAt s i - 48)) (omega (arith, r .held, digit-bounds (byteAt s i) e))))
+
+      pub more : value ≤ (most - (byteAt s i - 48)) / 10 → Reading most s at (value * 10 + (byteAt s i - 48)) over (i + 1)
+      more f = on (value * 10 + (byteAt s i - 48)) over (omega (arith, r .held, digit-bounds (byteAt s i) e))
+          (r .beyond ∙ le-ltb most (r .n) (omega (arith, r .held, digit-bounds (byteAt s i) e)) ∙ sym (le-ltb most (r .n * 10 + (byteAt s i - 48)) (omega (arith, r .held, digit-bounds (byteAt s i) e))))

@@ -1,0 +1,4 @@
+-- Numbers as C's strtol reads them.
+pub mod Runs
+pub mod Strtol
+pub mod Decimal

@@ -1,0 +1,135 @@
+// Numbers as C's strtol reads them.
+ghost use mathlib.Core.Path.{_≡_};
+ghost use Prim.Native.Nat.{_+_, _≤_};
+ghost use lib.ListN.{drop};
+ghost use Rattle.strtol.specs.Runs.{spaces};
+ghost use Rattle.strtol.specs.Strtol.{minus, signs, limit, signed, digitsRead, strtol};
+
+// What is read: the number, the place after it, and whether it was past 64 bits.
+pub struct Strtol {
+    pub value: i64,
+    pub end: usize,
+    pub overflow: bool,
+}
+
+// The digits at a place: their number, or the limit where it is beyond that.
+struct Run {
+    value: u64,
+    end: usize,
+    over: bool,
+}
+
+// Past the spaces that stand at a place.
+pub fn past_spaces(s: &[u8], at: usize) -> usize
+    ensures { λ r. ⌜ r ≡ at + spaces (drop at (now (s .entry))) ⌝ }
+{
+    let mut i = at;
+    while i < s.len() {
+        if chars::is_space_c(s[i]) {
+            i += 1;
+        } else {
+            return i;
+        }
+    }
+    i
+}
+
+fn minus_at(s: &[u8], at: usize) -> bool
+    ensures { λ r. ⌜ r ≡ minus (drop at (now (s .entry))) ⌝ }
+{
+    if at < s.len() { s[at] == b'-' } else { false }
+}
+
+// Past one sign, where one stands.
+fn past_sign(s: &[u8], at: usize) -> usize
+    ensures { λ r. ⌜ r ≡ at + signs (drop at (now (s .entry))) ⌝ }
+{
+    if s.len() <= at {
+        return at;
+    }
+    if s[at] == b'-' {
+        return at + 1;
+    }
+    if s[at] == b'+' {
+        return at + 1;
+    }
+    at
+}
+
+fn limit_of(neg: bool) -> u64
+    ensures { λ r. ⌜ r ≡ limit neg ⌝ }
+{
+    if neg {
+        0x8000000000000000
+    } else {
+        0x7fffffffffffffff
+    }
+}
+
+// The digits from a place on. Once beyond the limit the number stays there: one digit more is beyond it again.
+fn digits_at(s: &[u8], at: usize, neg: bool) -> Run
+    ensures { λ r. ⌜ r ≡ digitsRead (limit neg) at (drop at (now (s .entry))) ⌝ }
+{
+    let most = limit_of(neg);
+    let mut value: u64 = 0;
+    let mut over = false;
+    let mut i = at;
+    while i < s.len() {
+        let b = s[i];
+        if !chars::is_digit_c(b) {
+            return Run {
+                value,
+                end: i,
+                over,
+            };
+        }
+        let d = (b - b'0') as u64;
+        i += 1;
+        if (most - d) / 10 < value {
+            value = most;
+            over = true;
+        } else {
+            value = value * 10 + d;
+        }
+    }
+    Run {
+        value,
+        end: i,
+        over,
+    }
+}
+
+fn signed_of(neg: bool, n: u64) -> i64
+    requires { ⌜ n ≤ limit neg ⌝ }
+    ensures { λ r. ⌜ r ≡ signed neg n ⌝ }
+{
+    if neg {
+        if n == 0 {
+            return 0;
+        }
+        return -1 - ((n - 1) as i64);
+    }
+    n as i64
+}
+
+// C's strtol(s + start, &end, 10): spaces, one sign, digits. With no digits the end is the start.
+pub fn c_strtol(s: &[u8], start: usize) -> Strtol
+    ensures { λ r. ⌜ r ≡ strtol (now (s .entry)) start ⌝ }
+{
+    let at = past_spaces(s, start);
+    let neg = minus_at(s, at);
+    let first = past_sign(s, at);
+    let run = digits_at(s, first, neg);
+    if run.end == first {
+        return Strtol {
+            value: 0,
+            end: start,
+            overflow: false,
+        };
+    }
+    Strtol {
+        value: signed_of(neg, run.value),
+        end: run.end,
+        overflow: run.over,
+    }
+}

@@ -1,0 +1,4 @@
+mod Signs
+mod LowBits
+pub mod Fits
+pub mod Small

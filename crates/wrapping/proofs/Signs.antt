@@ -1,0 +1,45 @@
+-- The two sides of the tests in `bits` and `signed`. Assumes nothing.
+use mathlib.Core.Path.{_≡_, refl, _∙_, ap, sym, subst}
+use mathlib.Core.Bool.{true, false}
+use Prim.Native.Nat.{ℕ, zero, suc, _-_, _≤_, _<_}
+use native.Mathlib.Omega.{arith}
+use borrow.Author.Tests.{leb-false, le-ltb}
+use lib.Dec.{T}
+use lib.IntN.{ℤ, pos, negsuc, natAbs, _-ℤ_}
+use lib.Signed.{leZ, nonNeg}
+use mir.Syntax.{w32}
+use mir.Facts.{toZ-pos, toZ-ofZ}
+use mir.Val.{Fits, SFits, toZ, ofZ}
+use Rattle.wrapping.specs.Wrap.{low32, wrap32}
+
+-- -1 - x inverts each bit of x
+invert-neg : (n : ℕ) → negsuc 0 -ℤ negsuc n ≡ pos n
+invert-neg n = rw (le-ltb (suc n) 1 (omega arith)) (ap pos (omega arith))
+
+invert-pos : (n : ℕ) → negsuc 0 -ℤ pos n ≡ negsuc n
+invert-pos zero = refl
+invert-pos (suc n) = ap negsuc (omega arith)
+
+-- a y that is no longer negative can be cast, and gives the bits k of x
+pub record Cast (x y : ℤ) (k : ℕ) : Type 0 where
+  pub fits : SFits w32 y
+  pub cast : T (nonNeg y) × Fits w32 (natAbs y)
+  pub is : k ≡ low32 x
+
+pub not-negative : (x : ℤ) → SFits w32 x → leZ (pos 0) x ≡ true → Cast x x (natAbs x)
+not-negative (pos n) f e = record { fits = f; cast = (tt, omega arith); is = omega arith }
+not-negative (negsuc n) f e = absurd (subst T (sym e) tt)
+
+pub negative : (x : ℤ) → SFits w32 x → leZ (pos 0) x ≡ false → Cast x (negsuc 0 -ℤ x) (4294967295 - natAbs (negsuc 0 -ℤ x))
+negative (pos n) f e = absurd (let h : n < 0 = leb-false 0 n e in omega arith)
+negative (negsuc n) f e = rw (invert-neg n) (record { fits = omega arith; cast = (tt, omega arith); is = omega arith })
+
+-- bits of which the highest is set
+pub upper : (u : ℕ) → Fits w32 u → 2147483648 ≤ u → negsuc 0 -ℤ toZ w32 (4294967295 - u) ≡ toZ w32 u
+upper u f h =
+    rw (toZ-pos w32 {n = 4294967295 - u} (omega arith), invert-pos (4294967295 - u), le-ltb u 2147483648 h) (ap negsuc (omega arith))
+
+-- an i32 made by `signed` from the bits of z
+pub wrapped : {r : ℤ} {u : ℕ} (z : ℤ) → SFits w32 r → r ≡ toZ w32 u → u ≡ low32 z → toZ w32 (ofZ w32 r) ≡ wrap32 z
+unfolding wrap32
+wrapped z f e h = toZ-ofZ f ∙ e ∙ ap (toZ w32) h

@@ -1,0 +1,2 @@
+-- Arithmetic of i32 that wraps.
+pub mod Wrap
