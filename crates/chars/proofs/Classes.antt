@@ -31,40 +31,40 @@ the-class c k e = sym (of-rank c) ∙ ap numbered (eqb-true _ _ e) ∙ of-rank k
 abbrev ordered : Bool → Bool → Bool → Bool → Class
 ordered s d l p = if s then space else if d then digit else if l then letter else if p then separator else other
 
-first : (s d l p : Bool) → ordered s d l p is space ≡ s
-first true d l p = refl
-first false true l p = refl
-first false false true p = refl
-first false false false true = refl
-first false false false false = refl
+ordered-space : (s d l p : Bool) → ordered s d l p is space ≡ s
+ordered-space true d l p = refl
+ordered-space false true l p = refl
+ordered-space false false true p = refl
+ordered-space false false false true = refl
+ordered-space false false false false = refl
 
-second : (s d l p : Bool) → (d ≡ true → s ≡ false) → ordered s d l p is digit ≡ d
-second true true l p f = absurd (false≢true (sym (f refl)))
-second true false l p f = refl
-second false true l p f = refl
-second false false true p f = refl
-second false false false true f = refl
-second false false false false f = refl
+ordered-digit : (s d l p : Bool) → (d ≡ true → s ≡ false) → ordered s d l p is digit ≡ d
+ordered-digit true true l p f = absurd (false≢true (sym (f refl)))
+ordered-digit true false l p f = refl
+ordered-digit false true l p f = refl
+ordered-digit false false true p f = refl
+ordered-digit false false false true f = refl
+ordered-digit false false false false f = refl
 
-third : (s d l p : Bool) → (l ≡ true → s || d ≡ false) → ordered s d l p is letter ≡ l
-third true d true p f = absurd (false≢true (sym (f refl)))
-third true d false p f = refl
-third false true true p f = absurd (false≢true (sym (f refl)))
-third false true false p f = refl
-third false false true p f = refl
-third false false false true f = refl
-third false false false false f = refl
+ordered-letter : (s d l p : Bool) → (l ≡ true → s || d ≡ false) → ordered s d l p is letter ≡ l
+ordered-letter true d true p f = absurd (false≢true (sym (f refl)))
+ordered-letter true d false p f = refl
+ordered-letter false true true p f = absurd (false≢true (sym (f refl)))
+ordered-letter false true false p f = refl
+ordered-letter false false true p f = refl
+ordered-letter false false false true f = refl
+ordered-letter false false false false f = refl
 
-fourth : (s d l p : Bool) → (p ≡ true → s ≡ false) → ordered s d l p is separator ≡ (p && not l && not d)
-fourth true d l true f = absurd (false≢true (sym (f refl)))
-fourth true d l false f = refl
-fourth false true true true f = refl
-fourth false true false true f = refl
-fourth false true l false f = refl
-fourth false false true true f = refl
-fourth false false true false f = refl
-fourth false false false true f = refl
-fourth false false false false f = refl
+ordered-separator : (s d l p : Bool) → (p ≡ true → s ≡ false) → ordered s d l p is separator ≡ (p && not l && not d)
+ordered-separator true d l true f = absurd (false≢true (sym (f refl)))
+ordered-separator true d l false f = refl
+ordered-separator false true true true f = refl
+ordered-separator false true false true f = refl
+ordered-separator false true l false f = refl
+ordered-separator false false true true f = refl
+ordered-separator false false true false f = refl
+ordered-separator false false false true f = refl
+ordered-separator false false false false f = refl
 
 module _ (b : ℕ) where
   abbrev blank : Bool
@@ -91,11 +91,11 @@ module _ (b : ℕ) where
 
   pub space-test : isSpace b ≡ (b ∈ 9 ‥ 13 || eqb b 32)
   unfolding classOf
-  space-test = first blank numeral alphabetic printed
+  space-test = ordered-space blank numeral alphabetic printed
 
   pub digit-test : isDigit b ≡ b ∈ 48 ‥ 57
   unfolding classOf
-  digit-test = second blank numeral alphabetic printed (λ e. no-space (omega (arith, bounds (48 ‥ 57) b e)))
+  digit-test = ordered-digit blank numeral alphabetic printed (λ e. no-space (omega (arith, bounds (48 ‥ 57) b e)))
 
   pub digit-bounds : isDigit b ≡ true → (48 ≤ b) × (b ≤ 57)
   digit-bounds e = bounds (48 ‥ 57) b (sym digit-test ∙ e)
@@ -103,12 +103,12 @@ module _ (b : ℕ) where
   pub letter-test : isLetter b ≡ (b ∈ 65 ‥ 90 || b ∈ 97 ‥ 122)
   unfolding classOf
   letter-test =
-      third blank numeral alphabetic printed
+      ordered-letter blank numeral alphabetic printed
       (λ e. let h = letters-from _ _ refl refl e in rw (no-space (omega arith), above (48 ‥ 57) b (omega arith)))
 
   raw-separator : isSeparator b ≡ (printed && not alphabetic && not numeral)
   unfolding classOf
-  raw-separator = fourth blank numeral alphabetic printed (λ e. no-space (bounds (33 ‥ 126) b e .0))
+  raw-separator = ordered-separator blank numeral alphabetic printed (λ e. no-space (bounds (33 ‥ 126) b e .0))
 
   pub separator-test : isSeparator b ≡ (b ∈ 33 ‥ 126 && not (isLetter b) && not (isDigit b))
   separator-test = raw-separator ∙ rw (letter-test, digit-test)

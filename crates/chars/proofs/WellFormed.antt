@@ -16,9 +16,9 @@ use Rattle.chars.specs.Range.{_‥_, _∈_}
 use Rattle.chars.specs.Utf8.{begins, sequence, wellFormedAfter, wellFormed}
 use Rattle.chars.proofs.Sequences.{sequence-within, sequence-append, sequence-lead, ascii}
 
-pub empty : wellFormed [] ≡ true
+pub empty-text : wellFormed [] ≡ true
 unfolding wellFormedAfter
-empty = refl
+empty-text = refl
 
 -- the rest of a sequence is passed over
 after-drop : (k : ℕ) (s : List ℕ) → wellFormedAfter k s ≡ wellFormed (drop k s)
@@ -28,18 +28,18 @@ after-drop (suc k) [] = refl
 after-drop (suc k) (b ∷ s) = after-drop k s
 
 -- a sequence taken off
-pub on : (s : List ℕ) → wellFormed (drop (sequence s) s) ≡ wellFormed s
+pub past-sequence : (s : List ℕ) → wellFormed (drop (sequence s) s) ≡ wellFormed s
 unfolding wellFormedAfter
-on [] = rw drop-nil
-on (b ∷ s) =
+past-sequence [] = rw drop-nil
+past-sequence (b ∷ s) =
     (elim (sequence (b ∷ s)) as (λ n. sequence (b ∷ s) ≡ n → wellFormed (drop n (b ∷ s)) ≡ wellFormed (b ∷ s)) [
       | zero ↦ λ e. refl
       | suc n ↦ λ e. rw (e, lt-ltb 0 (suc n) (omega arith)) (sym (after-drop n s))
     ]) refl
 
 -- the same at a place
-pub on-at : (s : List ℕ) (at n : ℕ) → n ≡ sequence (drop at s) → wellFormed (drop (at + n) s) ≡ wellFormed (drop at s)
-on-at s at n e = rw (e, ← drop-drop (sequence (drop at s)) at s) (on (drop at s))
+pub past-sequence-at : (s : List ℕ) (at n : ℕ) → n ≡ sequence (drop at s) → wellFormed (drop (at + n) s) ≡ wellFormed (drop at s)
+past-sequence-at s at n e = rw (e, ← drop-drop (sequence (drop at s)) at s) (past-sequence (drop at s))
 
 -- a run of ASCII taken off
 pub ascii-run : (n : ℕ) (s : List ℕ) → begins (replicate n (0x00 ‥ 0x7f)) s ≡ true → wellFormed (drop n s) ≡ wellFormed s
@@ -47,21 +47,21 @@ ascii-run zero s e = refl
 ascii-run (suc n) [] e = absurd (false≢true e)
 ascii-run (suc n) (b ∷ s) e =
     let p = both (b ∈ 0x00 ‥ 0x7f) _ e in
-    ascii-run n s (p .1) ∙ on-at (b ∷ s) 0 1 (sym (ascii b s (p .0)))
+    ascii-run n s (p .1) ∙ past-sequence-at (b ∷ s) 0 1 (sym (ascii b s (p .0)))
 
 -- where no sequence begins
-stuck : (b : ℕ) (s : List ℕ) → sequence (b ∷ s) ≡ 0 → wellFormed (b ∷ s) ≡ false
+no-sequence : (b : ℕ) (s : List ℕ) → sequence (b ∷ s) ≡ 0 → wellFormed (b ∷ s) ≡ false
 unfolding wellFormedAfter
-stuck b s e = rw e
+no-sequence b s e = rw e
 
-pub stuck-at : (s : List ℕ) (at : ℕ) → at < length s → 0 ≡ sequence (drop at s) → wellFormed (drop at s) ≡ false
-stuck-at s at h e =
+pub no-sequence-at : (s : List ℕ) (at : ℕ) → at < length s → 0 ≡ sequence (drop at s) → wellFormed (drop at s) ≡ false
+no-sequence-at s at h e =
     let d = drop-cons s at 0 h in
-    rw d (stuck (byteAt s at) (drop (suc at) s) (sym (rw d at e)))
+    rw d (no-sequence (byteAt s at) (drop (suc at) s) (sym (rw d at e)))
 
 -- at the end
-pub done : (s : List ℕ) (at : ℕ) → length s ≤ at → wellFormed (drop at s) ≡ true
-done s at h = rw (drop-of-length-le s h) empty
+pub end-of-text : (s : List ℕ) (at : ℕ) → length s ≤ at → wellFormed (drop at s) ≡ true
+end-of-text s at h = rw (drop-of-length-le s h) empty-text
 
 -- a text that is not empty begins with a sequence
 begun : (b : ℕ) (s : List ℕ) → wellFormed (b ∷ s) ≡ true → 0 < sequence (b ∷ s)
@@ -82,13 +82,13 @@ append-after zero (b ∷ s) t h e =
           (append-after n s t (omega (arith, sequence-within (b ∷ s))) (rw (q, lt-ltb 0 (suc n) (omega arith)) at e))
     ]) refl
 
-pub append : (s t : List ℕ) → wellFormed s ≡ true → wellFormed (s ++ t) ≡ wellFormed t
-append s t e = append-after 0 s t (omega arith) e
+pub append-text : (s t : List ℕ) → wellFormed s ≡ true → wellFormed (s ++ t) ≡ wellFormed t
+append-text s t e = append-after 0 s t (omega arith) e
 
 -- at the start of a character, its length by the first byte is that of its sequence
-pub boundary : (s : List ℕ) (at : ℕ) → at < length s → wellFormed (drop at s) ≡ true → charLength s at ≡ sequence (drop at s)
+pub char-is-sequence : (s : List ℕ) (at : ℕ) → at < length s → wellFormed (drop at s) ≡ true → charLength s at ≡ sequence (drop at s)
 unfolding charLength
-boundary s at h e =
+char-is-sequence s at h e =
     let b = byteAt s at in
     let t = drop (suc at) s in
     let d : drop at s ≡ b ∷ t = drop-cons s at 0 h in
@@ -97,9 +97,9 @@ boundary s at h e =
     rw d (omega (arith, sequence-lead b t some))
 
 -- a step by that length goes from the start of a character to the start of the next, or to the end
-pub next : (s : List ℕ) (at : ℕ) → wellFormed (drop at s) ≡ true → wellFormed (drop (at + charLength s at) s) ≡ true
-next s at e =
+pub next-boundary : (s : List ℕ) (at : ℕ) → wellFormed (drop at s) ≡ true → wellFormed (drop (at + charLength s at) s) ≡ true
+next-boundary s at e =
     (elim (ltb at (length s)) as (λ t. ltb at (length s) ≡ t → wellFormed (drop (at + charLength s at) s) ≡ true) [
-      | true ↦ λ q. on-at s at (charLength s at) (boundary s at (ltb-true _ _ q) e) ∙ e
-      | false ↦ λ q. done s (at + charLength s at) (omega (arith, ltb-false at (length s) q))
+      | true ↦ λ q. past-sequence-at s at (charLength s at) (char-is-sequence s at (ltb-true _ _ q) e) ∙ e
+      | false ↦ λ q. end-of-text s (at + charLength s at) (omega (arith, ltb-false at (length s) q))
     ]) refl

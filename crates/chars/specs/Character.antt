@@ -33,7 +33,7 @@ pub leads
 unfolding lead
 leads = refl
 
--- the letter à at place 3 has 2 bytes; its first byte alone, at a text's end, is a character of 1, and nothing is past the end
+-- à, at place 2, has 2 bytes; where the text ends after the first, 1; past the end there are none
 pub cut-at-end : (charLength (utf8 "ngày") 2 ≡ 2) × (charLength (take 3 (utf8 "ngày")) 2 ≡ 1) × (charLength (utf8 "ngày") 5 ≡ 0)
 unfolding charLength lead
 cut-at-end = (refl, refl, refl)

@@ -17,12 +17,14 @@ pub fn is_space_c(b: u8) -> bool
     b == b' ' || (9 <= b && b <= 13)
 }
 
+// An ASCII digit.
 pub fn is_digit_c(b: u8) -> bool
     ensures { λ r. ⌜ r ≡ isDigit b ⌝ }
 {
     b'0' <= b && b <= b'9'
 }
 
+// An ASCII letter.
 pub fn is_alpha_c(b: u8) -> bool
     ensures { λ r. ⌜ r ≡ isLetter b ⌝ }
 {
@@ -81,7 +83,7 @@ pub fn pg_mblen(s: &[u8], i: usize) -> usize
     if n <= left { n } else { left }
 }
 
-// Whether the byte at a place lies from `lo` to `hi`. Past the end none does.
+// Whether a byte from `lo` to `hi` stands at a place.
 fn in_range(s: &[u8], at: usize, lo: u8, hi: u8) -> bool
     ensures { λ r. ⌜ r ≡ begins (lo ‥ hi ∷ []) (drop at (now (s .entry))) ⌝ }
 {
@@ -132,7 +134,7 @@ fn four(s: &[u8], at: usize, lo: u8, hi: u8) -> usize
     0
 }
 
-// The length of the sequence at a place, 0 where none begins: the table's rows.
+// The length of the sequence at a place, 0 where none begins. The arms are the rows of Unicode's table.
 fn sequence_at(s: &[u8], at: usize) -> usize
     requires { ⌜ at < length (now s) ⌝ }
     ensures { λ r. ⌜ r ≡ sequence (drop at (now (s .entry))) ⌝ }
@@ -160,7 +162,7 @@ fn eight_ascii(s: &[u8], at: usize) -> bool
     (s[at] | (s[at + 1] | (s[at + 2] | (s[at + 3] | high)))) < 0x80
 }
 
-// How far `s` is ASCII, in steps of eight bytes.
+// Past the blocks of eight ASCII bytes in front.
 fn ascii_blocks(s: &[u8]) -> usize
     ensures { λ r. ⌜ Passed (now (s .entry)) r ⌝ }
 {

@@ -14,6 +14,7 @@ use Rattle.strtol.specs.Runs.{digits, number, numberFrom}
 use Rattle.strtol.specs.Strtol.{limit, digitsRead}
 use Rattle.strtol.proofs.Leading.{leading-on, leading-stop, leading-end, number-on, number-stop, number-end}
 
+-- both limits are near 2 ^ 63
 pub limits : (neg : Bool) (most : ℕ) → most ≡ limit neg → (2 ^ 63 - 1 ≤ most) × (most ≤ 2 ^ 63)
 limits true most e = omega arith
 limits false most e = omega arith
@@ -52,19 +53,29 @@ module _ (most : ℕ) (s : List ℕ) (at : ℕ) where
     ended lim m h = finish lim m (number-end (r .n) s i h) (leading-end isDigit s i h)
 
     module _ (h : i < length s) (e : isDigit (byteAt s i) ≡ true) (large : 9 ≤ most) where
-      on : (value′ : ℕ) (over′ : Bool) → value′ ≡ min (r .n * 10 + (byteAt s i - 48)) most → over′ ≡ ltb most (r .n * 10 + (byteAt s i - 48)) → Reading most s at value′ over′ (i + 1)
+      abbrev next : ℕ
+      next = r .n * 10 + (byteAt s i - 48)
+
+      digit : byteAt s i - 48 ≤ 9
+      digit = omega (arith, digit-bounds (byteAt s i) e)
+
+      on : (value′ : ℕ) (over′ : Bool) → value′ ≡ min next most → over′ ≡ ltb most next → Reading most s at value′ over′ (i + 1)
       on value′ over′ v o =
           record {
-            n = r .n * 10 + (byteAt s i - 48);
+            n = next;
             held = v;
             beyond = o;
             same = sym (number-on (r .n) s i h e) ∙ r .same;
             ends = omega (arith, leading-on isDigit s i h e, r .ends);
           }
 
+      -- a digit that takes the number beyond the limit, or further beyond it
       pub full : (most - (byteAt s i - 48)) / 10 < value → Reading most s at most true (i + 1)
-      full f = on most true (omega (arith, r .held, digit-bounds (byteAt s i) e)) (sym (lt-ltb most (r .n * 10 + (byteAt s i - 48)) (omega (arith, r .held, digit-bounds (byteAt s i) e))))
+      full f = on most true (omega (arith, r .held, digit)) (sym (lt-ltb most next (omega (arith, r .held, digit))))
 
+      -- a digit that leaves it within the limit
       pub more : value ≤ (most - (byteAt s i - 48)) / 10 → Reading most s at (value * 10 + (byteAt s i - 48)) over (i + 1)
-      more f = on (value * 10 + (byteAt s i - 48)) over (omega (arith, r .held, digit-bounds (byteAt s i) e))
-          (r .beyond ∙ le-ltb most (r .n) (omega (arith, r .held, digit-bounds (byteAt s i) e)) ∙ sym (le-ltb most (r .n * 10 + (byteAt s i - 48)) (omega (arith, r .held, digit-bounds (byteAt s i) e))))
+      more f =
+          let before : ltb most (r .n) ≡ false = le-ltb most (r .n) (omega (arith, r .held, digit)) in
+          let after : ltb most next ≡ false = le-ltb most next (omega (arith, r .held, digit)) in
+          on (value * 10 + (byteAt s i - 48)) over (omega (arith, r .held, digit)) (r .beyond ∙ before ∙ sym after)

@@ -34,6 +34,7 @@ unsigned s = drop (signs (trimmed s)) (trimmed s)
 abbrev pub limit : Bool → ℕ
 limit neg = if neg then 2 ^ 63 else 2 ^ 63 - 1
 
+-- a number with its sign
 abbrev pub signed : Bool → ℕ → ℤ
 signed neg n = if neg then negℤ (pos n) else pos n
 
@@ -42,22 +43,17 @@ signed neg n = if neg then negℤ (pos n) else pos n
 abbrev pub digitsRead : ℕ → ℕ → List ℕ → Run
 digitsRead most at t = record { value = min (number t) most; end = at + digits t; over = ltb most (number t) }
 
--- no digit after the spaces and a sign: 0, and the place it began at. Else the number, or the limit where it is beyond that, the place
--- after its digits, and whether it is beyond the limit
+abbrev pub answer : ℤ → ℕ → Bool → Strtol
+answer value end overflow = record { value = value; end = end; overflow = overflow }
+
+-- what is read from a place on: spaces, a sign, digits. With no digits it is 0, and the place stays
 unfoldable pub strtol : List ℕ → ℕ → Strtol
 strtol s start =
     let t = drop start s in
     let neg = minus (trimmed t) in
-    let n = number (unsigned t) in
-    if eqb (digits (unsigned t)) 0 then record { value = pos 0; end = start; overflow = false }
-    else record {
-      value = signed neg (min n (limit neg));
-      end = start + spaces t + signs (trimmed t) + digits (unsigned t);
-      overflow = ltb (limit neg) n;
-    }
-
-abbrev pub answer : ℤ → ℕ → Bool → Strtol
-answer value end overflow = record { value = value; end = end; overflow = overflow }
+    let run = digitsRead (limit neg) (start + spaces t + signs (trimmed t)) (unsigned t) in
+    if eqb (digits (unsigned t)) 0 then answer (pos 0) start false
+    else answer (signed neg (run .value)) (run .end) (run .over)
 
 -- spaces and a sign are skipped, what follows the digits is left
 pub plain : strtol (utf8 "x  -12x") 1 ≡ answer (negsuc 11) 6 false

@@ -34,6 +34,7 @@ pub fn past_spaces(s: &[u8], at: usize) -> usize
     i
 }
 
+// Whether a minus sign stands at a place.
 fn minus_at(s: &[u8], at: usize) -> bool
     ensures { λ r. ⌜ r ≡ minus (drop at (now (s .entry))) ⌝ }
 {
@@ -56,6 +57,7 @@ fn past_sign(s: &[u8], at: usize) -> usize
     at
 }
 
+// How far from 0 a number of 64 bits can be.
 fn limit_of(neg: bool) -> u64
     ensures { λ r. ⌜ r ≡ limit neg ⌝ }
 {
@@ -99,6 +101,7 @@ fn digits_at(s: &[u8], at: usize, neg: bool) -> Run
     }
 }
 
+// A number with its sign. 2 ^ 63 is no positive number of 64 bits, so the negative is made of one less.
 fn signed_of(neg: bool, n: u64) -> i64
     requires { ⌜ n ≤ limit neg ⌝ }
     ensures { λ r. ⌜ r ≡ signed neg n ⌝ }

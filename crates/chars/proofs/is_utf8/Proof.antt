@@ -8,7 +8,7 @@ use lib.Dec.{lit<}
 use lib.ListN.{length, drop, length-drop}
 use Rattle.chars.specs.Utf8.{Passed}
 use Rattle.chars.proofs.Sequences.{at-row, sequence-within}
-use Rattle.chars.proofs.WellFormed.{on-at, stuck-at, done}
+use Rattle.chars.proofs.WellFormed.{past-sequence-at, no-sequence-at, end-of-text}
 use Rattle.chars.proofs.is_utf8.Statement.{statement}
 use Rattle.chars.proofs.is_utf8.Tie as tie
 
@@ -27,14 +27,14 @@ loop-again c =
     let i = l .loop .i in
     record {
       within = omega arith;
-      same = on-at (text l) i 1 (at-row (text l) i (search needs) 0 (lit< tt) (omega arith) (omega arith)) ∙ l .loop .inv .same;
+      same = past-sequence-at (text l) i 1 (at-row (text l) i (search needs) 0 (lit< tt) (omega arith) (omega arith)) ∙ l .loop .inv .same;
     }
 
 returns : tie.Need-returns Inv-loop μ-loop
 returns c =
     let l = c .before .before .before .before .before in
     let none = sym (c .if2 .taken) ∙ c .before .sequence-at .ensures in
-    sym (stuck-at (text l) (l .loop .i) (search needs) none) ∙ l .loop .inv .same
+    sym (no-sequence-at (text l) (l .loop .i) (search needs) none) ∙ l .loop .inv .same
 
 -- a sequence lies within what is left
 room : (c : tie.Else2 Inv-loop μ-loop) → let l = c .before .before .before .before .before in c .before .sequence-at .result ≤ length (text l) - l .loop .i
@@ -47,11 +47,11 @@ loop-again-2 c =
     let l = c .before .before .before .before .before in
     record {
       within = omega (arith, room c);
-      same = on-at (text l) (l .loop .i) _ (c .before .sequence-at .ensures) ∙ l .loop .inv .same;
+      same = past-sequence-at (text l) (l .loop .i) _ (c .before .sequence-at .ensures) ∙ l .loop .inv .same;
     }
 
 returns-2 : tie.Need-returns-2 Inv-loop μ-loop
-returns-2 c = sym (done (text (c .before)) (c .before .loop .i) (search needs)) ∙ c .before .loop .inv .same
+returns-2 c = sym (end-of-text (text (c .before)) (c .before .loop .i) (search needs)) ∙ c .before .loop .inv .same
 
 pub is-utf8-spec : {M : Type 1} → statement M
 is-utf8-spec =
