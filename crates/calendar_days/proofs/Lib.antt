@@ -1,0 +1,3 @@
+-- Laws of bits and products of 64 bits.
+mod Complement
+mod Product

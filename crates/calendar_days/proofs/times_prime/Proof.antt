@@ -1,0 +1,18 @@
+-- `calendar_days::times_prime` meets its contract: the halves of the prime are 256 and 435. Assumes nothing.
+use mathlib.Core.Path.{_∙_}
+use borrow.Author.Needs.{needs}
+use Rattle.calendar_days.proofs.Product.{product}
+use Rattle.calendar_days.proofs.times_prime.Statement.{statement}
+use Rattle.calendar_days.proofs.times_prime.Tie as tie
+
+pub times-prime-spec : {M : Type 1} → statement M
+times-prime-spec =
+    tie.close
+    (tie.spec
+    (λ c. search needs)
+    (λ c. search needs)
+    (λ c. search needs)
+    (λ c. search needs)
+    (λ c. search needs)
+    (λ c κs. search needs)
+    (λ c. c .wrapping-add-u64 .ensures ∙ product (c .before .args .h)))

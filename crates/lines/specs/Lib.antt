@@ -1,0 +1,5 @@
+-- Lines of text in lent buffers.
+pub mod Output
+pub mod Decimal
+pub mod Input
+pub mod Words

@@ -1,0 +1,185 @@
+// Questions about texts, whose bytes stand in hexadecimal digits; `-` stands for none.
+ghost use Prim.Native.Nat.{_^_, _≤_, _<_, max};
+ghost use lib.ListN.{length};
+use crate::questions::Values;
+use crate::questions::put_after;
+use crate::questions::unknown;
+use lines::Number;
+use lines::put_decimal;
+use template::FN_END;
+use template::Node;
+
+// The most bytes of a text, and those of a template.
+const TEXT: usize = 512;
+
+const TEMPLATE: usize = 256;
+
+pub struct Bytes {
+    pub count: usize,
+    pub malformed: bool,
+}
+
+pub struct Place {
+    pub at: usize,
+    pub end: usize,
+    pub malformed: bool,
+}
+
+// The last word of a line, before which a separator stands at `from`: its bytes go into `text`.
+fn read_bytes(line: &[u8], from: usize, text: &mut [u8]) -> Bytes
+    ensures { λ r. ⌜ r .count ≤ length (now (text .exit)) ⌝ }
+{
+    let none = Bytes {
+        count: 0,
+        malformed: true,
+    };
+    if line.len() <= from {
+        return none;
+    }
+    let word = &line[from + 1..];
+    if check::same(word, b"-") {
+        return Bytes {
+            count: 0,
+            malformed: false,
+        };
+    }
+    let count = lines::put_hex(text, 0, word);
+    if word.len() % 2 == 1 {
+        return none;
+    }
+    Bytes {
+        count,
+        malformed: count != word.len() / 2,
+    }
+}
+
+// A number that is read up to `end`, as a place.
+fn place_of(n: i64, end: usize) -> Place
+    ensures { λ r. ⌜ r .at < 2 ^ 63 ⌝ }
+{
+    if n < 0 {
+        return Place {
+            at: 0,
+            end,
+            malformed: true,
+        };
+    }
+    Place {
+        at: n as usize,
+        end,
+        malformed: false,
+    }
+}
+
+// The next word of a line as a place in a text, and where that word ends.
+fn read_place(line: &[u8], from: usize) -> Place
+    ensures { λ r. ⌜ r .at < 2 ^ 63 ⌝ }
+{
+    let none = Place {
+        at: 0,
+        end: from,
+        malformed: true,
+    };
+    if line.len() <= from {
+        return none;
+    }
+    let end = lines::find(line, from + 1, b' ');
+    match lines::read_number(&line[from + 1..end]) {
+        Number::Value(n) => place_of(n, end),
+        Number::Malformed => none,
+    }
+}
+
+pub fn strtol(line: &[u8], from: usize) -> Values {
+    let start = read_place(line, from);
+    if start.malformed {
+        return Values::None;
+    }
+    let mut text = [0u8; TEXT];
+    let bytes = read_bytes(line, start.end, &mut text);
+    if bytes.malformed {
+        return Values::None;
+    }
+    let count = bytes.count;
+    let n = strtol::c_strtol(&text[0..count], start.at);
+    Values::Three(n.value, n.end as i64, n.overflow as i64)
+}
+
+pub fn mblen(line: &[u8], from: usize) -> Values {
+    let place = read_place(line, from);
+    if place.malformed {
+        return Values::None;
+    }
+    let mut text = [0u8; TEXT];
+    let bytes = read_bytes(line, place.end, &mut text);
+    if bytes.malformed {
+        return Values::None;
+    }
+    let count = bytes.count;
+    Values::One(chars::pg_mblen(&text[0..count], place.at) as i64)
+}
+
+pub fn utf8(line: &[u8], from: usize) -> Values {
+    let mut text = [0u8; TEXT];
+    let bytes = read_bytes(line, from, &mut text);
+    if bytes.malformed {
+        return Values::None;
+    }
+    let count = bytes.count;
+    Values::One(chars::is_utf8(&text[0..count]) as i64)
+}
+
+fn put_fields(out: &mut [u8], at: usize, node: Node) -> usize
+    ensures { λ r. ⌜ r ≤ max at (length (now (out .entry))) ⌝ }
+{
+    let start = put_after(out, at, b':', node.start as i64);
+    let len = put_after(out, start, b':', node.len as i64);
+    let pattern = put_after(out, len, b':', node.pattern as i64);
+    put_after(out, pattern, b':', node.suffix as i64)
+}
+
+// A node, and a space before it unless it is the first.
+fn put_node(out: &mut [u8], at: usize, first: bool, node: Node) -> usize
+    ensures { λ r. ⌜ r ≤ max at (length (now (out .entry))) ⌝ }
+{
+    let kind = node.kind as i64;
+    if first {
+        let next = put_decimal(out, at, kind);
+        return put_fields(out, next, node);
+    }
+    let next = put_after(out, at, b' ', kind);
+    put_fields(out, next, node)
+}
+
+fn put_nodes(out: &mut [u8], at: usize, t: &[u8]) -> usize
+    requires { ⌜ length (now t) ≤ 256 ⌝ }
+    ensures { λ r. ⌜ r ≤ max at (length (now (out .entry))) ⌝ }
+{
+    let c = template::parse_format(t);
+    let mut next = at;
+    let mut i: usize = 0;
+    while i < 257 {
+        let node = c.nodes[i];
+        if node.kind == FN_END {
+            return next;
+        }
+        next = put_node(out, next, i == 0, node);
+        i += 1;
+    }
+    next
+}
+
+pub fn parse(line: &[u8], from: usize, out: &mut [u8], at: usize) -> usize
+    ensures { λ r. ⌜ r ≤ max at (length (now (out .entry))) ⌝ }
+{
+    let mut text = [0u8; TEXT];
+    let bytes = read_bytes(line, from, &mut text);
+    if bytes.malformed {
+        return unknown(out, at);
+    }
+    let count = bytes.count;
+    if TEMPLATE < count {
+        return unknown(out, at);
+    }
+    put_nodes(out, at, &text[0..count])
+}
