@@ -3,6 +3,7 @@
 #[cfg(test)]
 mod cases;
 mod hex;
+mod known;
 mod pairs;
 mod questions;
 mod random;
@@ -13,7 +14,7 @@ use std::io::{self, BufRead, Write};
 
 include!(concat!(env!("OUT_DIR"), "/modules.rs"));
 
-const USAGE: &str = "usage: oracle questions SEED | answers | pairs SEED COUNT | parts";
+const USAGE: &str = "usage: oracle questions SEED | answers | lines SEED COUNT | pairs SEED COUNT | parts | fields";
 
 fn main() -> io::Result<()> {
     let arguments: Vec<String> = std::env::args().skip(1).collect();
@@ -31,22 +32,44 @@ fn main() -> io::Result<()> {
                 writeln!(out, "{}", formatting::answers::answer(&question?))?;
             }
         }
+        ["lines", seed, count] => {
+            let known = known::lines().into_iter().map(|(line, _)| line);
+            joined(&mut out, known.chain(random_pairs(number(seed), number(count))))?;
+        }
         ["pairs", seed, count] => {
-            let mut random = random::Random::new(number(seed));
-            for _ in 0..number(count) {
-                out.write_all(&pairs::line(&mut random))?;
+            for line in random_pairs(number(seed), number(count)) {
+                out.write_all(&line)?;
                 writeln!(out)?;
             }
         }
-        ["parts"] => {
-            for line in io::stdin().lock().split(b'\n') {
-                writeln!(out, "{}", formatting::answers::line(&line?))?;
-            }
-        }
+        ["parts"] => each_line(&mut out, formatting::answers::line)?,
+        ["fields"] => each_line(&mut out, formatting::answers::fields)?,
         _ => {
             eprintln!("{USAGE}");
             std::process::exit(2);
         }
     }
     out.flush()
+}
+
+fn random_pairs(seed: u64, count: u64) -> impl Iterator<Item = Vec<u8>> {
+    let mut random = random::Random::new(seed);
+    (0..count).map(move |_| pairs::line(&mut random))
+}
+
+/// An answer for each line of standard input, also for a last one without a newline.
+fn each_line(out: &mut impl Write, answer: impl Fn(&[u8]) -> String) -> io::Result<()> {
+    for line in io::stdin().lock().split(b'\n') {
+        writeln!(out, "{}", answer(&line?))?;
+    }
+    Ok(())
+}
+
+/// Lines with newlines between them, none after the last.
+fn joined(out: &mut impl Write, lines: impl Iterator<Item = Vec<u8>>) -> io::Result<()> {
+    for (number, line) in lines.enumerate() {
+        out.write_all(if number == 0 { b"" } else { b"\n" })?;
+        out.write_all(&line)?;
+    }
+    Ok(())
 }

@@ -33,7 +33,8 @@ const USUAL: [&str; 24] = [
     "\"ngày\" DD \"tháng\" MM \"năm\" YYYY",
 ];
 
-const EXTREME: [&str; 10] = [
+/// Around the ends of the ranges, and numbers of which a 32-bit product wraps back to a small one.
+const EXTREME: [&str; 14] = [
     "2147483647",
     "2147483648",
     "-2147483648",
@@ -44,6 +45,10 @@ const EXTREME: [&str; 10] = [
     "9223372036854775807",
     "9223372036854775808",
     "000000000000000000000007",
+    "4294968",
+    "42949674",
+    "613566758",
+    "4294967298",
 ];
 
 pub fn line(random: &mut Random) -> Vec<u8> {

@@ -5,8 +5,10 @@ use crate::hex;
 use std::fmt::Debug;
 use std::str::FromStr;
 
+mod fields;
 mod reading;
 
+pub use fields::fields;
 pub use reading::line;
 
 pub fn answer(question: &str) -> String {

@@ -11,9 +11,14 @@ pub fn line(line: &[u8]) -> String {
     if line.len() > TEMPLATE_LIMIT + 1 + INPUT_LIMIT {
         return Refusal::plain(1).to_string();
     }
-    let tab = line.iter().position(|&byte| byte == b'\t');
-    let (template, input) = tab.map_or((line, &[][..]), |at| (&line[..at], &line[at + 1..]));
+    let (template, input) = cut(line);
     parts(template, input)
+}
+
+/// The template and the input of a line: cut at the first TAB; without one the input is empty.
+pub fn cut(line: &[u8]) -> (&[u8], &[u8]) {
+    let tab = line.iter().position(|&byte| byte == b'\t');
+    tab.map_or((line, &[]), |at| (&line[..at], &line[at + 1..]))
 }
 
 /// 0, then year, month, day, hour, minute, second, microseconds, precision, offset or `none`; or a refusal.

@@ -18,10 +18,13 @@ product h = sym (ap (λ (n : ℕ). n % 2 ^ 64) whole ∙ mul-add-mod-self-right 
   where
     q : ℕ
     q = h / 2 ^ 32
+
     l : ℕ
     l = h % 2 ^ 32
+
     y : ℕ
     y = q * 435 + l * 256
+
     whole : h * 1099511628211 ≡ (256 * q + y / 2 ^ 32) * 2 ^ 64 + (l * 435 + y % 2 ^ 32 * 2 ^ 32)
     whole =
         ap (λ (n : ℕ). n * 1099511628211) (sym (div-add-mod' h (2 ^ 32)))
