@@ -1,3 +1,4 @@
 -- Laws of the compiler.
 pub mod Steps
 pub mod Turns
+pub mod Nodes

@@ -1,13 +1,13 @@
--- The two sides of the tests in `bits` and `signed`. Assumes nothing.
+-- The two sides of the tests in `low_bits` and `signed`. Assumes nothing.
 use mathlib.Core.Path.{_≡_, refl, _∙_, ap, sym, subst}
 use mathlib.Core.Bool.{true, false}
-use Prim.Native.Nat.{ℕ, zero, suc, _-_, _≤_, _<_}
+use Prim.Native.Nat.{ℕ, zero, suc, _-_, _%_, _^_, _≤_, _<_}
 use native.Mathlib.Omega.{arith}
 use borrow.Author.Tests.{leb-false, le-ltb}
 use lib.Dec.{T}
 use lib.IntN.{ℤ, pos, negsuc, natAbs, _-ℤ_}
 use lib.Signed.{leZ, nonNeg}
-use mir.Syntax.{w32}
+use mir.Syntax.{w32, w64}
 use mir.Facts.{toZ-pos, toZ-ofZ}
 use mir.Val.{Fits, SFits, toZ, ofZ}
 use Rattle.wrapping.specs.Wrap.{low32, wrap32}
@@ -20,19 +20,19 @@ invert-pos : (n : ℕ) → negsuc 0 -ℤ pos n ≡ negsuc n
 invert-pos zero = refl
 invert-pos (suc n) = ap negsuc (omega arith)
 
--- a y that is no longer negative can be cast, and gives the bits k of x
+-- a y that is no longer negative can be cast, and k is the lowest bits of x
 pub record Cast (x y : ℤ) (k : ℕ) : Type 0 where
-  pub fits : SFits w32 y
-  pub cast : T (nonNeg y) × Fits w32 (natAbs y)
+  pub fits : SFits w64 y
+  pub cast : T (nonNeg y) × Fits w64 (natAbs y)
   pub is : k ≡ low32 x
 
-pub not-negative : (x : ℤ) → SFits w32 x → leZ (pos 0) x ≡ true → Cast x x (natAbs x)
-not-negative (pos n) f e = record { fits = f; cast = (tt, omega arith); is = omega arith }
+pub not-negative : (x : ℤ) → SFits w64 x → leZ (pos 0) x ≡ true → Cast x x (natAbs x % 2 ^ 32)
+not-negative (pos n) f e = record { fits = f; cast = (tt, omega arith); is = refl }
 not-negative (negsuc n) f e = absurd (subst T (sym e) tt)
 
-pub negative : (x : ℤ) → SFits w32 x → leZ (pos 0) x ≡ false → Cast x (negsuc 0 -ℤ x) (4294967295 - natAbs (negsuc 0 -ℤ x))
+pub negative : (x : ℤ) → SFits w64 x → leZ (pos 0) x ≡ false → Cast x (negsuc 0 -ℤ x) (4294967295 - natAbs (negsuc 0 -ℤ x) % 2 ^ 32)
 negative (pos n) f e = absurd (let h : n < 0 = leb-false 0 n e in omega arith)
-negative (negsuc n) f e = rw (invert-neg n) (record { fits = omega arith; cast = (tt, omega arith); is = omega arith })
+negative (negsuc n) f e = rw (invert-neg n) (record { fits = omega arith; cast = (tt, omega arith); is = refl })
 
 -- bits of which the highest is set
 pub upper : (u : ℕ) → Fits w32 u → 2147483648 ≤ u → negsuc 0 -ℤ toZ w32 (4294967295 - u) ≡ toZ w32 u

@@ -43,6 +43,11 @@ pub past-min : negsuc 2147483647 ⊖ pos 1 ≡ pos 2147483647
 unfolding wrap32
 past-min = refl
 
+-- a longer number loses what stands above its lowest 32 bits
+pub cut : (wrap32 (pos 4294967298) ≡ pos 2) × (wrap32 (negsuc 4294967297) ≡ negsuc 1)
+unfolding wrap32
+cut = (refl, refl)
+
 -- 65536 * 65537 is 65536 above 2 ^ 32
 pub product : pos 65536 ⊗ pos 65537 ≡ pos 65536
 unfolding wrap32

@@ -2,17 +2,24 @@
 ghost use mathlib.Core.Path.{_≡_};
 ghost use mir.Syntax.{w32};
 ghost use mir.Val.{toZ};
-ghost use Rattle.wrapping.specs.Wrap.{low32, _⊕_, _⊖_, _⊗_};
+ghost use Rattle.wrapping.specs.Wrap.{low32, wrap32, _⊕_, _⊖_, _⊗_};
+
+// The lowest 32 bits of x in two's complement.
+fn low_bits(x: i64) -> u32
+    ensures { λ r. ⌜ r ≡ low32 x ⌝ }
+{
+    if x >= 0 {
+        (x as u64 % 4294967296) as u32
+    } else {
+        u32::MAX - ((-1 - x) as u64 % 4294967296) as u32
+    }
+}
 
 // The two's complement bits of x.
 pub fn bits(x: i32) -> u32
     ensures { λ r. ⌜ r ≡ low32 x ⌝ }
 {
-    if x >= 0 {
-        x as u32
-    } else {
-        u32::MAX - (-1 - x) as u32
-    }
+    low_bits(x as i64)
 }
 
 // The i32 with the bits u.
@@ -24,6 +31,13 @@ fn signed(u: u32) -> i32
     } else {
         -1 - (u32::MAX - u) as i32
     }
+}
+
+// A number of 64 bits cut to 32, as Rust's `x as i32`.
+pub fn wrapping_cut(x: i64) -> i32
+    ensures { λ r. ⌜ r ≡ wrap32 x ⌝ }
+{
+    signed(low_bits(x))
 }
 
 pub fn wrapping_add(a: i32, b: i32) -> i32

@@ -6,7 +6,7 @@ use borrow.Author.Needs.{needs}
 use borrow.Author.Tests.{eq-eqb, ne-eqb, lt-ltb, le-ltb}
 use denote.Ref.{now}
 use Rattle.template.specs.Template.{charPlace}
-use Rattle.template.proofs.Steps.{within}
+use Rattle.notation.proofs.Bytes.{byte-within}
 use Rattle.template.proofs.char_place.Statement.{statement}
 use Rattle.template.proofs.char_place.Tie as tie
 
@@ -47,7 +47,7 @@ returns-4 c =
       is = simp (d .if1 .left, c .before .before .if2 .left, eq-eqb _ _ e);
       from = omega arith;
       near = omega arith;
-      within = within (now (a .t)) _ (λ z. omega (arith, e, z));
+      within = byte-within (now (a .t)) _ (λ z. omega (arith, e, z));
     }
 
 returns-5 : tie.Need-returns-5

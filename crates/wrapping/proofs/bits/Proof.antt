@@ -1,25 +1,17 @@
--- `wrapping::bits` meets its contract. Assumes nothing.
-use native.Mathlib.Omega.{arith}
-use lib.IntN.{negsuc, natAbs, _-ℤ_}
-use mir.Facts.{toZ-ofZ}
-use Prim.Native.Nat.{_-_}
-use Rattle.wrapping.proofs.Signs.{Cast, not-negative, negative}
+-- `wrapping::bits` meets its contract: a wider number has the same lowest bits. Assumes nothing.
+use borrow.Author.Needs.{needs}
+use mir.Facts.{toZ-ofZ, sfits-widen}
+use mir.Syntax.{w32, w64}
 use Rattle.wrapping.proofs.bits.Statement.{statement}
 use Rattle.wrapping.proofs.bits.Tie as tie
 
-taken : (c : tie.Then1) → let x = c .before .args .x in Cast x x (natAbs x)
-taken c = let f = c .before .fits .x in not-negative _ f (simp (toZ-ofZ f) at (c .if1 .taken))
+cast-low-bits : tie.Need-cast-low-bits
+cast-low-bits c = simp (toZ-ofZ (c .fits .x)) (sfits-widen tt (c .fits .x))
 
-left : (c : tie.Else1) → let x = c .before .args .x in Cast x (negsuc 0 -ℤ x) (4294967295 - natAbs (negsuc 0 -ℤ x))
-left c = let f = c .before .fits .x in negative _ f (simp (toZ-ofZ f) at (c .if1 .left))
+returns : tie.Need-returns
+returns c =
+    let f = c .before .fits .x in
+    simp (toZ-ofZ f, toZ-ofZ (sfits-widen {w = w32} {w′ = w64} tt f)) at (c .low-bits .ensures)
 
 pub bits-spec : {M : Type 1} → statement M
-bits-spec =
-    tie.close
-    (tie.spec
-    (λ c. simp (toZ-ofZ (c .before .fits .x)) (taken c .cast))
-    (λ c. simp (toZ-ofZ (c .before .fits .x)) (left c .fits))
-    (λ c. simp (toZ-ofZ (c .before .fits .x), toZ-ofZ (left c .fits)) (left c .cast))
-    (λ c. simp (toZ-ofZ (c .before .fits .x), toZ-ofZ (left c .fits)) (omega (arith, left c .cast .1)))
-    (λ c. simp (toZ-ofZ (c .before .fits .x)) (taken c .is))
-    (λ c. simp (toZ-ofZ (c .before .fits .x), toZ-ofZ (left c .fits)) (left c .is)))
+bits-spec = tie.close (tie.spec cast-low-bits (λ c κs. search needs) returns)

@@ -1,0 +1,2 @@
+-- What a refusal reports.
+pub mod Report

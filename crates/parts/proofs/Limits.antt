@@ -1,0 +1,38 @@
+-- The parts answer by its first tests: limits, and UTF-8. Assumes nothing.
+use mathlib.Core.Path.{_≡_}
+use mathlib.Core.Bool.{true, false}
+use mathlib.Core.List.{List}
+use Prim.Native.Nat.{ℕ, _<_, _≤_}
+use borrow.Author.Tests.{lt-ltb, le-ltb}
+use lib.ListN.{length}
+use Rattle.answers.specs.declared.Refusal.the-variants.{TooLong, NotUtf8}
+use Rattle.chars.specs.Utf8.{wellFormed}
+use Rattle.reader.specs.Reader.{readAll}
+use Rattle.reader.specs.declared.Reading.{Reading}
+use Rattle.template.specs.Template.{nodesOf}
+use Rattle.parts.specs.Parts.{partsOf, thenFields}
+use Rattle.parts.specs.declared.Answer.the-variants.{Refused}
+
+module _ (t s : List ℕ) where
+  pub long-template : 256 < length t → partsOf t s ≡ Refused TooLong
+  unfolding partsOf
+  long-template h = rw (lt-ltb 256 (length t) h)
+
+  module _ (short : length t ≤ 256) where
+    pub long-input : 512 < length s → partsOf t s ≡ Refused TooLong
+    unfolding partsOf
+    long-input h = rw (le-ltb 256 (length t) short, lt-ltb 512 (length s) h)
+
+    module _ (small : length s ≤ 512) where
+      pub bad-template : wellFormed t ≡ false → partsOf t s ≡ Refused NotUtf8
+      unfolding partsOf
+      bad-template e = rw (le-ltb 256 (length t) short, le-ltb 512 (length s) small, e)
+
+      pub bad-input : wellFormed t ≡ true → wellFormed s ≡ false → partsOf t s ≡ Refused NotUtf8
+      unfolding partsOf
+      bad-input e f = rw (le-ltb 256 (length t) short, le-ltb 512 (length s) small, e, f)
+
+      pub good : wellFormed t ≡ true → wellFormed s ≡ true → (r : Reading) → r ≡ readAll t s (nodesOf t)
+          → partsOf t s ≡ thenFields (r .verdict) (r .fields)
+      unfolding partsOf
+      good e f r q = rw (le-ltb 256 (length t) short, le-ltb 512 (length s) small, e, f, q)

@@ -1,0 +1,87 @@
+-- The parts answer: limits and UTF-8 first, then the fields that are read, then the moment that they make.
+use mathlib.Core.Bool.{Bool, true, false, not, _&&_, _||_}
+use mathlib.Core.List.{List, []}
+use Prim.Native.Nat.{ℕ}
+use lib.Dec.{ltb}
+use lib.IntN.{ℤ, pos}
+use lib.ListN.{length}
+use Rattle.notation.specs.Choice.{if_then_else_}
+use Rattle.answers.specs.declared.Refusal.{Refusal}
+use Rattle.answers.specs.declared.Refusal.the-variants.{TooLong, NotUtf8, FieldOverflow}
+use Rattle.chars.specs.Utf8.{wellFormed}
+use Rattle.reader.specs.Fields.{get, ff}
+use Rattle.reader.specs.Reader.{readAll}
+use Rattle.reader.specs.declared.Fields.{Fields}
+use Rattle.reader.specs.declared.Reading.{Reading}
+use Rattle.reader.specs.declared.Verdict.{Verdict}
+use Rattle.reader.specs.declared.Verdict.the-variants.{Read as Done, Refused as Stopped}
+use Rattle.template.specs.Template.{nodesOf}
+use Rattle.parts.specs.Days.{datedOf, dateInRange}
+use Rattle.parts.specs.Time.{clockHour, minuteOf, secondOf, microsOf, timeInRange, checkedOffset}
+use Rattle.parts.specs.declared.Answer.{Answer}
+use Rattle.parts.specs.declared.Answer.the-variants.{Moment, Refused}
+use Rattle.parts.specs.declared.Dated.{Dated}
+use Rattle.parts.specs.declared.Dated.the-variants.{Date, Refused as NoDate}
+use Rattle.parts.specs.declared.Days.{Days}
+use Rattle.parts.specs.declared.Parts.{Parts}
+use Rattle.parts.specs.declared.Value.{Value}
+use Rattle.parts.specs.declared.Value.the-variants.{Is, Not}
+use Rattle.parts.specs.declared.Zoned.{Zoned}
+use Rattle.parts.specs.declared.Zoned.the-variants.{At, Refused as NoZone}
+
+-- the limits, in bytes
+abbrev pub templateLimit : ℕ
+templateLimit = 256
+
+abbrev pub inputLimit : ℕ
+inputLimit = 512
+
+-- the moment with its offset
+abbrev pub withOffset : Fields → Days → ℤ → ℤ → Zoned → Answer
+withOffset f r hour us (NoZone why) = Refused why
+withOffset f r hour us (At offset) =
+    Moment (record {
+      year = r .year;
+      month = r .month;
+      day = r .day;
+      hour = hour;
+      minute = minuteOf f;
+      second = secondOf f;
+      micros = us;
+      precision = get f ff;
+      offset = offset;
+    })
+
+-- the moment, of a date and of hour and microseconds; its checks in order: date, time, offset
+unfoldable pub checkedMoment : Fields → Days → ℤ → ℤ → Answer
+checkedMoment f r hour us =
+    if not (dateInRange r) || not (timeInRange hour (minuteOf f) (secondOf f) us) then Refused FieldOverflow
+    else withOffset f r hour us (checkedOffset f)
+
+abbrev pub thenMoment : Fields → Days → ℤ → Value → Answer
+thenMoment f r hour (Not why) = Refused why
+thenMoment f r hour (Is us) = checkedMoment f r hour us
+
+abbrev pub thenMicros : Fields → ℤ → Dated → Answer
+thenMicros f hour (NoDate why) = Refused why
+thenMicros f hour (Date r) = thenMoment f r hour (microsOf f)
+
+abbrev pub thenDate : Fields → Value → Answer
+thenDate f (Not why) = Refused why
+thenDate f (Is hour) = thenMicros f hour (datedOf f)
+
+-- the moment that the fields make: the hour, the date and the fraction, each refused in this order
+unfoldable pub momentOf : Fields → Answer
+momentOf f = thenDate f (clockHour f)
+
+abbrev pub thenFields : Verdict → Fields → Answer
+thenFields Done f = momentOf f
+thenFields (Stopped why) f = Refused why
+
+-- the parts of an input by a template
+unfoldable pub partsOf : List ℕ → List ℕ → Answer
+partsOf t s =
+    let r = readAll t s (nodesOf t) in
+    if ltb templateLimit (length t) || ltb inputLimit (length s) then Refused TooLong
+    else if not (wellFormed t && wellFormed s) then Refused NotUtf8
+    else thenFields (r .verdict) (r .fields)

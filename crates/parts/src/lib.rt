@@ -1,0 +1,165 @@
+// The parts of a moment from the fields that a template read: do_to_timestamp of PostgreSQL's formatting.c.
+mod checked;
+mod date;
+mod places;
+mod time;
+mod year;
+
+ghost use mathlib.Core.Path.{_≡_};
+ghost use Rattle.parts.specs.Parts.{checkedMoment, momentOf, partsOf, thenFields};
+use answers::Refusal;
+pub use date::begun;
+pub use date::date_in_range;
+pub use date::dated_of;
+pub use date::from_day_of_year;
+pub use date::with_day;
+pub use date::with_day_of_year;
+pub use date::with_julian;
+pub use date::with_month;
+pub use date::with_month_week;
+pub use date::with_week;
+use reader::Fields;
+use reader::Reading;
+use reader::Verdict;
+pub use time::clock_hour;
+pub use time::hour_of;
+pub use time::hour_of_twelve;
+pub use time::micros_of;
+pub use time::minute_of;
+pub use time::offset_of;
+pub use time::second_of;
+pub use time::time_in_range;
+pub use year::first_of_century;
+pub use year::year_in_century;
+pub use year::year_of;
+
+pub enum Offset {
+    Absent,
+    // Seconds east of UTC.
+    East(i32),
+}
+
+// An offset, or why there is none.
+pub enum Zoned {
+    At(Offset),
+    Refused(Refusal),
+}
+
+pub struct Parts {
+    pub year: i32,
+    pub month: i32,
+    pub day: i32,
+    pub hour: i32,
+    pub minute: i32,
+    pub second: i32,
+    pub micros: i32,
+    pub precision: i32,
+    pub offset: Offset,
+}
+
+pub enum Answer {
+    Moment(Parts),
+    Refused(Refusal),
+}
+
+// A number, or why there is none.
+pub enum Value {
+    Is(i32),
+    Not(Refusal),
+}
+
+// The date so far: year, month and day, which of them are set (bits 1, 2 and 4), and the day of the month and of the year that are still to be used.
+pub struct Days {
+    pub year: i32,
+    pub month: i32,
+    pub day: i32,
+    pub set: u8,
+    pub dd: i32,
+    pub ddd: i32,
+}
+
+pub enum Dated {
+    Date(Days),
+    Refused(Refusal),
+}
+
+// The moment, of a date and of hour and microseconds. The checks in order: date, time, offset.
+pub fn checked_moment(f: Fields, r: Days, hour: i32, micros: i32) -> Answer
+    ensures { λ a. ⌜ a ≡ checkedMoment f r hour micros ⌝ }
+{
+    let precision = f.values[places::FF];
+    let minute = minute_of(f);
+    let second = second_of(f);
+    if !date_in_range(r) {
+        return Answer::Refused(Refusal::FieldOverflow);
+    }
+    if !time_in_range(hour, minute, second, micros) {
+        return Answer::Refused(Refusal::FieldOverflow);
+    }
+    match offset_of(f) {
+        Zoned::At(offset) => Answer::Moment(Parts {
+            year: r.year,
+            month: r.month,
+            day: r.day,
+            hour,
+            minute,
+            second,
+            micros,
+            precision,
+            offset,
+        }),
+        Zoned::Refused(why) => Answer::Refused(why),
+    }
+}
+
+// The moment that the fields make: the hour, the date and the fraction, each refused in this order.
+pub fn moment_of(f: Fields) -> Answer
+    ensures { λ a. ⌜ a ≡ momentOf f ⌝ }
+{
+    match clock_hour(f) {
+        Value::Is(hour) => match dated_of(f) {
+            Dated::Date(r) => match micros_of(f) {
+                Value::Is(micros) => checked_moment(f, r, hour, micros),
+                Value::Not(why) => Answer::Refused(why),
+            },
+            Dated::Refused(why) => Answer::Refused(why),
+        },
+        Value::Not(why) => Answer::Refused(why),
+    }
+}
+
+// The limits, in bytes.
+pub const TEMPLATE_LIMIT: usize = 256;
+
+pub const INPUT_LIMIT: usize = 512;
+
+// What the fields that were read make.
+fn answered(r: Reading) -> Answer
+    ensures { λ a. ⌜ a ≡ thenFields (r .verdict) (r .fields) ⌝ }
+{
+    let verdict = r.verdict;
+    let fields = r.fields;
+    match verdict {
+        Verdict::Read => moment_of(fields),
+        Verdict::Refused(why) => Answer::Refused(why),
+    }
+}
+
+// The parts of an input by a template.
+pub fn to_timestamp_parts(t: &[u8], s: &[u8]) -> Answer
+    ensures { λ a. ⌜ a ≡ partsOf (now (t .entry)) (now (s .entry)) ⌝ }
+{
+    if TEMPLATE_LIMIT < t.len() {
+        return Answer::Refused(Refusal::TooLong);
+    }
+    if INPUT_LIMIT < s.len() {
+        return Answer::Refused(Refusal::TooLong);
+    }
+    if !chars::is_utf8(t) {
+        return Answer::Refused(Refusal::NotUtf8);
+    }
+    if !chars::is_utf8(s) {
+        return Answer::Refused(Refusal::NotUtf8);
+    }
+    answered(reader::dch_from_char(template::parse_format(t), t, s))
+}

@@ -1,0 +1,70 @@
+-- Spaces and literals, by cases. Assumes nothing.
+use mathlib.Core.Path.{_≡_, refl}
+use mathlib.Core.Bool.{Bool, true, false, _&&_, _||_}
+use mathlib.Core.List.{List}
+use Prim.Native.Nat.{ℕ, suc, _+_, _≤_, pred}
+use native.Mathlib.Omega.{arith}
+use borrow.Author.Tests.{lt-ltb, ltb-false, ne-eqb}
+use lib.Dec.{ltb}
+use lib.ListN.{length, drop, length-drop, List·getD-eq-default}
+use Rattle.notation.proofs.Cases.{by-if}
+use Rattle.notation.specs.Choice.{if_then_else_}
+use Rattle.notation.specs.Text.{byteAt}
+use Rattle.chars.specs.Class.{classOf, isSpace, isSeparator}
+use Rattle.strtol.specs.Runs.{spaces}
+use Rattle.strtol.proofs.Leading.{leading-place, leading-within}
+use Rattle.template.specs.declared.Node.{Node}
+use Rattle.reader.specs.Reader.{blankPassed, charPassed, enteredBy, literalPassed, place, skipped}
+use Rattle.reader.specs.declared.Place.{Place}
+
+abbrev blank : ℕ → Bool
+blank b = isSpace b || isSeparator b
+
+-- past the end there is no space or separator
+within : (s : List ℕ) (at : ℕ) → (ltb at (length s) && blank (byteAt s at)) ≡ blank (byteAt s at)
+unfolding classOf
+within s at = split (ltb at (length s)) refl
+  where
+    split : (t : Bool) → ltb at (length s) ≡ t → (ltb at (length s) && blank (byteAt s at)) ≡ blank (byteAt s at)
+    split true e = rw e
+    split false e = rw (e, List·getD-eq-default s 0 (ltb-false at (length s) e))
+
+module _ (s : List ℕ) (p : Place) where
+  pub blank-taken : blank (byteAt s (p .at)) ≡ true → place (p .at + 1) (p .extra) false ≡ blankPassed s p
+  blank-taken e = rw (within s (p .at), e)
+
+  pub blank-paid : blank (byteAt s (p .at)) ≡ false → place (p .at) (pred (p .extra)) false ≡ blankPassed s p
+  blank-paid e = rw (within s (p .at), e)
+
+  -- no more spaces are skipped than the input has bytes
+  pub spaces-few : spaces (drop (p .at) s) ≤ length s
+  spaces-few = omega (arith, leading-within isSpace (drop (p .at) s), length-drop (p .at) s)
+
+-- a place within the input stays there
+pub entered-within : (s : List ℕ) (p : Place) (skip : Bool) → p .at ≤ length s → enteredBy s skip p .at ≤ length s
+entered-within s p skip h =
+    by-if (λ (q : Place). q .at ≤ length s) (p .fx) p (if skip then skipped s p else p) (λ e. h)
+    (λ e. by-if (λ (q : Place). q .at ≤ length s) skip (skipped s p) p (λ e. omega (arith, leading-place isSpace s (p .at))) (λ e. h))
+
+-- the cases of a literal
+module _ (s : List ℕ) (n : Node) (p : Place) where
+  pub with-exact : p .fx ≡ true → charPassed s p ≡ literalPassed s n p
+  unfolding literalPassed
+  with-exact e = rw e
+
+  pub as-separator : p .fx ≡ false → n .kind ≡ 3 → blankPassed s p ≡ literalPassed s n p
+  unfolding literalPassed
+  as-separator e k = rw (e, k)
+
+  pub as-space : p .fx ≡ false → n .kind ≡ 4 → blankPassed s p ≡ literalPassed s n p
+  unfolding literalPassed
+  as-space e k = rw (e, k)
+
+  module _ (e : p .fx ≡ false) (no3 : n .kind ≡ 3 → ⊥) (no4 : n .kind ≡ 4 → ⊥) where
+    pub as-char : p .extra ≡ 0 → charPassed s p ≡ literalPassed s n p
+    unfolding literalPassed
+    as-char z = rw (e, ne-eqb _ _ no3, ne-eqb _ _ no4, z)
+
+    pub paid : (k : ℕ) → p .extra ≡ suc k → place (p .at) k false ≡ literalPassed s n p
+    unfolding literalPassed
+    paid k z = rw (e, ne-eqb _ _ no3, ne-eqb _ _ no4, z, lt-ltb 0 (suc k) (omega arith))

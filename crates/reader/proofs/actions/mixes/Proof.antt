@@ -1,0 +1,26 @@
+-- `reader::actions::mixes` meets its contract. Assumes nothing.
+use native.Mathlib.Omega.{arith}
+use borrow.Author.Needs.{needs}
+use borrow.Author.Tests.{ne-eqb}
+use mir.Facts.{toZ-ofZ, toZ-pos}
+use mir.Syntax.{w32}
+use Rattle.reader.proofs.actions.mixes.Statement.{statement}
+use Rattle.reader.proofs.actions.mixes.Tie as tie
+
+returns : tie.Need-returns
+returns c = rw (c .if1 .taken)
+
+returns-2 : tie.Need-returns-2
+returns-2 c =
+    let a = c .before .before in
+    rw (ne-eqb _ _ (c .before .if1 .left))
+    (simp (toZ-ofZ (a .fits .old), toZ-pos w32 {n = a .args .new} (omega arith)) at (c .from-char-set-int .ensures))
+
+pub mixes-spec : {M : Type 1} → statement M
+mixes-spec =
+    tie.close
+    (tie.spec
+    returns
+    (λ c. search needs)
+    (λ c κs. search needs)
+    returns-2)

@@ -1,0 +1,134 @@
+-- Reading an input by the nodes of a template (DCH_from_char of formatting.c).
+use mathlib.Core.Path.{_≡_}
+use mathlib.Core.Bool.{Bool, true, false, not, _&&_, _||_}
+use mathlib.Core.List.{List, [], _∷_}
+use Prim.Native.Nat.{ℕ, _+_, _≤_, pred}
+use lib.Dec.{eqb, ltb}
+use lib.IntN.{ℤ, pos}
+use lib.ListN.{length, drop}
+use Rattle.notation.specs.Choice.{if_then_else_}
+use Rattle.notation.specs.Text.{byteAt}
+use Rattle.answers.specs.declared.Refusal.the-variants.{MixedDates}
+use Rattle.chars.specs.Character.{charLength}
+use Rattle.chars.specs.Class.{isSpace, isSeparator}
+use Rattle.fields.specs.Suffix.{isFree}
+use Rattle.patterns.specs.Patterns.{patternOf}
+use Rattle.strtol.specs.Runs.{spaces}
+use Rattle.template.specs.Template.{end, action, character, separator, space, endNode}
+use Rattle.template.specs.declared.Node.{Node}
+use Rattle.reader.specs.Fields.{mode, noFields, get, put, read, refuse, onward, conflicts}
+use Rattle.reader.specs.Numbers.{readNumber, readCommaYear, readDropped}
+use Rattle.reader.specs.Tasks.{exact, number, word, dropped, commaYear, offset, offsetMinutes, taskOf}
+use Rattle.reader.specs.Words.{readWord}
+use Rattle.reader.specs.Zones.{readOffset, readOffsetMinutes}
+use Rattle.reader.specs.declared.Fields.{Fields}
+use Rattle.reader.specs.declared.Place.{Place}
+use Rattle.reader.specs.declared.Reading.{Reading}
+use Rattle.reader.specs.declared.Task.{Task}
+use Rattle.reader.specs.declared.Verdict.{Verdict}
+use Rattle.reader.specs.declared.Verdict.the-variants.{Read, Refused}
+
+abbrev pub place : ℕ → ℕ → Bool → Place
+place at extra fx = record { at = at; extra = extra; fx = fx }
+
+-- a pattern has a date mode, and another was set before
+abbrev pub mixes : ℕ → ℤ → Bool
+mixes new old = not (eqb new 0) && conflicts old (pos new)
+
+abbrev pub withMode : ℕ → Fields → Fields
+withMode new f = if eqb new 0 then f else put f mode (pos new)
+
+-- what a pattern reads, by the kind of its task
+abbrev pub byKind : ℕ → List ℕ → Node → Bool → Task → Fields → Place → Reading
+byKind kind s n free task f p =
+    if eqb kind number then readNumber s n free task f p
+    else if eqb kind word then readWord s n task f p
+    else if eqb kind exact then read f (place (p .at) (p .extra) true)
+    else if eqb kind dropped then readDropped s n free task f p
+    else if eqb kind commaYear then readCommaYear s n task f p
+    else if eqb kind offset then readOffset s n free task f p
+    else if eqb kind offsetMinutes then readOffsetMinutes s n free f p
+    else read f p
+
+unfoldable pub performed : List ℕ → Node → Bool → Task → Fields → Place → Reading
+performed s n free task f p = byKind (task .kind) s n free task f p
+
+-- past the spaces, which pay for literals to come
+abbrev pub skipped : List ℕ → Place → Place
+skipped s p = let k = spaces (drop (p .at) s) in place (p .at + k) (p .extra + k) false
+
+-- without FX the spaces behind a field are skipped, and pay for literals to come
+abbrev pub behind : List ℕ → Place → Place
+behind s p = if p .fx then p else skipped s (place (p .at) 0 false)
+
+unfoldable pub pastSpaces : List ℕ → Reading → Reading
+pastSpaces s r = record { verdict = r .verdict; fields = r .fields; place = behind s (r .place) }
+
+-- a refusal leaves the fields and the place as they were before the pattern
+abbrev pub whenRead : Verdict → Reading → Fields → Place → Reading
+whenRead Read r f p = r
+whenRead (Refused why) r f p = refuse why f p
+
+-- a pattern: its date mode is tested first
+unfoldable pub actionRead : List ℕ → List ℕ → Node → Node → Fields → Place → Reading
+actionRead t s n next f p =
+    let new = patternOf (n .pattern) .mode in
+    let r = performed s n (isFree t n next) (taskOf (n .pattern)) (withMode new f) p in
+    if mixes new (get f mode) then refuse (MixedDates (n .pattern)) f p
+    else whenRead (r .verdict) (pastSpaces s r) f p
+
+-- without FX no more spaces were skipped than the input has bytes
+abbrev pub Payable : List ℕ → Place → Type 0
+Payable s p = p .fx ≡ false → p .extra ≤ length s
+
+-- one character
+abbrev pub charPassed : List ℕ → Place → Place
+charPassed s p = place (p .at + charLength s (p .at)) (p .extra) (p .fx)
+
+-- a space or separator takes one of the input, or a skipped space
+abbrev pub blankPassed : List ℕ → Place → Place
+blankPassed s p =
+    let b = byteAt s (p .at) in
+    if ltb (p .at) (length s) && (isSpace b || isSeparator b) then place (p .at + 1) (p .extra) false
+    else place (p .at) (pred (p .extra)) false
+
+-- a literal that is no space or separator takes a skipped space, or one character. With FX each literal takes one character
+unfoldable pub literalPassed : List ℕ → Node → Place → Place
+literalPassed s n p =
+    if p .fx then charPassed s p
+    else if eqb (n .kind) separator || eqb (n .kind) space then blankPassed s p
+    else if ltb 0 (p .extra) then place (p .at) (pred (p .extra)) false
+    else charPassed s p
+
+-- spaces are skipped before a pattern but FX, and before the first node
+abbrev pub skips : Node → Bool → Bool
+skips n first = if eqb (n .kind) action then not (eqb (taskOf (n .pattern) .kind) exact) else first
+
+-- unless FX was read
+abbrev pub enteredBy : List ℕ → Bool → Place → Place
+enteredBy s skip p = if p .fx then p else if skip then skipped s p else p
+
+unfoldable pub entered : List ℕ → Node → Bool → Place → Place
+entered s n first p = enteredBy s (skips n first) p
+
+-- one node
+unfoldable pub nodeRead : List ℕ → List ℕ → Node → Node → Bool → Fields → Place → Reading
+nodeRead t s n next first f p =
+    let q = entered s n first p in
+    if eqb (n .kind) action then actionRead t s n next f q else read f (literalPassed s n q)
+
+-- the first of the nodes, END if there is none
+abbrev pub headOf : List Node → Node
+headOf [] = endNode
+headOf (n ∷ ns) = n
+
+-- nodes one after another, until the input or the template ends or a node is refused
+unfoldable pub readFrom : List ℕ → List ℕ → List Node → Bool → Fields → Place → Reading
+readFrom t s [] first f p = read f p
+readFrom t s (n ∷ ns) first f p =
+    let r = nodeRead t s n (headOf ns) first f p in
+    if ltb (p .at) (length s) then onward (r .verdict) r (readFrom t s ns false (r .fields) (r .place)) else read f p
+
+-- the whole input
+unfoldable pub readAll : List ℕ → List ℕ → List Node → Reading
+readAll t s ns = readFrom t s ns true noFields (place 0 0 false)

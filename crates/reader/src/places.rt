@@ -1,0 +1,147 @@
+// Where reading stands in the input: spaces that are skipped, and literals of the template.
+ghost use mathlib.Core.Bool.{_||_, true};
+ghost use mathlib.Core.Path.{_≡_};
+ghost use Prim.Native.Nat.{_≤_, pred};
+ghost use lib.ListN.{length};
+ghost use Rattle.chars.specs.Class.{isSeparator, isSpace};
+ghost use Rattle.reader.specs.Reader.{Payable, behind, blankPassed, charPassed, enteredBy, literalPassed, place, skipped};
+use crate::Place;
+use template::Node;
+
+// Past the spaces, which pay for literals to come.
+pub fn spaces_skipped(s: &[u8], p: Place) -> Place
+    requires { ⌜ (p .extra ≤ 512) × (length (now s) ≤ 512) ⌝ }
+    ensures { λ r. ⌜ r ≡ skipped (now (s .entry)) p ⌝ }
+{
+    let at = p.at;
+    let next = strtol::past_spaces(s, at);
+    let extra = p.extra + (next - at);
+    Place {
+        at: next,
+        extra,
+        fx: false,
+    }
+}
+
+fn less_one(n: usize) -> usize
+    ensures { λ r. ⌜ r ≡ pred n ⌝ }
+{
+    if n == 0 { 0 } else { n - 1 }
+}
+
+fn is_blank(b: u8) -> bool
+    ensures { λ r. ⌜ r ≡ (isSpace b || isSeparator b) ⌝ }
+{
+    if chars::is_space_c(b) {
+        return true;
+    }
+    chars::is_separator_char(b)
+}
+
+// A space or separator of the template takes one of the input, or a skipped space.
+fn blank_passed(s: &[u8], p: Place) -> Place
+    requires { ⌜ p .at ≤ length (now s) ⌝ }
+    ensures { λ r. ⌜ r ≡ blankPassed (now (s .entry)) p ⌝ }
+{
+    let at = p.at;
+    let extra = p.extra;
+    if is_blank(chars::byte_at(s, at)) {
+        return Place {
+            at: at + 1,
+            extra,
+            fx: false,
+        };
+    }
+    Place {
+        at,
+        extra: less_one(extra),
+        fx: false,
+    }
+}
+
+// One character of the input.
+fn char_passed(s: &[u8], p: Place) -> Place
+    requires { ⌜ p .at ≤ length (now s) ⌝ }
+    ensures { λ r. ⌜ r ≡ charPassed (now (s .entry)) p ⌝ }
+{
+    let at = p.at;
+    let extra = p.extra;
+    Place {
+        at: at + chars::pg_mblen(s, at),
+        extra,
+        fx: p.fx,
+    }
+}
+
+pub fn literal_passed(s: &[u8], n: Node, p: Place) -> Place
+    requires { ⌜ p .at ≤ length (now s) ⌝ }
+    ensures { λ r. ⌜ r ≡ literalPassed (now (s .entry)) n p ⌝ }
+{
+    if p.fx {
+        return char_passed(s, p);
+    }
+    if n.kind == template::FN_SEPARATOR {
+        return blank_passed(s, p);
+    }
+    if n.kind == template::FN_SPACE {
+        return blank_passed(s, p);
+    }
+    let extra = p.extra;
+    if extra == 0 {
+        return char_passed(s, p);
+    }
+    Place {
+        at: p.at,
+        extra: extra - 1,
+        fx: false,
+    }
+}
+
+// FX was read.
+pub fn exact(p: Place) -> Place
+    ensures { λ r. ⌜ r ≡ place (p .at) (p .extra) true ⌝ }
+{
+    Place {
+        at: p.at,
+        extra: p.extra,
+        fx: true,
+    }
+}
+
+// Behind a field.
+pub fn behind(s: &[u8], p: Place) -> Place
+    requires { ⌜ length (now s) ≤ 512 ⌝ }
+    ensures { λ r. ⌜ r ≡ behind (now (s .entry)) p ⌝ }
+{
+    if p.fx {
+        return p;
+    }
+    let q = Place {
+        at: p.at,
+        extra: 0,
+        fx: false,
+    };
+    spaces_skipped(s, q)
+}
+
+// Before a node: spaces are skipped where they may be, unless FX was read.
+pub fn entered(s: &[u8], skip: bool, p: Place) -> Place
+    requires { ⌜ Payable (now s) p × (length (now s) ≤ 512) ⌝ }
+    ensures { λ r. ⌜ r ≡ enteredBy (now (s .entry)) skip p ⌝ }
+{
+    if p.fx {
+        return p;
+    }
+    if skip {
+        return spaces_skipped(s, p);
+    }
+    p
+}
+
+// A literal, with the spaces before it.
+pub fn literal_read(s: &[u8], n: Node, first: bool, p: Place) -> Place
+    requires { ⌜ Payable (now s) p × (p .at ≤ length (now s)) × (length (now s) ≤ 512) ⌝ }
+    ensures { λ r. ⌜ r ≡ literalPassed (now (s .entry)) n (enteredBy (now (s .entry)) first p) ⌝ }
+{
+    literal_passed(s, n, entered(s, first, p))
+}
