@@ -5,7 +5,7 @@ use mathlib.Core.List.{List, [], _∷_, _++_}
 use Prim.Native.Nat.{ℕ, zero, suc, _+_, _≤_, _<_}
 use native.Mathlib.Omega.{arith}
 use native.Mathlib.Numerals.{add-one}
-use lib.ListN.{length, getD, drop, replicate, drop-of-length-le}
+use lib.ListN.{length, getD, take, drop, replicate, drop-of-length-le}
 use lib.Seq.{drop-cons}
 use lib.Dec.{ltb, eqb, lit<}
 use borrow.Author.Tests.{ltb-true, ltb-false, eqb-true}
@@ -93,6 +93,25 @@ pub sequence-append : (b : ℕ) (s t : List ℕ) (n : ℕ) → sequence (b ∷ s
 sequence-append b s t n e =
     let f = fits b s n e in
     by-row b (s ++ t) (f .k) (f .within) (f .head) ∙ rw (begins-append (others (getD table (f .k) [])) s t (f .tail)) (f .long)
+
+-- so does what is cut off behind it
+begins-take : (row : List Range) (s : List ℕ) → begins row s ≡ true → begins row (take (length row) s) ≡ true
+begins-take [] s e = refl
+begins-take (r ∷ rs) [] e = absurd (false≢true e)
+begins-take (r ∷ rs) (b ∷ s) e =
+    let p = both (b ∈ r) _ e in
+    rw (p .0) (begins-take rs s (p .1))
+
+others-length : (row : List Range) (n : ℕ) → length row ≡ suc n → length (others row) ≡ n
+others-length [] n e = absurd (omega arith)
+others-length (r ∷ rs) n e = omega arith
+
+pub sequence-take : (b : ℕ) (s : List ℕ) (n : ℕ) → sequence (b ∷ s) ≡ suc n → sequence (b ∷ take n s) ≡ suc n
+sequence-take b s n e =
+    let f = fits b s n e in
+    let row = getD table (f .k) [] in
+    let cut : begins (others row) (take n s) ≡ true = rw (others-length row n (f .long)) at (begins-take (others row) s (f .tail)) in
+    by-row b (take n s) (f .k) (f .within) (f .head) ∙ rw cut (f .long)
 
 -- a range at a place of a list, then the others after it
 pub begins-on : (r : Range) (rs : List Range) (s : List ℕ) (at : ℕ)

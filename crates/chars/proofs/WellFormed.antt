@@ -6,7 +6,7 @@ use Prim.Native.Nat.{ℕ, zero, suc, _+_, _-_, _≤_, _<_}
 use native.Mathlib.Omega.{arith}
 use native.Mathlib.Nat.{le-of-suc-le-suc, not-suc-le-zero}
 use lib.Dec.{ltb}
-use lib.ListN.{length, drop, replicate, drop-of-length-le, length-drop}
+use lib.ListN.{length, take, drop, replicate, drop-of-length-le, length-drop, length-take}
 use lib.Seq.{drop-nil, drop-cons, drop-drop}
 use borrow.Author.Tests.{lt-ltb, ltb-true, ltb-false}
 use Rattle.notation.proofs.Cases.{both}
@@ -14,7 +14,7 @@ use Rattle.notation.specs.Text.{byteAt}
 use Rattle.chars.specs.Character.{charLength}
 use Rattle.chars.specs.Range.{_‥_, _∈_}
 use Rattle.chars.specs.Utf8.{begins, sequence, wellFormedAfter, wellFormed}
-use Rattle.chars.proofs.Sequences.{sequence-within, sequence-append, sequence-lead, ascii}
+use Rattle.chars.proofs.Sequences.{sequence-within, sequence-append, sequence-take, sequence-lead, ascii}
 
 pub empty-text : wellFormed [] ≡ true
 unfolding wellFormedAfter
@@ -102,4 +102,19 @@ next-boundary s at e =
     (elim (ltb at (length s)) as (λ t. ltb at (length s) ≡ t → wellFormed (drop (at + charLength s at) s) ≡ true) [
       | true ↦ λ q. past-sequence-at s at (charLength s at) (char-is-sequence s at (ltb-true _ _ q) e) ∙ e
       | false ↦ λ q. end-of-text s (at + charLength s at) (omega (arith, ltb-false at (length s) q))
+    ]) refl
+
+-- a sequence alone is a text
+one-sequence : (b : ℕ) (s : List ℕ) (n : ℕ) → sequence (b ∷ s) ≡ suc n → wellFormed (b ∷ take n s) ≡ true
+one-sequence b s n e =
+    let short : length (take n s) ≤ n = omega (arith, length-take n s) in
+    sym (past-sequence (b ∷ take n s)) ∙ rw (sequence-take b s n e, drop-of-length-le (take n s) short) empty-text
+
+-- and so is a character
+pub one-character : (s : List ℕ) (at : ℕ) → at < length s → wellFormed (drop at s) ≡ true → wellFormed (take (charLength s at) (drop at s)) ≡ true
+one-character s at h e =
+    let d = drop-cons s at 0 h in
+    (elim (sequence (byteAt s at ∷ drop (suc at) s)) as (λ n. sequence (byteAt s at ∷ drop (suc at) s) ≡ n → wellFormed (take (charLength s at) (drop at s)) ≡ true) [
+      | zero ↦ λ q. absurd (omega (arith, begun (byteAt s at) (drop (suc at) s) (rw d at e)))
+      | suc n ↦ λ q. rw (char-is-sequence s at h e, d, q) (one-sequence (byteAt s at) (drop (suc at) s) n q)
     ]) refl

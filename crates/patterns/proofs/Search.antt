@@ -172,23 +172,24 @@ module _ (t : List ℕ) (at : ℕ) where
       ends k (omega arith) (λ j b q e. n (omega (arith, sorted x k (omega arith) p l, sorted k j p q b)))
 
 -- ---- what is found
-record Hit (k : ℕ) (ns : List (List ℕ)) (p n : ℕ) : Type 0 where
+record Hit (t : List ℕ) (at k : ℕ) (ns : List (List ℕ)) (p n : ℕ) : Type 0 where
   nth : ℕ
   place : p ≡ k + nth
   inside : nth < length ns
   size : n ≡ length (getD ns nth [])
+  stands : standsAt (getD ns nth []) t at ≡ true
 
-hit : (t : List ℕ) (at : ℕ) (ns : List (List ℕ)) (k p n : ℕ) → firstAt k ns t at ≡ Pattern p n → Hit k ns p n
+hit : (t : List ℕ) (at : ℕ) (ns : List (List ℕ)) (k p n : ℕ) → firstAt k ns t at ≡ Pattern p n → Hit t at k ns p n
 hit t at [] k p n e = absurd (let z : _≡_ {A = ℕ} 0 1 = cc in omega arith)
 hit t at (m ∷ ns) k p n e = split (standsAt m t at) refl (hit t at ns (suc k) p n)
   where
-    split : (b : Bool) → standsAt m t at ≡ b → (firstAt (suc k) ns t at ≡ Pattern p n → Hit (suc k) ns p n) → Hit k (m ∷ ns) p n
+    split : (b : Bool) → standsAt m t at ≡ b → (firstAt (suc k) ns t at ≡ Pattern p n → Hit t at (suc k) ns p n) → Hit t at k (m ∷ ns) p n
     split true q rest =
         let same : Pattern k (length m) ≡ Pattern p n = rw q at e in
-        record { nth = 0; place = (let x : k ≡ p = cc in omega arith); inside = omega arith; size = (let x : length m ≡ n = cc in omega arith) }
+        record { nth = 0; place = (let x : k ≡ p = cc in omega arith); inside = omega arith; size = (let x : length m ≡ n = cc in omega arith); stands = q }
     split false q rest =
         let h = rest (rw q at e) in
-        record { nth = suc (h .nth); place = omega (arith, h .place); inside = omega (arith, h .inside); size = h .size }
+        record { nth = suc (h .nth); place = omega (arith, h .place); inside = omega (arith, h .inside); size = h .size; stands = h .stands }
 
 -- a pattern of the table, whose name has 1 to 5 bytes
 pub found-range : (t : List ℕ) (at p n : ℕ) → patternAt t at ≡ Pattern p n → (p < 112) × (1 ≤ n) × (n ≤ 5)
@@ -198,3 +199,11 @@ found-range t at p n e =
     let s : n ≡ length (nameOf (h .nth)) = h .size ∙ ap (λ (m : List ℕ). length m) (name-is (h .nth)) in
     let l = name-length (h .nth) (h .inside) in
     (omega (arith, h .place, h .inside), omega (arith, l), omega (arith, l))
+
+-- its name stands there
+pub found-name : (t : List ℕ) (at p n : ℕ) → patternAt t at ≡ Pattern p n → (n ≡ length (nameOf p)) × (standsAt (nameOf p) t at ≡ true)
+unfolding patternAt
+found-name t at p n e =
+    let h = hit t at names 0 p n e in
+    let name : getD names (h .nth) [] ≡ nameOf p = name-is (h .nth) ∙ ap nameOf (sym (h .place ∙ zero-add (h .nth))) in
+    (h .size ∙ ap (λ (m : List ℕ). length m) name, rw name at (h .stands))

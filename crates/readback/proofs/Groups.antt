@@ -1,0 +1,110 @@
+-- The pieces of a full template are those of a date group, a time group and US, in any order. Assumes nothing.
+use mathlib.Core.Path.{_≡_, _∙_, refl, sym}
+use mathlib.Core.Bool.{Bool, true, false, false≢true}
+use mathlib.Core.List.{List, [], _∷_, _++_}
+use Prim.Native.Nat.{ℕ, zero, suc, _≤_}
+use native.Mathlib.Omega.{arith}
+use borrow.Author.Tests.{eqb-true, ltb-true, ltb-false, lt-ltb, ne-eqb}
+use lib.Dec.{eqb, ltb}
+use Rattle.notation.proofs.Cases.{both}
+use Rattle.notation.proofs.Table.{allFrom}
+use Rattle.gregorian.proofs.Dates.{Each, each}
+use Rattle.patterns.specs.Search.{countFrom}
+use Rattle.template.specs.declared.Node.{Node}
+use Rattle.writer.specs.Full.{pieces, dateGroups, timeGroups, times, sameFrom, same, anyOf, areFull}
+use Rattle.writer.specs.Pieces.{micros, pieceOf}
+use Rattle.writer.specs.declared.Moment.{Moment}
+use Rattle.readback.specs.Settings.{expected}
+use Rattle.readback.proofs.Filled.{order-free}
+use Rattle.readback.proofs.Sound.{Sound, a-literal, a-pattern, AllSound, pieces-literal, pieces-pattern}
+
+-- a property of each of the lists
+abbrev pub AllOf : (List ℕ → Type 0) → List (List ℕ) → Type 0
+AllOf P [] = Unit {0}
+AllOf P (g ∷ gs) = P g × AllOf P gs
+
+-- the list that passes a test has the properties of each
+any-of {ℓ}
+    : (A : Type ℓ) (gs : List (List ℕ)) (test : List ℕ → Bool) → anyOf gs test ≡ true
+    → ((g : List ℕ) → ((P : List ℕ → Type 0) → AllOf P gs → P g) → test g ≡ true → A) → A
+any-of A [] test e k = absurd (false≢true e)
+any-of A (g ∷ gs) test e k = by (test g) refl (λ q. any-of A gs test q (λ x pick. k x (λ P a. pick P (a .1))))
+  where
+    by : (b : Bool) → test g ≡ b → (anyOf gs test ≡ true → A) → A
+    by true q rest = k g (λ P a. a .0) q
+    by false q rest = rest (rw q at e)
+
+-- a property of the pieces of each date group with each time group and US
+abbrev pub joined : List ℕ → List ℕ → List ℕ
+joined date time = date ++ time ++ micros ∷ []
+
+abbrev pub Timed : (List ℕ → Type 0) → List ℕ → Type 0
+Timed P date = AllOf (λ time. P (joined date time)) timeGroups
+
+abbrev pub EachFull : (List ℕ → Type 0) → Type 0
+EachFull P = AllOf (Timed P) dateGroups
+
+-- each of the pieces 0 to 15 occurs as often
+same-each : (ps qs : List ℕ) (n i : ℕ) → sameFrom (countFrom i (suc n)) ps qs ≡ true → Each (λ q. times q ps ≡ times q qs) i n
+same-each ps qs zero i e = eqb-true _ _ (both (eqb (times i ps) (times i qs)) _ e .0)
+same-each ps qs (suc n) i e =
+    let w = both (eqb (times i ps) (times i qs)) _ e in
+    (eqb-true _ _ (w .0), same-each ps qs n (suc i) (w .1))
+
+-- pieces are below 16
+abbrev pub below16 : List ℕ → Bool
+below16 ps = allFrom (λ (i p : ℕ). ltb p 16) 0 ps
+
+none-above : (ps : List ℕ) (i q : ℕ) → allFrom (λ (i p : ℕ). ltb p 16) i ps ≡ true → 16 ≤ q → times q ps ≡ 0
+unfolding times
+none-above [] i q e h = refl
+none-above (p ∷ ps) i q e h =
+    let w = both (ltb p 16) _ e in
+    rw (ne-eqb q p (omega (arith, ltb-true p 16 (w .0)))) (none-above ps (suc i) q (w .1) h)
+
+pub same-times : (ps qs : List ℕ) → below16 ps ≡ true → below16 qs ≡ true → same ps qs ≡ true → (q : ℕ) → times q ps ≡ times q qs
+same-times ps qs b c e q =
+    (elim (ltb q 16) as (λ w. ltb q 16 ≡ w → times q ps ≡ times q qs) [
+      | true ↦ λ w. each (λ q. times q ps ≡ times q qs) 0 15 (same-each ps qs 15 0 e) q (omega arith) (omega (arith, ltb-true q 16 w))
+      | false ↦ λ w. none-above ps 0 q b (ltb-false q 16 w) ∙ sym (none-above qs 0 q c (ltb-false q 16 w))
+    ]) refl
+
+-- pieces that are, in some order, those of two groups and US
+pub record Grouped (ps : List ℕ) : Type 1 where
+  pub all : List ℕ
+  pub as-often : (q : ℕ) → times q ps ≡ times q all
+  pub pick : (P : List ℕ → Type 0) → EachFull P → P all
+
+all-below : EachFull (λ all. below16 all ≡ true)
+all-below = ((refl, (refl, (refl, (refl, tt)))), ((refl, (refl, (refl, (refl, tt)))), ((refl, (refl, (refl, (refl, tt)))), tt)))
+
+pub grouped : (ps : List ℕ) → below16 ps ≡ true → areFull ps ≡ true → Grouped ps
+unfolding areFull
+grouped ps below e =
+    any-of (Grouped ps) dateGroups dated e
+    (λ date pick q. any-of (Grouped ps) timeGroups (timed date) q
+    (λ time choose r. whole (joined date time) (λ P a. choose (λ x. P (joined date x)) (pick (Timed P) a)) r))
+  where
+    timed : List ℕ → List ℕ → Bool
+    timed date time = same ps (joined date time)
+
+    dated : List ℕ → Bool
+    dated date = anyOf timeGroups (timed date)
+
+    whole : (all : List ℕ) → ((P : List ℕ → Type 0) → EachFull P → P all) → same ps all ≡ true → Grouped ps
+    whole all pick r =
+        record { all = all; as-often = same-times ps all below (pick (λ x. below16 x ≡ true) all-below) r; pick = pick }
+
+pub pieces-below : (t : List ℕ) (ns : List Node) (i : ℕ) → AllSound t ns → allFrom (λ (i p : ℕ). ltb p 16) i (pieces ns) ≡ true
+unfolding pieces
+pieces-below t [] i a = refl
+pieces-below t (n ∷ ns) i a = by (a .0) (λ j. pieces-below t ns j (a .1))
+  where
+    by : Sound t n → ((j : ℕ) → allFrom (λ (i p : ℕ). ltb p 16) j (pieces ns) ≡ true) → allFrom (λ (i p : ℕ). ltb p 16) i (pieces (n ∷ ns)) ≡ true
+    by (a-literal l) ih = rw (pieces-literal t n ns l) (ih i)
+    by (a-pattern k) ih = rw (pieces-pattern t n ns k, lt-ltb (pieceOf (n .pattern)) 16 (k .reads .piece)) (ih (suc i))
+
+-- what pieces set depends on how often each occurs, and on nothing else
+pub expected-same : (m : Moment) (ps qs : List ℕ) → ((q : ℕ) → times q ps ≡ times q qs) → expected ps m ≡ expected qs m
+unfolding expected
+expected-same m ps qs e = order-free m _ ps qs e _

@@ -1,0 +1,117 @@
+-- Reading a literal: a reader that is ahead by spaces and separators, as many as still pay for literals, stays so. Assumes nothing.
+use mathlib.Core.Path.{_≡_, _∙_, refl, sym, ap}
+use mathlib.Core.Bool.{Bool, true, false, _&&_, _||_, false≢true}
+use mathlib.Core.List.{List, [], _∷_, _++_}
+use Prim.Native.Nat.{ℕ, zero, suc, _+_, _≤_, _<_}
+use native.Mathlib.Omega.{arith}
+use borrow.Author.Tests.{lt-ltb, ltb-true, ltb-false}
+use lib.Dec.{eqb, ltb}
+use lib.ListN.{length, drop, length-append, length-drop}
+use lib.Seq.{drop-drop, drop-append-seam, getD-drop}
+use Rattle.notation.specs.Text.{byteAt}
+use Rattle.notation.proofs.Cases.{both}
+use Rattle.chars.specs.Character.{lead, charLength}
+use Rattle.chars.proofs.Characters.{lead-one}
+use Rattle.chars.proofs.Classes.{wide-class}
+use Rattle.reader.specs.Reader.{place, literalPassed}
+use Rattle.template.specs.Template.{separator, space}
+use Rattle.template.specs.declared.Node.{Node}
+use Rattle.readback.proofs.Ahead.{Ahead, ahead-more}
+use Rattle.readback.proofs.Nodes.{isBlank, Literal}
+
+-- u is left of the input from a place on
+pub record Left (s : List ℕ) (at : ℕ) (u : List ℕ) : Type 0 where
+  pub within : at ≤ length s
+  pub is : drop at s ≡ u
+
+module _ {s : List ℕ} {at : ℕ} {u : List ℕ} (h : Left s at u) where
+  pub left-length : length s ≡ at + length u
+  left-length = omega (arith, length-drop at s, ap (λ (v : List ℕ). length v) (h .is), h .within)
+
+  pub left-byte : (i : ℕ) → byteAt s (at + i) ≡ byteAt u i
+  left-byte i = rw (← getD-drop at s i 0, h .is)
+
+pub left-past : {s : List ℕ} {at : ℕ} (u v : List ℕ) → Left s at (u ++ v) → Left s (at + length u) v
+left-past {s} {at} u v h =
+    record {
+      within = omega (arith, left-length h, length-append u v);
+      is = rw (← drop-drop (length u) at s, h .is) (drop-append-seam u v);
+    }
+
+-- a space or separator has one byte
+blank-one : (b : ℕ) → isBlank b ≡ true → lead b ≡ 1
+blank-one b e =
+    (elim (ltb b 128) as (λ w. ltb b 128 ≡ w → lead b ≡ 1) [
+      | true ↦ λ w. lead-one b (omega (arith, ltb-true b 128 w))
+      | false ↦ λ w. absurd (false≢true (rw (wide-class b (ltb-false b 128 w)) at e))
+    ]) refl
+
+-- the reader past the literal n, behind which v is left
+pub record Passed (s : List ℕ) (n : Node) (at e : ℕ) (v : List ℕ) : Type 0 where
+  pub next : ℕ
+  pub is : literalPassed s n (place (at + e) e false) ≡ place (at + n .len + next) next false
+  pub ahead : Ahead next v
+
+moved : (e : ℕ) {a b : ℕ} → a ≡ b → place a e false ≡ place b e false
+moved e q = ap (λ (a : ℕ). place a e false) q
+
+none : (u v : List ℕ) → length u ≡ 0 → u ++ v ≡ v
+none [] v e = refl
+none (b ∷ u) v e = absurd (omega arith)
+
+module _ (s t : List ℕ) (n : Node) (l : Literal t n) (v : List ℕ) (at : ℕ) (h : Left s at (l .b ∷ l .others ++ v)) where
+  abbrev blankKind : Bool
+  blankKind = eqb (n .kind) separator || eqb (n .kind) space
+
+  own-length : charLength s (at + 0) ≡ n .len
+  unfolding charLength
+  own-length = rw (left-byte h 0) (omega (arith, l .long, l .size, left-length h, length-append (l .others) v))
+
+  -- where no skipped space pays, the literal takes its own bytes
+  in-place : Passed s n at 0 v
+  unfolding literalPassed
+  in-place = record { next = 0; is = by blankKind refl; ahead = tt }
+    where
+      inside : at + 0 < length s
+      inside = omega (arith, left-length h)
+
+      by : (w : Bool) → blankKind ≡ w → literalPassed s n (place (at + 0) 0 false) ≡ place (at + n .len + 0) 0 false
+      by true q =
+          rw (q, lt-ltb (at + 0) (length s) inside, left-byte h 0, l .blank q)
+          (moved 0 (omega (arith, l .long, blank-one (l .b) (l .blank q))))
+      by false q = rw q (moved 0 (omega (arith, own-length)))
+
+  module _ (e : ℕ) (k : Ahead (suc e) (l .b ∷ l .others ++ v)) where
+    one-byte : n .len ≡ 1
+    one-byte = sym (l .long) ∙ blank-one (l .b) (k .0)
+
+    rest : l .others ++ v ≡ v
+    rest = none (l .others) v (omega (arith, l .size, one-byte))
+
+    -- a skipped space pays
+    paid : literalPassed s n (place (at + suc e) (suc e) false) ≡ place (at + suc e) e false → Passed s n at (suc e) v
+    paid q = record { next = e; is = q ∙ moved e (omega (arith, one-byte)); ahead = rw rest at (k .1) }
+
+    -- or the literal takes one more space or separator
+    blank : blankKind ≡ true → Passed s n at (suc e) v
+    unfolding literalPassed
+    blank q =
+        (elim (ltb (at + suc e) (length s) && isBlank (byteAt s (at + suc e))) as (λ w. (ltb (at + suc e) (length s) && isBlank (byteAt s (at + suc e))) ≡ w → Passed s n at (suc e) v) [
+          | true ↦ λ w.
+              let x = both (ltb (at + suc e) (length s)) _ w in
+              let more = ahead-more (suc e) (l .b ∷ l .others ++ v) k (omega (arith, ltb-true (at + suc e) (length s) (x .0), left-length h)) (rw (left-byte h (suc e)) at (x .1)) in
+              record { next = suc e; is = rw (q, w) (moved (suc e) (omega (arith, one-byte))); ahead = rw rest at (more .1) }
+          | false ↦ λ w. paid (rw (q, w))
+        ]) refl
+
+    ahead-step : Passed s n at (suc e) v
+    unfolding literalPassed
+    ahead-step =
+        (elim blankKind as (λ w. blankKind ≡ w → Passed s n at (suc e) v) [
+          | true ↦ λ q. blank q
+          | false ↦ λ q. paid (rw (q, lt-ltb 0 (suc e) (omega arith)))
+        ]) refl
+
+  pub literal-step : (e : ℕ) → Ahead e (l .b ∷ l .others ++ v) → Passed s n at e v
+  literal-step zero k = in-place
+  literal-step (suc e) k = ahead-step e k

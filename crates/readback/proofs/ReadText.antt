@@ -1,0 +1,101 @@
+-- Reading back, first half: the text of a moment by a full template is UTF-8 within the limit, and reading it sets what the template's pieces set.
+-- Assumes nothing.
+use mathlib.Core.Path.{_≡_, refl}
+use mathlib.Core.Bool.{Bool, true, _&&_}
+use mathlib.Core.List.{List, []}
+use Prim.Native.Nat.{ℕ, _+_, _≤_}
+use native.Mathlib.Omega.{arith}
+use borrow.Author.Tests.{eqb-true, leb-true}
+use lib.Dec.{eqb, leb}
+use lib.ListN.{length}
+use Rattle.notation.proofs.Cases.{both}
+use Rattle.chars.specs.Utf8.{wellFormed}
+use Rattle.parts.specs.Parts.{templateLimit, inputLimit}
+use Rattle.reader.specs.Fields.{noFields}
+use Rattle.reader.specs.Reader.{readAll}
+use Rattle.reader.specs.declared.Fields.{Fields}
+use Rattle.template.specs.Template.{nodesOf}
+use Rattle.writer.specs.Full.{pieces, times, areFull, isFull}
+use Rattle.writer.specs.Moment.{moment, IsMoment}
+use Rattle.writer.specs.Pieces.{micros}
+use Rattle.writer.specs.Text.{nodesText, textOf}
+use Rattle.writer.specs.Writer.{firstUnwritten}
+use Rattle.writer.specs.declared.Moment.{Moment}
+use Rattle.readback.specs.Settings.{filledBy, expected}
+use Rattle.readback.proofs.Compatible.{together}
+use Rattle.readback.proofs.Groups.{EachFull, Grouped, grouped, pieces-below, expected-same}
+use Rattle.readback.proofs.Nodes.{good-nodes}
+use Rattle.readback.proofs.Simulation.{Ends, simulated}
+use Rattle.readback.proofs.Sound.{AllSound, sound-nodes, text-utf8, text-length}
+
+-- each date group goes with each time group, and has one US
+abbrev tested : List ℕ → Bool
+tested all = together all && eqb (times micros all) 1
+
+all-tested : EachFull (λ all. tested all ≡ true)
+unfolding times
+all-tested =
+    ((refl, (refl, (refl, (refl, tt)))), ((refl, (refl, (refl, (refl, tt)))), ((refl, (refl, (refl, (refl, tt)))), tt)))
+
+none-expected : (m : Moment) → expected [] m ≡ noFields
+unfolding expected filledBy times
+none-expected m = refl
+
+-- what the test of a full template says
+record Full (t : List ℕ) : Type 0 where
+  short : length t ≤ templateLimit
+  text : wellFormed t ≡ true
+  known : firstUnwritten (nodesOf t) ≡ 112
+  full : areFull (pieces (nodesOf t)) ≡ true
+
+full-is : (t : List ℕ) → isFull t ≡ true → Full t
+unfolding isFull
+full-is t e =
+    let a = both (leb (length t) templateLimit) _ e in
+    let b = both (wellFormed t) _ (a .1) in
+    let c = both (eqb (firstUnwritten (nodesOf t)) 112) _ (b .1) in
+    record { short = leb-true _ _ (a .0); text = b .0; known = eqb-true _ _ (c .0); full = c .1 }
+
+module _ (t : List ℕ) (is-full : isFull t ≡ true) where
+  checks : Full t
+  checks = full-is t is-full
+
+  sound : AllSound t (nodesOf t)
+  sound = sound-nodes t (nodesOf t) (good-nodes t (checks .text) .0) (checks .known)
+
+  groups : Grouped (pieces (nodesOf t))
+  groups = grouped (pieces (nodesOf t)) (pieces-below t (nodesOf t) 0 sound) (checks .full)
+
+  goes : (together (groups .all) ≡ true) × (eqb (times micros (groups .all)) 1 ≡ true)
+  goes = both (together (groups .all)) _ (groups .pick (λ all. tested all ≡ true) all-tested)
+
+  module _ {y mo d h mi s us : ℕ} (is : IsMoment y mo d h mi s us) where
+    abbrev now : Moment
+    now = moment y mo d h mi s us
+
+    -- the text is UTF-8
+    pub text-is-utf8 : wellFormed (textOf t now) ≡ true
+    unfolding textOf
+    text-is-utf8 = text-utf8 t now (nodesOf t) sound
+
+    -- it is at most 4 bytes longer than the template, and so within the limit of an input
+    pub text-within : (length (textOf t now) ≤ length t + 4) × (length (textOf t now) ≤ inputLimit)
+    unfolding textOf
+    text-within =
+        omega (arith, text-length t now (nodesOf t) sound, good-nodes t (checks .text) .1, groups .as-often micros, eqb-true (times micros (groups .all)) 1 (goes .1), checks .short)
+
+    -- what the template's pieces set is what its groups set
+    by-groups : expected (pieces (nodesOf t)) now ≡ expected (groups .all) now
+    by-groups = expected-same now (pieces (nodesOf t)) (groups .all) (groups .as-often)
+
+    -- reading it by the template accepts, and sets exactly what the template's pieces set
+    pub text-is-read : Ends (expected (pieces (nodesOf t)) now) (readAll t (textOf t now) (nodesOf t))
+    unfolding textOf readAll times
+    text-is-read =
+        rw (by-groups, ← none-expected now)
+        (simulated t (nodesText t now (nodesOf t)) is (groups .all) (goes .0) (nodesOf t) sound true 0 0 [] (record { within = omega arith; is = refl }) tt
+        (λ q. omega (arith, groups .as-often q)))
+
+    -- so what holds of what each date group sets with each time group holds of the fields that are read
+    pub fields-read : (P : Fields → Type 0) → EachFull (λ all. P (expected all now)) → P (readAll t (textOf t now) (nodesOf t) .fields)
+    fields-read P a = rw (text-is-read .fields, by-groups) (groups .pick (λ all. P (expected all now)) a)

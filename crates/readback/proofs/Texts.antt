@@ -1,0 +1,89 @@
+-- The text of a piece: its length, its first byte, and that it is ASCII. Assumes nothing.
+use mathlib.Core.Path.{_≡_, _∙_, refl, sym}
+use mathlib.Core.Bool.{Bool, true, false}
+use mathlib.Core.List.{List, [], _∷_, _++_}
+use Prim.Native.Nat.{ℕ, _≤_, _<_}
+use native.Mathlib.Omega.{arith}
+use borrow.Author.Tests.{ne-eqb, eqb-false}
+use lib.Dec.{eqb}
+use lib.ListN.{length}
+use Rattle.notation.specs.Choice.{if_then_else_}
+use Rattle.chars.specs.Class.{digit, classOf}
+use Rattle.chars.specs.Range.{_‥_}
+use Rattle.chars.specs.Utf8.{sequence, wellFormed, wellFormedAfter}
+use Rattle.chars.proofs.Classes.{the-class, digit-bounds}
+use Rattle.chars.proofs.Ranges.{inside}
+use Rattle.chars.proofs.Sequences.{ascii}
+use Rattle.chars.proofs.WellFormed.{empty-text, past-sequence-at}
+use Rattle.gregorian.proofs.Dates.{each}
+use Rattle.strtol.specs.Decimal.{decimal}
+use Rattle.strtol.specs.Runs.{leading, digits}
+use Rattle.strtol.proofs.Decimals.{AllDigits, decimal-length, decimal-digits}
+use Rattle.writer.specs.Pieces.{marker, dottedMarker, widthOf, numberOf, markerText, isMorning, pieceText}
+use Rattle.writer.specs.declared.Moment.{Moment}
+use Rattle.readback.proofs.Ahead.{inked}
+use Rattle.readback.proofs.Known.{sizeFor}
+
+-- digits are ASCII
+digits-text : (u : List ℕ) → AllDigits u → wellFormed u ≡ true
+digits-text [] h = empty-text
+digits-text (b ∷ u) h =
+    let w = digit-bounds b (h .0) in
+    sym (past-sequence-at (b ∷ u) 0 1 (sym (ascii b u (inside (0 ‥ 127) b (omega arith) (omega arith))))) ∙ digits-text u (h .1)
+
+-- and neither spaces nor separators
+digits-inked : (u : List ℕ) → 0 < length u → AllDigits u → inked u ≡ true
+digits-inked [] z h = absurd (omega arith)
+digits-inked (b ∷ u) z h = rw (the-class (classOf b) digit (h .0))
+
+-- what holds of the text of a piece of a size
+pub record Written (size : ℕ) (u : List ℕ) : Type 0 where
+  pub long : length u ≡ size
+  pub text : wellFormed u ≡ true
+  pub ink : inked u ≡ true
+
+pub width-some : (p : ℕ) → 1 ≤ p → p ≤ 13 → 0 < widthOf p
+width-some = each (λ p. 0 < widthOf p) 1 12 (omega arith)
+
+module _ (m : Moment) where
+  pub number-text : (p : ℕ) → p ≤ 13 → pieceText p m ≡ decimal (widthOf p) (numberOf p m)
+  unfolding pieceText
+  number-text p h = rw (ne-eqb p 14 (omega arith), ne-eqb p 15 (omega arith))
+
+  number-written : (w n : ℕ) → 0 < w → Written w (decimal w n)
+  number-written w n some =
+      record {
+        long = decimal-length w n;
+        text = digits-text (decimal w n) (decimal-digits w n);
+        ink = digits-inked (decimal w n) (omega (arith, decimal-length w n)) (decimal-digits w n);
+      }
+
+  marker-written : (dotted morning : Bool) → Written (if dotted then 4 else 2) (markerText dotted morning)
+  unfolding wellFormedAfter sequence classOf
+  marker-written true true = record { long = refl; text = refl; ink = refl }
+  marker-written true false = record { long = refl; text = refl; ink = refl }
+  marker-written false true = record { long = refl; text = refl; ink = refl }
+  marker-written false false = record { long = refl; text = refl; ink = refl }
+
+  pub piece-written : (p : ℕ) → 1 ≤ p → p ≤ 15 → Written (sizeFor p) (pieceText p m)
+  unfolding pieceText
+  piece-written p from to = by (eqb p marker) (eqb p dottedMarker) refl refl
+    where
+      by : (a b : Bool) → eqb p marker ≡ a → eqb p dottedMarker ≡ b
+          → Written (if a then 2 else if b then 4 else widthOf p)
+          (if a then markerText false (isMorning m) else if b then markerText true (isMorning m) else decimal (widthOf p) (numberOf p m))
+      by true b q r = marker-written false (isMorning m)
+      by false true q r = marker-written true (isMorning m)
+      by false false q r = number-written (widthOf p) (numberOf p m) (width-some p from (omega (arith, eqb-false p marker q, eqb-false p dottedMarker r)))
+
+  marker-stops : (dotted morning : Bool) (u : List ℕ) → digits (markerText dotted morning ++ u) ≡ 0
+  unfolding leading classOf
+  marker-stops true true u = refl
+  marker-stops true false u = refl
+  marker-stops false true u = refl
+  marker-stops false false u = refl
+
+  -- a marker is no digit
+  pub word-stops : (u : List ℕ) (p : ℕ) → 14 ≤ p → p ≤ 15 → digits (pieceText p m ++ u) ≡ 0
+  unfolding pieceText
+  word-stops u = each (λ p. digits (pieceText p m ++ u) ≡ 0) 14 1 (marker-stops false (isMorning m) u, marker-stops true (isMorning m) u)

@@ -1,0 +1,2 @@
+-- What reading a written text sets.
+pub mod Settings

@@ -1,0 +1,39 @@
+-- The text of a moment by a template: its literals as they are, and the pieces of its patterns, in the template's order without gaps.
+use mathlib.Core.Path.{_≡_, refl}
+use mathlib.Core.Bool.{Bool, true, false}
+use mathlib.Core.List.{List, [], _∷_, _++_}
+use Prim.Native.Nat.{ℕ}
+use lib.Dec.{eqb}
+use lib.ListN.{take, drop}
+use Rattle.notation.specs.Choice.{if_then_else_}
+use Rattle.notation.specs.Text.{utf8}
+use Rattle.chars.specs.Character.{charLength, lead}
+use Rattle.chars.specs.Class.{classOf}
+use Rattle.patterns.specs.Affixes.{bitAt}
+use Rattle.patterns.specs.Search.{patternAt}
+use Rattle.strtol.specs.Decimal.{decimal}
+use Rattle.template.specs.Template.{action, kindOf, charPlace, literalAt, plainAt, stepAt, nodesFrom, nodesOf}
+use Rattle.template.specs.declared.Node.{Node}
+use Rattle.writer.specs.Moment.{moment}
+use Rattle.writer.specs.Pieces.{pieceOf, pieceText, numberOf}
+use Rattle.writer.specs.declared.Moment.{Moment}
+
+-- the bytes of a literal node
+abbrev pub literalText : List ℕ → Node → List ℕ
+literalText t n = take (n .len) (drop (n .start) t)
+
+unfoldable pub nodeText : List ℕ → Moment → Node → List ℕ
+nodeText t m n = if eqb (n .kind) action then pieceText (pieceOf (n .pattern)) m else literalText t n
+
+-- the texts of nodes one after another
+unfoldable pub nodesText : List ℕ → Moment → List Node → List ℕ
+nodesText t m [] = []
+nodesText t m (n ∷ ns) = nodeText t m n ++ nodesText t m ns
+
+unfoldable pub textOf : List ℕ → Moment → List ℕ
+textOf t m = nodesText t m (nodesOf t)
+
+-- a Vietnamese date
+pub worked : textOf (utf8 "\"ngày \"DD\" tháng \"MM\" năm \"YYYY") (moment 2024 2 29 0 0 0 0) ≡ utf8 "ngày 29 tháng 02 năm 2024"
+unfolding textOf nodesText nodeText pieceOf pieceText numberOf decimal nodesOf nodesFrom stepAt plainAt charPlace literalAt patternAt bitAt charLength lead kindOf classOf
+worked = refl
