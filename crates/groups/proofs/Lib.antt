@@ -1,0 +1,5 @@
+-- From the fields that a full template's groups set to the moment, its instant and its day.
+mod Steps
+mod Dates
+mod Times
+pub mod ReadAs

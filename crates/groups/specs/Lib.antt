@@ -1,0 +1,2 @@
+-- What the groups of a full template set.
+pub mod Values

@@ -1,0 +1,1 @@
+// What the groups of a full template make of a moment: laws alone.

@@ -1,0 +1,5 @@
+mod Order
+mod Range
+mod Seconds
+mod Rounding
+pub mod Plain

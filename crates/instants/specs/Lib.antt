@@ -1,0 +1,4 @@
+-- Instants and dates.
+pub mod Instant
+pub mod Plain
+pub mod Report
