@@ -9,11 +9,7 @@ use lib.IntN.{ℤ, pos}
 use Rattle.gregorian.specs.Gregorian.{Valid, monthLength}
 use Rattle.gregorian.proofs.Dates.{length-range}
 use Rattle.gregorian.proofs.Months.{month-length}
-use Rattle.instants.specs.Instant.{instantBy, dayBy}
-use Rattle.instants.specs.Plain.{daysSince1970, microsSince1970}
-use Rattle.instants.specs.declared.Day.the-variants.{Number}
-use Rattle.instants.specs.declared.Instant.the-variants.{Micros}
-use Rattle.instants.proofs.Plain.{plainParts, instant-is, day-is}
+use Rattle.instants.proofs.Plain.{plainParts}
 use Rattle.parts.specs.Days.{allBits, days, dateInRange}
 use Rattle.parts.specs.Parts.{checkedMoment, momentOf}
 use Rattle.parts.specs.Time.{timeInRange}
@@ -77,10 +73,3 @@ module _ {y mo d h mi s us : ℕ} (is : IsMoment y mo d h mi s us) where
     pub moment-read : momentOf f ≡ Moment (plainParts y mo d h mi s us)
     unfolding momentOf
     moment-read = rw (b .hour-is, a .is, micros-read f us (is .micros) (e F.ms (lit< tt)) (e F.us (lit< tt))) checked
-
-    -- its instant is the moment's microseconds, and its day the date's
-    pub instant-read : instantBy (momentOf f) ≡ Micros (microsSince1970 y mo d h mi s us)
-    instant-read = rw moment-read (instant-is (is .date) h mi s us (is .hour) (is .minute) (is .second) (is .micros))
-
-    pub day-read : dayBy (momentOf f) ≡ Number (daysSince1970 y mo d)
-    day-read = rw moment-read (day-is (is .date) h mi s us)

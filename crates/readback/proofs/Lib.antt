@@ -15,3 +15,5 @@ pub mod Groups
 pub mod Compatible
 pub mod Simulation
 pub mod ReadText
+pub mod ReadBack
+pub mod Buffer

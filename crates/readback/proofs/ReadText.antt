@@ -42,13 +42,13 @@ unfolding expected filledBy times
 none-expected m = refl
 
 -- what the test of a full template says
-record Full (t : List ℕ) : Type 0 where
-  short : length t ≤ templateLimit
-  text : wellFormed t ≡ true
-  known : firstUnwritten (nodesOf t) ≡ 112
-  full : areFull (pieces (nodesOf t)) ≡ true
+pub record Full (t : List ℕ) : Type 0 where
+  pub short : length t ≤ templateLimit
+  pub text : wellFormed t ≡ true
+  pub known : firstUnwritten (nodesOf t) ≡ 112
+  pub full : areFull (pieces (nodesOf t)) ≡ true
 
-full-is : (t : List ℕ) → isFull t ≡ true → Full t
+pub full-is : (t : List ℕ) → isFull t ≡ true → Full t
 unfolding isFull
 full-is t e =
     let a = both (leb (length t) templateLimit) _ e in

@@ -1,2 +1,3 @@
 -- What reading a written text sets.
 pub mod Settings
+pub mod ReadBack

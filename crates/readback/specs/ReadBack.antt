@@ -1,0 +1,85 @@
+-- Reading back: what it is for a text to be read as a moment, and what is promised of every full template and every moment.
+use mathlib.Core.Path.{_≡_}
+use mathlib.Core.Bool.{true}
+use mathlib.Core.List.{List, _++_}
+use Prim.Native.Nat.{ℕ, _≤_}
+use lib.IntN.{ℤ, pos, natAbs}
+use lib.ListN.{length, drop}
+use Rattle.instants.specs.Instant.{timestampOf, dateOf}
+use Rattle.instants.specs.Plain.{daysSince1970, microsSince1970}
+use Rattle.instants.specs.declared.Day.the-variants.{Number}
+use Rattle.instants.specs.declared.Instant.the-variants.{Micros}
+use Rattle.parts.specs.Parts.{partsOf, inputLimit}
+use Rattle.parts.specs.declared.Answer.the-variants.{Moment as Accepted}
+use Rattle.parts.specs.declared.Offset.the-variants.{Absent}
+use Rattle.parts.specs.declared.Parts.{Parts}
+use Rattle.writer.specs.Full.{isFull}
+use Rattle.writer.specs.Moment.{isMoment}
+use Rattle.writer.specs.Text.{textOf}
+use Rattle.writer.specs.Writer.{writtenTo, bufferAfter}
+use Rattle.writer.specs.declared.Moment.{Moment}
+use Rattle.writer.specs.declared.Written.{Written}
+use Rattle.writer.specs.declared.Written.the-variants.{Length, Refused}
+use Rattle.readback.specs.declared.Again.{Again}
+use Rattle.readback.specs.declared.Again.the-variants.{Read, Unread}
+
+-- the parts of a moment: its seven numbers, precision 0 and no offset
+abbrev pub partsIn : Moment → Parts
+partsIn m = record {
+  year = m .year;
+  month = m .month;
+  day = m .day;
+  hour = m .hour;
+  minute = m .minute;
+  second = m .second;
+  micros = m .micros;
+  precision = pos 0;
+  offset = Absent;
+}
+
+-- its microseconds and its days since 1970-01-01
+abbrev pub daysOf : Moment → ℤ
+daysOf m = daysSince1970 (natAbs (m .year)) (natAbs (m .month)) (natAbs (m .day))
+
+abbrev pub microsOf : Moment → ℤ
+microsOf m =
+    microsSince1970 (natAbs (m .year)) (natAbs (m .month)) (natAbs (m .day)) (natAbs (m .hour)) (natAbs (m .minute)) (natAbs (m .second)) (natAbs (m .micros))
+
+-- a text is read, by a template, as a moment
+pub record ReadAs (t text : List ℕ) (m : Moment) : Type 0 where
+  pub parts : partsOf t text ≡ Accepted (partsIn m)
+  pub instant : timestampOf t text ≡ Micros (microsOf m)
+  pub day : dateOf t text ≡ Number (daysOf m)
+
+-- what is promised of a full template and a moment m
+pub record Back (t : List ℕ) (m : Moment) : Type 0 where
+  -- a buffer at least as long as the text, whatever it holds: the text is written, and every byte behind it stays
+  pub written : (before : List ℕ) → length (textOf t m) ≤ length before
+      → (writtenTo t m (length before) ≡ Length (length (textOf t m)))
+      × (bufferAfter (writtenTo t m (length before)) (textOf t m) before ≡ textOf t m ++ drop (length (textOf t m)) before)
+  -- the text is within the limit of an input
+  pub within : length (textOf t m) ≤ inputLimit
+  -- another moment has the same text exactly where it is the same moment
+  pub same : (n : Moment) → isMoment n ≡ true → (textOf t m ≡ textOf t n → m ≡ n) × (m ≡ n → textOf t m ≡ textOf t n)
+  -- the text is read as the moment that it was written from
+  pub read : ReadAs t (textOf t m) m
+
+-- demand 3
+abbrev pub EveryBack : Type 0
+EveryBack = (t : List ℕ) (m : Moment) → isFull t ≡ true → isMoment m ≡ true → Back t m
+
+-- what writing and reading back answers: what the three answers to the text are, or why nothing is written
+abbrev pub readAgain : List ℕ → List ℕ → Written → Again
+readAgain t text (Length n) = Read n (partsOf t text) (timestampOf t text) (dateOf t text)
+readAgain t text (Refused why) = Unread why
+
+unfoldable pub againOf : List ℕ → Moment → ℕ → Again
+againOf t m room = readAgain t (textOf t m) (writtenTo t m room)
+
+-- r is the answer, and after the buffer; of a full template, a moment and enough space: the text's length and the moment by all three answers
+pub record WroteAndRead (t : List ℕ) (m : Moment) (before after : List ℕ) (r : Again) : Type 0 where
+  pub is : r ≡ againOf t m (length before)
+  pub buffer : after ≡ bufferAfter (writtenTo t m (length before)) (textOf t m) before
+  pub back : isFull t ≡ true → isMoment m ≡ true → length (textOf t m) ≤ length before
+      → (r ≡ Read (length (textOf t m)) (Accepted (partsIn m)) (Micros (microsOf m)) (Number (daysOf m)))
+      × (after ≡ textOf t m ++ drop (length (textOf t m)) before) × Back t m
