@@ -15,8 +15,8 @@ use Rattle.gregorian.proofs.Weeks.{week-range, day-of-week, year-range}
 use Rattle.julian.specs.Week.{isoweek2j}
 use Rattle.julian.proofs.Inverse.{j2date-is}
 use Rattle.julian.proofs.IsoWeeks.{isoweek2j-is}
-use Rattle.parts.specs.Days.{yearBit, allBits, days, begun, withJulian, dayOfWeek, withWeek, fromDayOfYear, withDayOfYear, datedOf}
-use Rattle.parts.specs.declared.Dated.the-variants.{Date}
+use Rattle.days.specs.Dates.{yearBit, allBits, days, begun, withJulian, dayOfWeek, withWeek, fromDayOfYear, withDayOfYear, datedOf}
+use Rattle.days.specs.declared.Dated.the-variants.{Date}
 use Rattle.reader.specs.Fields as F
 use Rattle.reader.specs.declared.Fields.{Fields}
 use Rattle.groups.specs.Values.{DateGroup, by-month, by-day, by-week, dateValues, TimeValues, fieldsOf, Same}

@@ -10,9 +10,9 @@ use Rattle.gregorian.specs.Gregorian.{Valid, monthLength}
 use Rattle.gregorian.proofs.Dates.{length-range}
 use Rattle.gregorian.proofs.Months.{month-length}
 use Rattle.instants.proofs.Plain.{plainParts}
-use Rattle.parts.specs.Days.{allBits, days, dateInRange}
+use Rattle.days.specs.Dates.{allBits, days, dateInRange}
 use Rattle.parts.specs.Parts.{checkedMoment, momentOf}
-use Rattle.parts.specs.Time.{timeInRange}
+use Rattle.clock.specs.Time.{timeInRange}
 use Rattle.parts.specs.declared.Answer.the-variants.{Moment}
 use Rattle.reader.specs.Fields as F
 use Rattle.reader.specs.declared.Fields.{Fields}

@@ -6,14 +6,14 @@ use native.Mathlib.Omega.{arith}
 use borrow.Author.Tests.{le-ltb, ne-eqb}
 use lib.IntN.{pos}
 use Rattle.wrapping.proofs.Small.{wrap-pos}
-use Rattle.parts.specs.Days.{yearBit, days, begun, withJulian, withWeek, withMonthWeek, withDay, withMonth, withDayOfYear, datedOf}
-use Rattle.parts.specs.Time.{microsOf, offsetOf, offsetInRange, checkedOffset}
-use Rattle.parts.specs.Year.{yearOf}
-use Rattle.parts.specs.declared.Dated.the-variants.{Date}
-use Rattle.parts.specs.declared.Days.{Days}
-use Rattle.parts.specs.declared.Offset.the-variants.{Absent}
-use Rattle.parts.specs.declared.Value.the-variants.{Is}
-use Rattle.parts.specs.declared.Zoned.the-variants.{At}
+use Rattle.days.specs.Dates.{yearBit, days, begun, withJulian, withWeek, withMonthWeek, withDay, withMonth, withDayOfYear, datedOf}
+use Rattle.clock.specs.Time.{microsOf, offsetOf, offsetInRange, checkedOffset}
+use Rattle.days.specs.Year.{yearOf}
+use Rattle.days.specs.declared.Dated.the-variants.{Date}
+use Rattle.days.specs.declared.Days.{Days}
+use Rattle.clock.specs.declared.Offset.the-variants.{Absent}
+use Rattle.values.specs.declared.Value.the-variants.{Is}
+use Rattle.clock.specs.declared.Zoned.the-variants.{At}
 use Rattle.reader.specs.Fields as F
 use Rattle.reader.specs.declared.Fields.{Fields}
 

@@ -7,9 +7,9 @@ use borrow.Author.Tests.{lt-ltb, le-ltb, ltb-true, ltb-false, ne-eqb, eqb-true, 
 use lib.Dec.{ltb, eqb, lit<}
 use lib.IntN.{ℤ, pos}
 use Rattle.notation.specs.Choice.{if_then_else_}
-use Rattle.parts.specs.Time.{_or_, hourOf, minuteOf, secondOf, hourOfTwelve, clockHour}
-use Rattle.parts.specs.declared.Value.{Value}
-use Rattle.parts.specs.declared.Value.the-variants.{Is}
+use Rattle.clock.specs.Time.{_or_, hourOf, minuteOf, secondOf, hourOfTwelve, clockHour}
+use Rattle.values.specs.declared.Value.{Value}
+use Rattle.values.specs.declared.Value.the-variants.{Is}
 use Rattle.reader.specs.Fields as F
 use Rattle.reader.specs.declared.Fields.{Fields}
 use Rattle.writer.specs.Pieces.{of12}

@@ -12,7 +12,7 @@ use Rattle.gregorian.specs.Civil.{daysFromCivil}
 use Rattle.gregorian.specs.Gregorian.{Valid, dayNumber, dayNumberℤ}
 use Rattle.gregorian.proofs.Dates.{first-to-last}
 use Rattle.gregorian.proofs.DaysFrom.{civil}
-use Rattle.parts.specs.declared.Offset.the-variants.{Absent}
+use Rattle.clock.specs.declared.Offset.the-variants.{Absent}
 use Rattle.parts.specs.declared.Parts.{Parts}
 use Rattle.instants.specs.Instant.{within, secondsOf, wallOf, lessOffset, roundedTo, instantOf, dayOf}
 use Rattle.instants.specs.Plain.{daysSince1970, microsOfDay, microsSince1970}

@@ -12,8 +12,8 @@ use Rattle.gregorian.specs.Gregorian.{backTo, beforeYear, dayNumberℤ, leap}
 use Rattle.parts.specs.Parts.{partsOf}
 use Rattle.parts.specs.declared.Answer.{Answer}
 use Rattle.parts.specs.declared.Answer.the-variants.{Moment, Refused}
-use Rattle.parts.specs.declared.Offset.{Offset}
-use Rattle.parts.specs.declared.Offset.the-variants.{Absent, East}
+use Rattle.clock.specs.declared.Offset.{Offset}
+use Rattle.clock.specs.declared.Offset.the-variants.{Absent, East}
 use Rattle.parts.specs.declared.Parts.{Parts}
 use Rattle.instants.specs.declared.Day.{Day}
 use Rattle.instants.specs.declared.Day.the-variants.{Number, Refused as NoDay}

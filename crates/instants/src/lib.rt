@@ -7,9 +7,9 @@ ghost use Rattle.instants.specs.Instant.{within, secondsOf, wallOf, less
 ghost use Rattle.instants.specs.Report.{unplacedReport};
 use answers::Refusal;
 use answers::Report;
+use clock::Offset;
 use gregorian::days_from_civil;
 use parts::Answer;
-use parts::Offset;
 use parts::Parts;
 
 // Why there is no instant, or no day.

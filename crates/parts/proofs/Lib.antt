@@ -1,11 +1,3 @@
-mod Held
-mod Fits
-mod Bits
-mod Marks
-mod Offsets
-mod Products
+-- Laws of the parts answer.
 pub mod Ranges
-mod Sums
-mod Tests
-mod Within
 mod Limits

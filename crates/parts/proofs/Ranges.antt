@@ -24,24 +24,25 @@ use Rattle.reader.specs.declared.Reading.{Reading}
 use Rattle.reader.specs.declared.Verdict.{Verdict}
 use Rattle.reader.specs.declared.Verdict.the-variants.{Read, Refused as Stopped}
 use Rattle.template.specs.Template.{nodesOf}
-use Rattle.parts.specs.Days.{monthBit, dayBit, allBits, isSet, outside, partInRange, dayInMonth, dateInRange, datedOf}
+use Rattle.days.specs.Dates.{monthBit, dayBit, allBits, isSet, outside, partInRange, dayInMonth, dateInRange, datedOf}
 use Rattle.parts.specs.Parts.{templateLimit, inputLimit, withOffset, checkedMoment, thenMoment, thenMicros, thenDate, momentOf, thenFields, partsOf}
-use Rattle.parts.specs.Ranges.{Within, OffsetWithin, maskOf, HasDay, InRange, Answered, fieldsOf}
-use Rattle.parts.specs.Time.{below, minuteOf, secondOf, clockHour, microsOf, timeInRange, eastOf, offsetOf, offsetInRange, checkedOffset}
+use Rattle.values.specs.Within.{Within, below}
+use Rattle.parts.specs.Ranges.{OffsetWithin, maskOf, HasDay, InRange, Answered, fieldsOf}
+use Rattle.clock.specs.Time.{minuteOf, secondOf, clockHour, microsOf, timeInRange, eastOf, offsetOf, offsetInRange, checkedOffset}
 use Rattle.parts.specs.declared.Answer.{Answer}
 use Rattle.parts.specs.declared.Answer.the-variants.{Moment, Refused}
-use Rattle.parts.specs.declared.Dated.{Dated}
-use Rattle.parts.specs.declared.Dated.the-variants.{Date, Refused as NoDate}
-use Rattle.parts.specs.declared.Days.{Days}
-use Rattle.parts.specs.declared.Offset.the-variants.{Absent, East}
+use Rattle.days.specs.declared.Dated.{Dated}
+use Rattle.days.specs.declared.Dated.the-variants.{Date, Refused as NoDate}
+use Rattle.days.specs.declared.Days.{Days}
+use Rattle.clock.specs.declared.Offset.the-variants.{Absent, East}
 use Rattle.parts.specs.declared.Parts.{Parts}
-use Rattle.parts.specs.declared.Value.{Value}
-use Rattle.parts.specs.declared.Value.the-variants.{Is, Not}
-use Rattle.parts.specs.declared.Zoned.the-variants.{At, Refused as NoZone}
-use Rattle.parts.proofs.Marks.{Marked, MarkedDate, marked}
-use Rattle.parts.proofs.Offsets.{seconds, east-range, west-range}
-use Rattle.parts.proofs.Tests.{failed, passed}
-use Rattle.parts.proofs.Within.{within, from-zero}
+use Rattle.values.specs.declared.Value.{Value}
+use Rattle.values.specs.declared.Value.the-variants.{Is, Not}
+use Rattle.clock.specs.declared.Zoned.the-variants.{At, Refused as NoZone}
+use Rattle.days.proofs.Marks.{Marked, MarkedDate, marked}
+use Rattle.clock.proofs.Offsets.{seconds, east-range, west-range}
+use Rattle.values.proofs.Tests.{failed, passed}
+use Rattle.values.proofs.Within.{within, from-zero}
 
 -- the numbers of refusals
 pub numbered : (why : Refusal) → (1 ≤ reportOf why .number) × (reportOf why .number ≤ 16)

@@ -28,14 +28,14 @@ use Rattle.strtol.specs.Runs.{leading, numberFrom}
 use Rattle.strtol.specs.Strtol.{strtol}
 use Rattle.template.specs.Template.{kindOf, charPlace, literalAt, plainAt, stepAt, nodesFrom, nodesOf}
 use Rattle.wrapping.specs.Wrap.{wrap32}
-use Rattle.parts.specs.Days.{begun, withJulian, firstOfWeek, withWeek, withMonthWeek, withDayOfYear, datedOf, dateInRange}
+use Rattle.days.specs.Dates.{begun, withJulian, firstOfWeek, withWeek, withMonthWeek, withDayOfYear, datedOf, dateInRange}
 use Rattle.parts.specs.Parts.{checkedMoment, momentOf, partsOf}
-use Rattle.parts.specs.Time.{hourOf, minuteOf, secondOf, hourOfTwelve, clockHour, microsOf, timeInRange, eastOf, offsetOf, offsetInRange, checkedOffset}
-use Rattle.parts.specs.Year.{yearInCentury, firstOfCentury, yearOf}
+use Rattle.clock.specs.Time.{hourOf, minuteOf, secondOf, hourOfTwelve, clockHour, microsOf, timeInRange, eastOf, offsetOf, offsetInRange, checkedOffset}
+use Rattle.days.specs.Year.{yearInCentury, firstOfCentury, yearOf}
 use Rattle.parts.specs.declared.Answer.{Answer}
 use Rattle.parts.specs.declared.Answer.the-variants.{Moment, Refused}
-use Rattle.parts.specs.declared.Offset.{Offset}
-use Rattle.parts.specs.declared.Offset.the-variants.{Absent, East}
+use Rattle.clock.specs.declared.Offset.{Offset}
+use Rattle.clock.specs.declared.Offset.the-variants.{Absent, East}
 
 -- an answer to a template and an input
 abbrev pub reads : String → String → Answer

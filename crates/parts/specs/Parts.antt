@@ -16,18 +16,18 @@ use Rattle.reader.specs.declared.Reading.{Reading}
 use Rattle.reader.specs.declared.Verdict.{Verdict}
 use Rattle.reader.specs.declared.Verdict.the-variants.{Read as Done, Refused as Stopped}
 use Rattle.template.specs.Template.{nodesOf}
-use Rattle.parts.specs.Days.{datedOf, dateInRange}
-use Rattle.parts.specs.Time.{clockHour, minuteOf, secondOf, microsOf, timeInRange, checkedOffset}
+use Rattle.days.specs.Dates.{datedOf, dateInRange}
+use Rattle.clock.specs.Time.{clockHour, minuteOf, secondOf, microsOf, timeInRange, checkedOffset}
 use Rattle.parts.specs.declared.Answer.{Answer}
 use Rattle.parts.specs.declared.Answer.the-variants.{Moment, Refused}
-use Rattle.parts.specs.declared.Dated.{Dated}
-use Rattle.parts.specs.declared.Dated.the-variants.{Date, Refused as NoDate}
-use Rattle.parts.specs.declared.Days.{Days}
+use Rattle.days.specs.declared.Dated.{Dated}
+use Rattle.days.specs.declared.Dated.the-variants.{Date, Refused as NoDate}
+use Rattle.days.specs.declared.Days.{Days}
 use Rattle.parts.specs.declared.Parts.{Parts}
-use Rattle.parts.specs.declared.Value.{Value}
-use Rattle.parts.specs.declared.Value.the-variants.{Is, Not}
-use Rattle.parts.specs.declared.Zoned.{Zoned}
-use Rattle.parts.specs.declared.Zoned.the-variants.{At, Refused as NoZone}
+use Rattle.values.specs.declared.Value.{Value}
+use Rattle.values.specs.declared.Value.the-variants.{Is, Not}
+use Rattle.clock.specs.declared.Zoned.{Zoned}
+use Rattle.clock.specs.declared.Zoned.the-variants.{At, Refused as NoZone}
 
 -- the limits, in bytes
 abbrev pub templateLimit : ℕ

@@ -10,21 +10,15 @@ use Rattle.gregorian.specs.Gregorian.{isLeap}
 use Rattle.reader.specs.Reader.{readAll}
 use Rattle.reader.specs.declared.Fields.{Fields}
 use Rattle.template.specs.Template.{nodesOf}
-use Rattle.parts.specs.Days.{allBits, datedOf}
+use Rattle.days.specs.Dates.{allBits, datedOf}
+use Rattle.values.specs.Within.{Within}
 use Rattle.parts.specs.declared.Answer.{Answer}
 use Rattle.parts.specs.declared.Answer.the-variants.{Moment, Refused}
-use Rattle.parts.specs.declared.Dated.{Dated}
-use Rattle.parts.specs.declared.Dated.the-variants.{Date, Refused as NoDate}
-use Rattle.parts.specs.declared.Offset.{Offset}
-use Rattle.parts.specs.declared.Offset.the-variants.{Absent, East}
+use Rattle.days.specs.declared.Dated.{Dated}
+use Rattle.days.specs.declared.Dated.the-variants.{Date, Refused as NoDate}
+use Rattle.clock.specs.declared.Offset.{Offset}
+use Rattle.clock.specs.declared.Offset.the-variants.{Absent, East}
 use Rattle.parts.specs.declared.Parts.{Parts}
-
--- a whole number from low to high
-pub record Within (low high : ℕ) (z : ℤ) : Type 0 where
-  pub at : ℕ
-  pub is : z ≡ pos at
-  pub from : low ≤ at
-  pub to : at ≤ high
 
 -- an offset, if there is one, lies between 15:59 west and 15:59 east
 abbrev pub OffsetWithin : Offset → Type 0

@@ -1,49 +1,23 @@
 // The parts of a moment from the fields that a template read: do_to_timestamp of PostgreSQL's formatting.c.
-mod checked;
-mod date;
-mod places;
-mod time;
-mod year;
-
 ghost use mathlib.Core.Path.{_≡_};
 ghost use Rattle.parts.specs.Parts.{checkedMoment, momentOf, partsOf, thenFields};
 use answers::Refusal;
-pub use date::begun;
-pub use date::date_in_range;
-pub use date::dated_of;
-pub use date::from_day_of_year;
-pub use date::with_day;
-pub use date::with_day_of_year;
-pub use date::with_julian;
-pub use date::with_month;
-pub use date::with_month_week;
-pub use date::with_week;
+use clock::Offset;
+use clock::Zoned;
+use clock::clock_hour;
+use clock::micros_of;
+use clock::minute_of;
+use clock::offset_of;
+use clock::second_of;
+use clock::time_in_range;
+use days::Dated;
+use days::Days;
+use days::date_in_range;
+use days::dated_of;
 use reader::Fields;
 use reader::Reading;
 use reader::Verdict;
-pub use time::clock_hour;
-pub use time::hour_of;
-pub use time::hour_of_twelve;
-pub use time::micros_of;
-pub use time::minute_of;
-pub use time::offset_of;
-pub use time::second_of;
-pub use time::time_in_range;
-pub use year::first_of_century;
-pub use year::year_in_century;
-pub use year::year_of;
-
-pub enum Offset {
-    Absent,
-    // Seconds east of UTC.
-    East(i32),
-}
-
-// An offset, or why there is none.
-pub enum Zoned {
-    At(Offset),
-    Refused(Refusal),
-}
+use values::Value;
 
 pub struct Parts {
     pub year: i32,
@@ -62,32 +36,14 @@ pub enum Answer {
     Refused(Refusal),
 }
 
-// A number, or why there is none.
-pub enum Value {
-    Is(i32),
-    Not(Refusal),
-}
-
-// The date so far: year, month and day, which of them are set (bits 1, 2 and 4), and the day of the month and of the year that are still to be used.
-pub struct Days {
-    pub year: i32,
-    pub month: i32,
-    pub day: i32,
-    pub set: u8,
-    pub dd: i32,
-    pub ddd: i32,
-}
-
-pub enum Dated {
-    Date(Days),
-    Refused(Refusal),
-}
+// The place of the digits of a second that were asked for.
+const FF: usize = 23;
 
 // The moment, of a date and of hour and microseconds. The checks in order: date, time, offset.
 pub fn checked_moment(f: Fields, r: Days, hour: i32, micros: i32) -> Answer
     ensures { λ a. ⌜ a ≡ checkedMoment f r hour micros ⌝ }
 {
-    let precision = f.values[places::FF];
+    let precision = f.values[FF];
     let minute = minute_of(f);
     let second = second_of(f);
     if !date_in_range(r) {

@@ -4,8 +4,8 @@ ghost use lib.ListN.{length};
 use answers::NO_PATTERN;
 use answers::Refusal;
 use answers::Report;
+use clock::Offset;
 use parts::Answer;
-use parts::Offset;
 use parts::Parts;
 
 // A template and an input at their limits, and the TAB between them.

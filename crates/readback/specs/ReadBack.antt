@@ -11,7 +11,7 @@ use Rattle.instants.specs.declared.Day.the-variants.{Number}
 use Rattle.instants.specs.declared.Instant.the-variants.{Micros}
 use Rattle.parts.specs.Parts.{partsOf, inputLimit}
 use Rattle.parts.specs.declared.Answer.the-variants.{Moment as Accepted}
-use Rattle.parts.specs.declared.Offset.the-variants.{Absent}
+use Rattle.clock.specs.declared.Offset.the-variants.{Absent}
 use Rattle.parts.specs.declared.Parts.{Parts}
 use Rattle.writer.specs.Full.{isFull}
 use Rattle.writer.specs.Moment.{isMoment}

@@ -47,14 +47,13 @@ pub const DOTTED_MARKER: u8 = 15;
 
 // The piece of each pattern in table order, by its letter: A for 1 to O for 15, @ for none.
 const PIECES: [u8; 112] = *b"\
-    @O@N@@@@DC@@@@\
-    @@@@@@@HII@GFE\
-    @@@@JB@@@@@@ON\
-    @@L@K@@@M@@@A@\
-    @@@O@N@@@@DC@@\
-    @@@@@@@HII@GFE\
-    @@@@JB@@@@ON@@\
-    L@K@@@M@@@A@@@";
+    @O@N@@@@DC@@@@@@\
+    @@@@@HII@GFE@@@@\
+    JB@@@@@@ON@@L@K@\
+    @@M@@@A@@@@O@N@@\
+    @@DC@@@@@@@@@HII\
+    @GFE@@@@JB@@@@ON\
+    @@L@K@@@M@@@A@@@";
 
 // The table is laid out once and lent to what writes by it.
 pub fn table() -> [u8; 112]

@@ -4,11 +4,12 @@ use mathlib.Core.Bool.{Bool, true}
 use borrow.Author.Needs.{needs}
 use mir.Facts.{toZ-ofZ}
 use Rattle.wrapping.proofs.Fits.{returned}
-use Rattle.parts.specs.Days.{dateInRange}
+use Rattle.days.specs.Dates.{dateInRange}
 use Rattle.parts.specs.Parts.{checkedMoment}
-use Rattle.parts.specs.Time.{minuteOf, secondOf, timeInRange}
-use Rattle.parts.proofs.Held.{known, fitting}
-use Rattle.parts.proofs.Tests.{failed, passed}
+use Rattle.clock.specs.Time.{minuteOf, secondOf, timeInRange}
+use Rattle.values.proofs.Known.{known}
+use Rattle.days.proofs.Held.{fitting}
+use Rattle.values.proofs.Tests.{failed, passed}
 use Rattle.parts.proofs.checked_moment.Statement.{statement}
 use Rattle.parts.proofs.checked_moment.Tie as tie
 

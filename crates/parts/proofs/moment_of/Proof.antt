@@ -1,12 +1,12 @@
 -- `parts::moment_of` meets its contract. Assumes nothing.
 use mathlib.Core.Path.{_≡_, _∙_, sym}
 use borrow.Author.Needs.{needs}
-use Rattle.parts.specs.Days.{datedOf}
+use Rattle.days.specs.Dates.{datedOf}
 use Rattle.parts.specs.Parts.{momentOf}
-use Rattle.parts.specs.Time.{clockHour, microsOf}
-use Rattle.parts.specs.declared.Dated.{Dated}
-use Rattle.parts.specs.declared.Value.{Value}
-use Rattle.parts.proofs.Fits.{back}
+use Rattle.clock.specs.Time.{clockHour, microsOf}
+use Rattle.days.specs.declared.Dated.{Dated}
+use Rattle.values.specs.declared.Value.{Value}
+use Rattle.values.proofs.Fits.{back}
 use Rattle.parts.proofs.moment_of.Statement.{statement}
 use Rattle.parts.proofs.moment_of.Tie as tie
 

@@ -1,0 +1,2 @@
+-- Laws of offsets.
+pub mod Offsets

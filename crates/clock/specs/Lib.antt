@@ -1,0 +1,2 @@
+-- The time of day and the offset.
+pub mod Time

@@ -1,0 +1,4 @@
+-- Laws of dates.
+pub mod Held
+pub mod Bits
+pub mod Marks

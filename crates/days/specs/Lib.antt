@@ -1,0 +1,3 @@
+-- The date that fields make.
+pub mod Year
+pub mod Dates
