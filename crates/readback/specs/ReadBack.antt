@@ -64,7 +64,7 @@ pub record Back (t : List ℕ) (m : Moment) : Type 0 where
   -- the text is read as the moment that it was written from
   pub read : ReadAs t (textOf t m) m
 
--- demand 3
+-- reading back, for every full template and every moment
 abbrev pub EveryBack : Type 0
 EveryBack = (t : List ℕ) (m : Moment) → isFull t ≡ true → isMoment m ≡ true → Back t m
 
