@@ -14,10 +14,10 @@ abbrev pub report : ℕ → ℕ → ℤ → ℤ → Report
 report number pattern first second = record { number = number; pattern = pattern; first = first; second = second }
 
 -- a number alone, and a number with a pattern
-abbrev alone : ℕ → Report
+abbrev pub alone : ℕ → Report
 alone number = report number noPattern (pos 0) (pos 0)
 
-abbrev at : ℕ → ℕ → Report
+abbrev pub at : ℕ → ℕ → Report
 at pattern number = report number pattern (pos 0) (pos 0)
 
 unfoldable pub reportOf : Refusal → Report

@@ -48,7 +48,7 @@ pub struct Report {
 pub const NO_PATTERN: u8 = 112;
 
 // A number alone.
-fn alone(number: u8) -> Report
+pub fn alone(number: u8) -> Report
     ensures { λ r. ⌜ r ≡ report number noPattern (pos 0) (pos 0) ⌝ }
 {
     Report {
@@ -60,7 +60,7 @@ fn alone(number: u8) -> Report
 }
 
 // A number with a pattern.
-fn at(pattern: u8, number: u8) -> Report
+pub fn at(pattern: u8, number: u8) -> Report
     ensures { λ r. ⌜ r ≡ report number pattern (pos 0) (pos 0) ⌝ }
 {
     Report {
