@@ -1,14 +1,13 @@
 -- The numbers of a moment are small and not negative, and PostgreSQL's calendar gives those of its date. Assumes nothing.
-use mathlib.Core.Path.{_≡_, _∙_, refl, sym, ap}
-use mathlib.Core.Bool.{Bool, true, false, not, _&&_, false≢true}
-use mathlib.Core.List.{List}
-use Prim.Native.Nat.{ℕ, zero, suc, _+_, _-_, _<_, _≤_, _^_}
+use mathlib.Core.Path.{_≡_, _∙_, refl, ap}
+use mathlib.Core.Bool.{Bool, true, not, false≢true}
+use Prim.Native.Nat.{ℕ, zero, suc, _-_, _<_, _≤_, _^_}
 use native.Mathlib.Nat.{lt-of-not-le}
 use native.Mathlib.Omega.{arith}
 use borrow.Author.Tests.{ltb-false, ne-eqb, not-true}
 use lib.Dec.{T, leb, ltb}
 use lib.IntN.{ℤ, pos, negsuc, natAbs}
-use lib.ListN.{getD, length, List·getD-eq-default}
+use lib.ListN.{getD, List·getD-eq-default}
 use lib.Signed.{ltZ, nonNeg}
 use mir.Syntax.{Width, w32}
 use mir.Val.{Fits, hbits, toZ, ofZ}
@@ -94,14 +93,14 @@ numbers m e =
     let second = between 0 59 (m .second) (s .0) in
     let micros = between 0 999999 (m .micros) (s .1) in
     let date : Valid (natAbs (m .year)) (natAbs (m .month)) (natAbs (m .day)) =
-        record {
-          year-from = year .1;
-          year-to = year .2;
-          month-from = month .1;
-          month-to = month .2;
-          day-from = day .1;
-          day-to = omega (arith, month .3);
-        } in
+    record {
+      year-from = year .1;
+      year-to = year .2;
+      month-from = month .1;
+      month-to = month .2;
+      day-from = day .1;
+      day-to = omega (arith, month .3);
+    } in
     let days = length-range (natAbs (m .year)) (natAbs (m .month)) (month .1) (month .2) in
     record {
       year = record { is = year .0; small = omega arith };

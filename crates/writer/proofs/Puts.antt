@@ -6,7 +6,7 @@ use native.Mathlib.Nat.{add-zero, add-suc, suc-add}
 use native.Mathlib.Numerals.{add-one}
 use native.Mathlib.Omega.{arith}
 use lib.ListN.{length, drop, getD, set}
-use lib.Seq.{sets, set-comm, drop-cons, drop-length, length-sets, sets-eq}
+use lib.Seq.{sets, set-comm, drop-cons, drop-length, length-sets}
 use Rattle.strtol.specs.Decimal.{decimal}
 use Rattle.strtol.proofs.Decimals.{decimal-length}
 use Rattle.writer.specs.Output.{Put}

@@ -1,5 +1,5 @@
 -- What the loops over the nodes have left, from a node on. Assumes nothing.
-use mathlib.Core.Path.{_≡_, _∙_, refl, ap}
+use mathlib.Core.Path.{_≡_, _∙_, ap}
 use mathlib.Core.Bool.{true, false}
 use mathlib.Core.List.{List, [], _∷_, _++_}
 use Prim.Native.Nat.{ℕ, _+_, _<_, _≤_}
@@ -47,13 +47,19 @@ module _ (nodes : List Node) (count i : ℕ) (l : count ≤ length nodes) where
     unfolding nodesText
     text-next t m = rw one
 
-    pub size-next : (t : List ℕ) (m : Moment) → length (nodesText t m left) ≡ length (nodeText t m here) + length (nodesText t m next)
+    size-next : (t : List ℕ) (m : Moment) → length (nodesText t m left) ≡ length (nodeText t m here) + length (nodesText t m next)
     size-next t m = ap length (text-next t m) ∙ length-append (nodeText t m here) (nodesText t m next)
 
-    -- once the node is put, putting the rest puts all that was left
-    pub put-next : (t : List ℕ) (m : Moment) {out after : List ℕ} {at r : ℕ} → Put out at (nodeText t m here) after r
-        → sets after r (nodesText t m next) ≡ sets out at (nodesText t m left)
-    put-next t m {out} {after} {at} {r} p = rw (p .is, p .next, text-next t m) (put-after out at (nodeText t m here) (nodesText t m next))
+    -- where there is room for what is left, there is room for the node here
+    pub room-here : (t : List ℕ) (m : Moment) (at room : ℕ) → at + length (nodesText t m left) ≤ room → at + length (nodeText t m here) ≤ room
+    room-here t m at room r = omega (arith, size-next t m)
+
+    -- and once the node is put, for the rest, and putting that puts all that was left
+    pub put-next : (t : List ℕ) (m : Moment) {out after : List ℕ} {at next-at : ℕ} (room : ℕ) → at + length (nodesText t m left) ≤ room
+        → Put out at (nodeText t m here) after next-at
+        → (next-at + length (nodesText t m next) ≤ room) × (sets after next-at (nodesText t m next) ≡ sets out at (nodesText t m left))
+    put-next t m {out} {after} {at} room r p =
+        (omega (arith, size-next t m, p .next), rw (p .is, p .next, text-next t m) (put-after out at (nodeText t m here) (nodesText t m next)))
 
   -- none is left
   module _ (h : count ≤ i) where

@@ -7,8 +7,7 @@ use lib.ListN.{getD, length}
 use Rattle.notation.specs.Choice.{if_then_else_}
 use Rattle.template.specs.Template.{action, character, literal, pattern}
 use Rattle.template.specs.declared.Node.{Node}
-use Rattle.writer.specs.Moment.{moment}
-use Rattle.writer.specs.Pieces.{dottedMarker, pieceOf, pieceText, weekday}
+use Rattle.writer.specs.Pieces.{pieceOf}
 
 -- the bytes of a piece: the digits of a number, two or four of a marker
 abbrev pub pieceLength : ℕ → ℕ

@@ -12,8 +12,8 @@ use crate::pieces::MINUTE;
 use crate::pieces::MONTH;
 use crate::pieces::SECOND;
 use crate::pieces::WEEK;
-use crate::pieces::WEEKDAY;
 use crate::pieces::WEEK_YEAR;
+use crate::pieces::WEEKDAY;
 use crate::pieces::YEAR;
 use crate::pieces::YEAR_DAY;
 

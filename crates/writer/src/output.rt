@@ -1,5 +1,4 @@
 // Texts put into a lent buffer from a place on; the answer is the place behind them.
-ghost use mathlib.Core.Path.{_≡_};
 ghost use Prim.Native.Nat.{_+_, _≤_};
 ghost use lib.ListN.{length};
 ghost use Rattle.strtol.specs.Decimal.{decimal};

@@ -16,18 +16,6 @@ Inv-loop table c i₀ i = (i ≤ c .count) × (firstUnwritten (drop i (take (c .
 abbrev μ-loop : tie.MeasureT-loop
 μ-loop table c i₀ i = c .count - i
 
-loop-holds : tie.Need-loop-holds Inv-loop μ-loop
-loop-holds c = (omega arith, refl)
-
-mul-n : tie.Need-mul-n Inv-loop μ-loop
-mul-n c = search needs
-
-element-copy-out-n : tie.Need-element-copy-out-n Inv-loop μ-loop
-element-copy-out-n c = search needs
-
-is-written-requires : tie.Need-is-written-requires Inv-loop μ-loop
-is-written-requires c κs = c .before .before .before .pre .0
-
 returns : tie.Need-returns Inv-loop μ-loop
 returns c =
     let w = c .before in
@@ -35,12 +23,6 @@ returns c =
     let a = l .before in
     let e = sym (w .is-written .ensures) ∙ not-true _ (c .if1 .taken) in
     sym (unwritten-here (a .args .t2 .nodes) (a .args .t2 .count) (l .loop .i) (a .pre .2) (w .before .before .loop-test .taken) e) ∙ l .loop .inv .1
-
-add-i : tie.Need-add-i Inv-loop μ-loop
-add-i c = search needs
-
-loop-less : tie.Need-loop-less Inv-loop μ-loop
-loop-less c = search needs
 
 loop-again : tie.Need-loop-again Inv-loop μ-loop
 loop-again c =
@@ -62,12 +44,12 @@ first-unwritten-spec =
     (tie.spec
     Inv-loop
     μ-loop
-    loop-holds
-    mul-n
-    element-copy-out-n
-    is-written-requires
+    (λ c. (omega arith, refl))
+    (λ c. search needs)
+    (λ c. search needs)
+    (λ c κs. c .before .before .before .pre .0)
     returns
-    add-i
-    loop-less
+    (λ c. search needs)
+    (λ c. search needs)
     loop-again
     returns-2)

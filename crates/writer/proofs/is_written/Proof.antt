@@ -1,5 +1,4 @@
 -- `writer::is_written` meets its contract: each test that it makes is one of the definition's. Assumes nothing.
-use mathlib.Core.Path.{_∙_, sym}
 use borrow.Author.Needs.{needs}
 use borrow.Author.Tests.{eq-eqb, ne-eqb}
 use Rattle.writer.proofs.is_written.Statement.{statement}

@@ -1,10 +1,9 @@
 -- `writer::put_node` meets its contract. Assumes nothing.
 use mathlib.Core.Path.{_≡_}
-use Prim.Native.Nat.{_+_, _-_, _≤_}
-use native.Mathlib.Omega.{arith}
+use Prim.Native.Nat.{_+_, _-_}
 use borrow.Author.Needs.{needs}
 use denote.Ref.{now}
-use lib.ListN.{length, take, drop}
+use lib.ListN.{take, drop}
 use Rattle.writer.specs.Pieces.{pieceOf, pieceText}
 use Rattle.writer.specs.Text.{nodeText}
 use Rattle.writer.proofs.Lengths.{action-text, literal-part}

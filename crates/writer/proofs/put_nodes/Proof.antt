@@ -1,5 +1,5 @@
 -- `writer::put_nodes` meets its contract: putting the text of the nodes left makes the buffer what it is to be. Assumes nothing.
-use mathlib.Core.Path.{_≡_, _∙_, sym, refl, ap}
+use mathlib.Core.Path.{_≡_, _∙_, refl, ap}
 use mathlib.Core.List.{List}
 use Prim.Native.Nat.{_+_, _-_, _≤_}
 use native.Mathlib.Omega.{arith}
@@ -11,7 +11,7 @@ use Rattle.template.specs.declared.Node.{Node}
 use Rattle.writer.specs.Text.{nodesText, textOf}
 use Rattle.writer.proofs.Own.{Own, own-of}
 use Rattle.writer.proofs.Puts.{put-length}
-use Rattle.writer.proofs.Turns.{put-next, size-next, text-end}
+use Rattle.writer.proofs.Turns.{put-next, room-here, text-end}
 use Rattle.writer.proofs.put_nodes.Statement.{statement}
 use Rattle.writer.proofs.put_nodes.Tie as tie
 
@@ -33,30 +33,15 @@ loop-holds c =
     let e = ap (λ (ns : List Node). nodesText (now (s .args .t)) (s .args .m) ns) (own s .nodes) in
     (omega arith, refl, omega (arith, ap length e, s .pre .4), rw e)
 
-mul-n : tie.Need-mul-n Inv-loop μ-loop
-mul-n c =
-    let o = own (c .before .before .before .before) in
-    search needs
-
-element-copy-out-n : tie.Need-element-copy-out-n Inv-loop μ-loop
-element-copy-out-n c =
-    let o = own (c .before .before .before .before) in
-    search needs
-
 put-node-requires : tie.Need-put-node-requires Inv-loop μ-loop
 put-node-requires c κs =
     let i = c .before .before in
     let l = i .before in
     let s = l .before .before .before in
+    let a = s .args in
     let o = own s in
-    let e = size-next (s .args .t3 .nodes) (s .args .t3 .count) (l .loop .i) (omega arith) (i .loop-test .taken) (now (s .args .t)) (s .args .m) in
-    (s .pre .0, s .pre .3, o .literal (l .loop .i) (i .loop-test .taken), omega (arith, e))
-
-add-i : tie.Need-add-i Inv-loop μ-loop
-add-i c = search needs
-
-loop-less : tie.Need-loop-less Inv-loop μ-loop
-loop-less c = search needs
+    let room = room-here (a .t3 .nodes) (a .t3 .count) (l .loop .i) (omega arith) (i .loop-test .taken) (now (a .t)) (a .m) _ _ (l .loop .inv .2) in
+    (s .pre .0, s .pre .3, o .literal (l .loop .i) (i .loop-test .taken), omega (arith, room))
 
 loop-again : tie.Need-loop-again Inv-loop μ-loop
 loop-again c =
@@ -64,21 +49,20 @@ loop-again c =
     let i = p .before .before .before in
     let l = i .before in
     let s = l .before .before .before in
+    let a = s .args in
     let o = own s in
-    let e = size-next (s .args .t3 .nodes) (s .args .t3 .count) (l .loop .i) (omega arith) (i .loop-test .taken) (now (s .args .t)) (s .args .m) in
-    let r = put-next (s .args .t3 .nodes) (s .args .t3 .count) (l .loop .i) (omega arith) (i .loop-test .taken) (now (s .args .t)) (s .args .m) (p .put-node .ensures) in
-    (omega arith, put-length (p .put-node .ensures) ∙ l .loop .inv .1, omega (arith, e, p .put-node .ensures .next), r ∙ l .loop .inv .3)
-
-same-length : tie.Need-same-length Inv-loop μ-loop
-same-length c = c .before .loop .inv .1
+    let put = p .put-node .ensures in
+    let turn =
+    put-next (a .t3 .nodes) (a .t3 .count) (l .loop .i) (omega arith) (i .loop-test .taken) (now (a .t)) (a .m) _ (l .loop .inv .2) put in
+    (omega arith, put-length put ∙ l .loop .inv .1, turn .0, turn .1 ∙ l .loop .inv .3)
 
 returns : tie.Need-returns Inv-loop μ-loop
 returns c =
     let l = c .before in
     let s = l .before .before .before in
+    let a = s .args in
     let o = own s in
-    let e = text-end (s .args .t3 .nodes) (s .args .t3 .count) (l .loop .i) (omega arith) (c .loop-test .left) (now (s .args .t)) (s .args .m) in
-    (rw e at (l .loop .inv .3))
+    rw (text-end (a .t3 .nodes) (a .t3 .count) (l .loop .i) (omega arith) (c .loop-test .left) (now (a .t)) (a .m)) at (l .loop .inv .3)
 
 pub put-nodes-spec : {M : Type 1} → statement M
 put-nodes-spec =
@@ -87,11 +71,11 @@ put-nodes-spec =
     Inv-loop
     μ-loop
     loop-holds
-    mul-n
-    element-copy-out-n
+    (λ c. let o = own (c .before .before .before .before) in search needs)
+    (λ c. let o = own (c .before .before .before .before) in search needs)
     put-node-requires
-    add-i
-    loop-less
+    (λ c. search needs)
+    (λ c. search needs)
     loop-again
-    same-length
+    (λ c. c .before .loop .inv .1)
     returns)

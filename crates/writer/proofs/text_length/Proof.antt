@@ -1,5 +1,5 @@
 -- `writer::text_length` meets its contract: the length so far and that of the nodes left make the whole. Assumes nothing.
-use mathlib.Core.Path.{_≡_, _∙_, sym, refl}
+use mathlib.Core.Path.{_≡_}
 use Prim.Native.Nat.{_+_, _*_, _-_, _≤_}
 use native.Mathlib.Omega.{arith}
 use borrow.Author.Needs.{needs}
@@ -15,27 +15,6 @@ Inv-loop table c total₀ i₀ total i =
 
 abbrev μ-loop : tie.MeasureT-loop
 μ-loop table c total₀ i₀ total i = c .count - i
-
-loop-holds : tie.Need-loop-holds Inv-loop μ-loop
-loop-holds c = (omega arith, omega arith, omega arith)
-
-mul-n : tie.Need-mul-n Inv-loop μ-loop
-mul-n c = search needs
-
-element-copy-out-n : tie.Need-element-copy-out-n Inv-loop μ-loop
-element-copy-out-n c = search needs
-
-node-length-requires : tie.Need-node-length-requires Inv-loop μ-loop
-node-length-requires c κs = c .before .before .before .pre .0
-
-add-total : tie.Need-add-total Inv-loop μ-loop
-add-total c = search needs
-
-add-i : tie.Need-add-i Inv-loop μ-loop
-add-i c = search needs
-
-loop-less : tie.Need-loop-less Inv-loop μ-loop
-loop-less c = search needs
 
 loop-again : tie.Need-loop-again Inv-loop μ-loop
 loop-again c =
@@ -57,12 +36,12 @@ text-length-spec =
     (tie.spec
     Inv-loop
     μ-loop
-    loop-holds
-    mul-n
-    element-copy-out-n
-    node-length-requires
-    add-total
-    add-i
-    loop-less
+    (λ c. (omega arith, omega arith, omega arith))
+    (λ c. search needs)
+    (λ c. search needs)
+    (λ c κs. c .before .before .before .pre .0)
+    (λ c. search needs)
+    (λ c. search needs)
+    (λ c. search needs)
     loop-again
     returns)
