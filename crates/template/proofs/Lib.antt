@@ -2,3 +2,5 @@
 pub mod Steps
 pub mod Turns
 pub mod Nodes
+pub mod Array
+pub mod Literals

@@ -1,4 +1,26 @@
-// A moment, which the writer will write by a template. Definitions alone so far.
+// Writing a moment by a template.
+mod numbers;
+mod output;
+mod pieces;
+
+ghost use mathlib.Core.Path.{_≡_};
+ghost use mathlib.Core.Bool.{true};
+ghost use Prim.Native.Nat.{_+_, _≤_};
+ghost use lib.ListN.{length, take};
+ghost use lib.Seq.{sets};
+ghost use Rattle.template.specs.Template.{compiledOf};
+ghost use Rattle.writer.specs.Moment.{isMoment};
+ghost use Rattle.writer.specs.Measure.{LiteralWithin, nodeLength, nodesLength};
+ghost use Rattle.writer.specs.Output.{Put};
+ghost use Rattle.writer.specs.Report.{unwrittenReport};
+ghost use Rattle.writer.specs.Tables.{pieceTable};
+ghost use Rattle.writer.specs.Text.{nodeText, textOf};
+ghost use Rattle.writer.specs.Writer.{Wrote, firstUnwritten, isWritten};
+use answers::NO_PATTERN;
+use answers::Report;
+use template::Compiled;
+use template::FN_ACTION;
+use template::Node;
 
 // A moment: seven numbers.
 pub struct Moment {
@@ -9,4 +31,147 @@ pub struct Moment {
     pub minute: i32,
     pub second: i32,
     pub micros: i32,
+}
+
+// Why nothing is written.
+pub enum Unwritten {
+    TooLong,
+    NotUtf8,
+    // The pattern is not known, or it has a prefix or suffix.
+    NotWritten { pattern: u8 },
+    // A year outside 1 to 9999, or no such moment.
+    NoMoment,
+    // The buffer is shorter than the text.
+    NoRoom { needed: u32 },
+}
+
+pub enum Written {
+    Length(usize),
+    Refused(Unwritten),
+}
+
+// By which number a refusal is known, with its pattern and figure.
+pub fn report_of(why: Unwritten) -> Report
+    ensures { λ r. ⌜ r ≡ unwrittenReport why ⌝ }
+{
+    match why {
+        Unwritten::TooLong => answers::alone(1),
+        Unwritten::NotUtf8 => answers::alone(2),
+        Unwritten::NotWritten { pattern } => answers::at(pattern, 19),
+        Unwritten::NoMoment => answers::alone(20),
+        Unwritten::NoRoom { needed } => Report {
+            number: 21,
+            pattern: NO_PATTERN,
+            first: needed as i64,
+            second: 0,
+        },
+    }
+}
+
+fn is_written(table: &[u8; 112], n: Node) -> bool
+    requires { ⌜ now table ≡ pieceTable ⌝ }
+    ensures { λ r. ⌜ r ≡ isWritten n ⌝ }
+{
+    if n.kind != FN_ACTION {
+        return true;
+    }
+    if pieces::piece_of(table, n.pattern) == pieces::NONE {
+        return false;
+    }
+    n.suffix == 0
+}
+
+// The first pattern that is not written.
+fn first_unwritten(table: &[u8; 112], c: Compiled) -> u8
+    requires { ⌜ (now table ≡ pieceTable) × (c .count ≤ 257) × (c .count ≤ length (c .nodes)) ⌝ }
+    ensures { λ r. ⌜ r ≡ firstUnwritten (take (c .count) (c .nodes)) ⌝ }
+{
+    let mut i = 0;
+    while i < c.count {
+        let n = c.nodes[i];
+        if !is_written(table, n) {
+            return n.pattern;
+        }
+        i += 1;
+    }
+    NO_PATTERN
+}
+
+fn node_length(table: &[u8; 112], n: Node) -> usize
+    requires { ⌜ now table ≡ pieceTable ⌝ }
+    ensures { λ r. ⌜ (r ≡ nodeLength n) × (r ≤ 255) ⌝ }
+{
+    if n.kind == FN_ACTION {
+        return pieces::piece_length(pieces::piece_of(table, n.pattern));
+    }
+    n.len as usize
+}
+
+// The length of the text.
+fn text_length(table: &[u8; 112], c: Compiled) -> usize
+    requires { ⌜ (now table ≡ pieceTable) × (c .count ≤ 257) × (c .count ≤ length (c .nodes)) ⌝ }
+    ensures { λ r. ⌜ (r ≡ nodesLength (take (c .count) (c .nodes))) × (r ≤ 65535) ⌝ }
+{
+    let mut total = 0;
+    let mut i = 0;
+    while i < c.count {
+        let n = c.nodes[i];
+        total += node_length(table, n);
+        i += 1;
+    }
+    total
+}
+
+fn put_node(table: &[u8; 112], t: &[u8], n: Node, m: Moment, out: &mut [u8], at: usize) -> usize
+    requires { ⌜ (now table ≡ pieceTable) × (isMoment m ≡ true) × LiteralWithin (now t) n × (at + length (nodeText (now t) m n) ≤ length (now out)) ⌝ }
+    ensures { λ r. ⌜ Put (now (out .entry)) at (nodeText (now (t .entry)) m n) (now (out .exit)) r ⌝ }
+{
+    if n.kind == FN_ACTION {
+        return pieces::put_piece(pieces::piece_of(table, n.pattern), m, out, at);
+    }
+    let start = n.start as usize;
+    let end = start + n.len as usize;
+    output::put_bytes(&t[start..end], out, at)
+}
+
+fn put_nodes(table: &[u8; 112], t: &[u8], c: Compiled, m: Moment, out: &mut [u8])
+    requires { ⌜ (now table ≡ pieceTable) × (length (now t) ≤ 256) × (c ≡ compiledOf (now t)) × (isMoment m ≡ true) × (length (textOf (now t) m) ≤ length (now out)) ⌝ }
+    ensures { λ r. ⌜ now (out .exit) ≡ sets (now (out .entry)) 0 (textOf (now (t .entry)) m) ⌝ }
+{
+    let mut at = 0;
+    let mut i = 0;
+    while i < c.count {
+        let n = c.nodes[i];
+        at = put_node(table, t, n, m, out, at);
+        i += 1;
+    }
+}
+
+// Writes the text of a moment into the buffer. What stands behind the text stays; on refusal the whole buffer does.
+pub fn write(t: &[u8], m: Moment, out: &mut [u8]) -> Written
+    ensures { λ r. ⌜ Wrote (now (t .entry)) m (now (out .entry)) (now (out .exit)) r ⌝ }
+{
+    if t.len() > 256 {
+        return Written::Refused(Unwritten::TooLong);
+    }
+    if !chars::is_utf8(t) {
+        return Written::Refused(Unwritten::NotUtf8);
+    }
+    let c = template::parse_format(t);
+    let table = pieces::table();
+    let unwritten = first_unwritten(&table, c);
+    if unwritten < NO_PATTERN {
+        return Written::Refused(Unwritten::NotWritten { pattern: unwritten });
+    }
+    if !numbers::is_moment(m) {
+        return Written::Refused(Unwritten::NoMoment);
+    }
+    let needed = text_length(&table, c);
+    if out.len() < needed {
+        return Written::Refused(Unwritten::NoRoom {
+            needed: needed as u32,
+        });
+    }
+    put_nodes(&table, t, c, m, out);
+    Written::Length(needed)
 }

@@ -1,0 +1,9 @@
+-- Laws of writing.
+pub mod Puts
+pub mod PieceTable
+pub mod Lengths
+pub mod Moments
+mod Held
+mod Turns
+mod Own
+mod Answers

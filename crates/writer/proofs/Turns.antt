@@ -1,0 +1,79 @@
+-- What the loops over the nodes have left, from a node on. Assumes nothing.
+use mathlib.Core.Path.{_≡_, _∙_, ap}
+use mathlib.Core.Bool.{true, false}
+use mathlib.Core.List.{List, [], _∷_, _++_}
+use Prim.Native.Nat.{ℕ, _+_, _<_, _≤_}
+use native.Mathlib.Numerals.{add-one}
+use native.Mathlib.Omega.{arith}
+use lib.ListN.{length, take, drop, getD, drop-of-length-le, length-append}
+use lib.Seq.{drop-cons, getD-take, length-take-le, sets}
+use Rattle.template.specs.Template.{endNode}
+use Rattle.template.specs.declared.Node.{Node}
+use Rattle.writer.specs.Measure.{nodeLength, nodesLength}
+use Rattle.writer.specs.Output.{Put}
+use Rattle.writer.specs.Text.{nodeText, nodesText}
+use Rattle.writer.specs.Writer.{firstUnwritten, isWritten}
+use Rattle.writer.specs.declared.Moment.{Moment}
+use Rattle.writer.proofs.Puts.{put-after}
+
+module _ (nodes : List Node) (count i : ℕ) (l : count ≤ length nodes) where
+  abbrev left : List Node
+  left = drop i (take count nodes)
+
+  abbrev here : Node
+  here = getD nodes i endNode
+
+  abbrev next : List Node
+  next = drop (i + 1) (take count nodes)
+
+  -- a node is left
+  module _ (h : i < count) where
+    one : left ≡ here ∷ next
+    one = drop-cons (take count nodes) i endNode (rw (length-take-le count nodes l) h) ∙ rw (getD-take count nodes i endNode h, add-one i)
+
+    pub unwritten-here : isWritten here ≡ false → firstUnwritten left ≡ here .pattern
+    unfolding firstUnwritten
+    unwritten-here e = rw (one, e)
+
+    pub unwritten-next : isWritten here ≡ true → firstUnwritten left ≡ firstUnwritten next
+    unfolding firstUnwritten
+    unwritten-next e = rw (one, e)
+
+    pub length-next : nodesLength left ≡ nodeLength here + nodesLength next
+    unfolding nodesLength
+    length-next = rw one
+
+    pub text-next : (t : List ℕ) (m : Moment) → nodesText t m left ≡ nodeText t m here ++ nodesText t m next
+    unfolding nodesText
+    text-next t m = rw one
+
+    size-next : (t : List ℕ) (m : Moment) → length (nodesText t m left) ≡ length (nodeText t m here) + length (nodesText t m next)
+    size-next t m = ap length (text-next t m) ∙ length-append (nodeText t m here) (nodesText t m next)
+
+    -- where there is room for what is left, there is room for the node here
+    pub room-here : (t : List ℕ) (m : Moment) (at room : ℕ) → at + length (nodesText t m left) ≤ room → at + length (nodeText t m here) ≤ room
+    room-here t m at room r = omega (arith, size-next t m)
+
+    -- and once the node is put, for the rest, and putting that puts all that was left
+    pub put-next : (t : List ℕ) (m : Moment) {out after : List ℕ} {at next-at : ℕ} (room : ℕ) → at + length (nodesText t m left) ≤ room
+        → Put out at (nodeText t m here) after next-at
+        → (next-at + length (nodesText t m next) ≤ room) × (sets after next-at (nodesText t m next) ≡ sets out at (nodesText t m left))
+    put-next t m {out} {after} {at} room r p =
+        (omega (arith, size-next t m, p .next), rw (p .is, p .next, text-next t m) (put-after out at (nodeText t m here) (nodesText t m next)))
+
+  -- none is left
+  module _ (h : count ≤ i) where
+    none : left ≡ []
+    none = drop-of-length-le (take count nodes) {i = i} (omega (arith, length-take-le count nodes l))
+
+    pub unwritten-end : firstUnwritten left ≡ 112
+    unfolding firstUnwritten
+    unwritten-end = rw none
+
+    pub length-end : nodesLength left ≡ 0
+    unfolding nodesLength
+    length-end = rw none
+
+    pub text-end : (t : List ℕ) (m : Moment) → nodesText t m left ≡ []
+    unfolding nodesText
+    text-end t m = rw none
