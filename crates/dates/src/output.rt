@@ -1,34 +1,36 @@
-// The answer to a line. Each function puts its part at `at` and gives the place after it.
+// The parts of an answer. Each function puts its part at `at` and gives the place after it.
 ghost use Prim.Native.Nat.{_≤_, max};
 ghost use lib.ListN.{length};
 use answers::NO_PATTERN;
-use answers::Refusal;
 use answers::Report;
-use parts::Answer;
 use parts::Offset;
 use parts::Parts;
 
-// A template and an input at their limits, and the TAB between them.
-const LINE: usize = 769;
-
-fn put_number(out: &mut [u8], at: usize, value: i64) -> usize
+pub fn put_number(out: &mut [u8], at: usize, value: i64) -> usize
     ensures { λ r. ⌜ r ≤ max at (length (now (out .entry))) ⌝ }
 {
     let next = lines::put_byte(out, at, b' ');
     lines::put_decimal(out, next, value)
 }
 
-fn put_int(out: &mut [u8], at: usize, value: i32) -> usize
+pub fn put_int(out: &mut [u8], at: usize, value: i32) -> usize
     ensures { λ r. ⌜ r ≤ max at (length (now (out .entry))) ⌝ }
 {
     put_number(out, at, value as i64)
+}
+
+pub fn put_word(out: &mut [u8], at: usize, word: &[u8]) -> usize
+    ensures { λ r. ⌜ r ≤ max at (length (now (out .entry))) ⌝ }
+{
+    let next = lines::put_byte(out, at, b' ');
+    lines::put_bytes(out, next, word)
 }
 
 fn put_offset(out: &mut [u8], at: usize, offset: Offset) -> usize
     ensures { λ r. ⌜ r ≤ max at (length (now (out .entry))) ⌝ }
 {
     match offset {
-        Offset::Absent => lines::put_bytes(out, at, b" none"),
+        Offset::Absent => put_word(out, at, b"none"),
         Offset::East(seconds) => put_int(out, at, seconds),
     }
 }
@@ -50,28 +52,22 @@ fn put_time(out: &mut [u8], at: usize, p: Parts) -> usize
     put_int(out, second, p.micros)
 }
 
-fn put_moment(out: &mut [u8], at: usize, p: Parts) -> usize
+pub fn put_parts(out: &mut [u8], at: usize, p: Parts) -> usize
     ensures { λ r. ⌜ r ≤ max at (length (now (out .entry))) ⌝ }
 {
-    let number = lines::put_byte(out, at, b'0');
+    let number = put_accepted(out, at);
     let date = put_date(out, number, p);
-    put_time(out, date, p)
-}
-
-fn put_parts(out: &mut [u8], at: usize, p: Parts) -> usize
-    ensures { λ r. ⌜ r ≤ max at (length (now (out .entry))) ⌝ }
-{
-    let moment = put_moment(out, at, p);
-    let precision = put_int(out, moment, p.precision);
+    let time = put_time(out, date, p);
+    let precision = put_int(out, time, p.precision);
     let offset = p.offset;
     put_offset(out, precision, offset)
 }
 
-fn put_word(out: &mut [u8], at: usize, word: &[u8]) -> usize
+// The number of what is no refusal.
+pub fn put_accepted(out: &mut [u8], at: usize) -> usize
     ensures { λ r. ⌜ r ≤ max at (length (now (out .entry))) ⌝ }
 {
-    let next = lines::put_byte(out, at, b' ');
-    lines::put_bytes(out, next, word)
+    lines::put_byte(out, at, b'0')
 }
 
 // The name that fills a row up to a space.
@@ -87,46 +83,18 @@ fn put_pattern(out: &mut [u8], at: usize, pattern: u8) -> usize
     ensures { λ r. ⌜ r ≤ max at (length (now (out .entry))) ⌝ }
 {
     if pattern >= NO_PATTERN {
-        return lines::put_bytes(out, at, b" -");
+        return put_word(out, at, b"-");
     }
     let names = patterns::dch_names();
     let from = 5 * pattern as usize;
     put_name(out, at, &names[from..from + 5])
 }
 
-fn put_report(out: &mut [u8], at: usize, r: Report) -> usize
+pub fn put_report(out: &mut [u8], at: usize, r: Report) -> usize
     ensures { λ r. ⌜ r ≤ max at (length (now (out .entry))) ⌝ }
 {
     let number = lines::put_decimal(out, at, r.number as i64);
     let pattern = put_pattern(out, number, r.pattern);
     let first = put_number(out, pattern, r.first);
     put_number(out, first, r.second)
-}
-
-fn put_answer(out: &mut [u8], at: usize, answer: Answer) -> usize
-    ensures { λ r. ⌜ r ≤ max at (length (now (out .entry))) ⌝ }
-{
-    match answer {
-        Answer::Moment(p) => put_parts(out, at, p),
-        Answer::Refused(why) => put_report(out, at, answers::report_of(why)),
-    }
-}
-
-// The line is cut at its first TAB; without one the input is empty. `long` says that its beginning was left off.
-pub fn answer(line: &[u8], long: bool, out: &mut [u8], at: usize) -> usize
-    ensures { λ r. ⌜ r ≤ max at (length (now (out .entry))) ⌝ }
-{
-    let cut = lines::find(line, 0, b'\t');
-    let len = line.len();
-    if long || LINE < len {
-        return put_report(out, at, answers::report_of(Refusal::TooLong));
-    }
-    if cut < len {
-        return put_answer(
-            out,
-            at,
-            parts::to_timestamp_parts(&line[0..cut], &line[cut + 1..]),
-        );
-    }
-    put_answer(out, at, parts::to_timestamp_parts(line, b""))
 }

@@ -1,13 +1,20 @@
-// Reads lines "template TAB input" and answers each with a line: the parts of the moment that the template reads, or the refusal.
+// Reads lines and answers each with a line, by the mode that the first argument names.
 mod answer;
+mod modes;
+mod output;
+mod reading;
+mod writing;
 
 ghost use Prim.Native.Nat.{_≤_, _<_};
 ghost use lib.ListN.{length};
+use libc::STDERR_FILENO;
 use libc::STDIN_FILENO;
 use libc::STDOUT_FILENO;
+use modes::Choice;
+use modes::Mode;
 
-// Room for any answer.
-const LONGEST: usize = 256;
+// Room for any answer: the longest is a 0, a space, a text of 512 bytes and the newline.
+const LONGEST: usize = 515;
 
 // Where the answers to the lines of a text end: in the text, and in the buffer. `long` says that the next line began before the text.
 struct Answered {
@@ -47,17 +54,17 @@ fn make_room(out: &[u8], at: usize) -> usize
 }
 
 // Answers one line.
-fn answer_line(line: &[u8], long: bool, out: &mut [u8], at: usize) -> usize
+fn answer_line(mode: Mode, line: &[u8], long: bool, out: &mut [u8], at: usize) -> usize
     requires { ⌜ at ≤ length (now out) ⌝ }
     ensures { λ r. ⌜ r ≤ length (now (out .exit)) ⌝ }
 {
     let start = make_room(out, at);
-    let end = answer::answer(line, long, out, start);
+    let end = answer::answer(mode, line, long, out, start);
     lines::put_byte(out, end, b'\n')
 }
 
 // Answers the lines that end in a text.
-fn answer_lines(text: &[u8], long: bool, out: &mut [u8], at: usize) -> Answered
+fn answer_lines(mode: Mode, text: &[u8], long: bool, out: &mut [u8], at: usize) -> Answered
     requires { ⌜ at ≤ length (now out) ⌝ }
     ensures { λ r. ⌜ r .at ≤ length (now (out .exit)) ⌝ }
 {
@@ -65,7 +72,7 @@ fn answer_lines(text: &[u8], long: bool, out: &mut [u8], at: usize) -> Answered
     let mut end = lines::find(text, 0, b'\n');
     while end < text.len() {
         let from = s.from;
-        let next = answer_line(&text[from..end], s.long, out, s.at);
+        let next = answer_line(mode, &text[from..end], s.long, out, s.at);
         s = Answered {
             from: end + 1,
             at: next,
@@ -77,7 +84,7 @@ fn answer_lines(text: &[u8], long: bool, out: &mut [u8], at: usize) -> Answered
 }
 
 // Reads once and answers the lines that end there. At the end of the input no read is left.
-fn turn(input: &mut [u8], out: &mut [u8], s: State) -> State
+fn turn(mode: Mode, input: &mut [u8], out: &mut [u8], s: State) -> State
     requires { ⌜ (s .kept ≤ length (now input)) × (s .at ≤ length (now out)) × (0 < s .reads) ⌝ }
     ensures { λ r. ⌜ (r .kept ≤ length (now (input .exit))) × (r .at ≤ length (now (out .exit))) × (r .reads < s .reads) ⌝ }
 {
@@ -91,7 +98,7 @@ fn turn(input: &mut [u8], out: &mut [u8], s: State) -> State
             reads: 0,
         };
     }
-    let a = answer_lines(&input[0..end], s.long, out, s.at);
+    let a = answer_lines(mode, &input[0..end], s.long, out, s.at);
     let k = lines::keep(input, a.from, end, a.long);
     State {
         kept: k.count,
@@ -102,20 +109,20 @@ fn turn(input: &mut [u8], out: &mut [u8], s: State) -> State
 }
 
 // Answers the last line, where it has no newline.
-fn answer_last(line: &[u8], long: bool, out: &mut [u8], at: usize) -> usize
+fn answer_last(mode: Mode, line: &[u8], long: bool, out: &mut [u8], at: usize) -> usize
     requires { ⌜ at ≤ length (now out) ⌝ }
     ensures { λ r. ⌜ r ≤ length (now (out .exit)) ⌝ }
 {
     if long {
-        return answer_line(line, true, out, at);
+        return answer_line(mode, line, true, out, at);
     }
     if line.len() == 0 {
         return at;
     }
-    answer_line(line, false, out, at)
+    answer_line(mode, line, false, out, at)
 }
 
-fn answer_all(input: &mut [u8], out: &mut [u8]) {
+fn answer_all(mode: Mode, input: &mut [u8], out: &mut [u8]) {
     let mut s = State {
         kept: 0,
         long: false,
@@ -123,15 +130,22 @@ fn answer_all(input: &mut [u8], out: &mut [u8]) {
         reads: u64::MAX,
     };
     while s.reads > 0 {
-        s = turn(input, out, s);
+        s = turn(mode, input, out, s);
     }
     let kept = s.kept;
-    let end = answer_last(&input[0..kept], s.long, out, s.at);
+    let end = answer_last(mode, &input[0..kept], s.long, out, s.at);
     io::write_all(STDOUT_FILENO, &out[0..end]);
 }
 
 fn main() {
+    let Choice::Of(mode) = modes::chosen() else {
+        io::write_all(
+            STDERR_FILENO,
+            b"dates: the first argument is parts, instants, days or write\n",
+        );
+        return;
+    };
     let mut input = io::large_buffer();
     let mut output = io::large_buffer();
-    answer_all(&mut input, &mut output);
+    answer_all(mode, &mut input, &mut output);
 }

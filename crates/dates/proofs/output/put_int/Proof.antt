@@ -1,9 +1,9 @@
--- `read_dates::answer::put_int` is safe: a number of 32 bits is one of 64. Assumes nothing.
+-- `dates::output::put_int` is safe: a number of 32 bits is one of 64. Assumes nothing.
 use borrow.Author.Needs.{needs}
 use mir.Facts.{toZ-ofZ, sfits-widen}
 use mir.Syntax.{w32, w64}
-use Rattle.read_dates.proofs.answer.put_int.Statement.{statement}
-use Rattle.read_dates.proofs.answer.put_int.Tie as tie
+use Rattle.dates.proofs.output.put_int.Statement.{statement}
+use Rattle.dates.proofs.output.put_int.Tie as tie
 
 cast-put-number : tie.Need-cast-put-number
 cast-put-number c = let f = c .before .before .fits .value in rw (toZ-ofZ f) (sfits-widen {w = w32} {w′ = w64} tt f)
