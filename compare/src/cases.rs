@@ -1,13 +1,53 @@
 //! Known answers: they show that the stand-ins serve and that errors are told apart.
 
-use crate::formatting::answers::{answer, line};
-use crate::{hex, known};
+use crate::formatting::answers::{answer, back, cut, date, instant, line, parts, patterns, written};
+use crate::random::Random;
+use crate::{hex, known, moments};
+use std::collections::{HashMap, HashSet};
+
+fn shown(text: &[u8]) -> String {
+    String::from_utf8_lossy(text).to_string()
+}
 
 #[test]
-fn parts() {
+fn known_parts() {
     for (text, expected) in known::lines() {
-        assert_eq!(line(&text), expected, "{}", String::from_utf8_lossy(&text));
+        assert_eq!(line(&text, parts), expected, "{}", shown(&text));
     }
+}
+
+#[test]
+fn known_instants_and_days() {
+    for (text, of_instant, of_day) in known::readings::lines() {
+        assert_eq!(line(&text, instant), of_instant, "{}", shown(&text));
+        assert_eq!(line(&text, date), of_day, "{}", shown(&text));
+    }
+}
+
+#[test]
+fn known_texts() {
+    for (text, expected) in known::moments::lines() {
+        assert_eq!(line(&text, written), expected, "{}", shown(&text));
+    }
+}
+
+/// What is written by a full template is read back, by the module itself.
+#[test]
+fn read_back() {
+    let mut random = Random::new(1);
+    let mut count = 0;
+    for asked in (0..20_000).map(|_| moments::line(&mut random)) {
+        let wanted = back(&asked);
+        let [days, micros, moment] = wanted.rsplitn(3, ' ').collect::<Vec<_>>()[..] else { continue };
+        let text = line(&asked, written);
+        let (template, _) = cut(&asked);
+        let text = text[2..].as_bytes();
+        assert_eq!(parts(template, text), format!("0 {moment} 0 none"), "{}", shown(&asked));
+        assert_eq!(instant(template, text), format!("0 {micros}"), "{}", shown(&asked));
+        assert_eq!(date(template, text), format!("0 {days}"), "{}", shown(&asked));
+        count += 1;
+    }
+    assert!(count > 13_000, "{count}");
 }
 
 /// Every refusal of a line has at least five causes.
@@ -19,19 +59,24 @@ fn causes() {
     }
 }
 
+/// The full templates of the stored list have every group of patterns, and in each group every pattern before every other.
 #[test]
-fn moments() {
-    for (question, template, input, expected) in [
-        ("date", "YYYY-MM-DD", "1970-01-02", "0 1"),
-        ("date", "YYYY-MM-DD", "5881580-07-10", "0 2147483646"),
-        ("date", "YYYY-MM-DD", "5881580-07-11", "18 - 0 0"),
-        ("timestamp", "YYYY-MM-DD TZH", "1970-01-01 -01", "0 3600000000"),
-        ("timestamp", "YYYY-MM-DD HH24:MI:SS.FF1", "1999-12-31 23:59:59.95", "0 946684799900000"),
-        ("timestamp", "YYYY", "294247", "0 9223371244800000000"),
-        ("timestamp", "YYYY", "294248", "17 - 0 0"),
-    ] {
-        let (template, input) = (hex::encode(template.as_bytes()), hex::encode(input.as_bytes()));
-        assert_eq!(answer(&format!("{question} {template} {input}")), expected);
+fn orders() {
+    let mut random = Random::new(1970);
+    let mut groups: HashMap<Vec<String>, HashSet<[String; 2]>> = HashMap::new();
+    for asked in (0..3000).map(|_| moments::line(&mut random)).filter(|asked| back(asked) != "-") {
+        let order = patterns(cut(&asked).0);
+        let mut group = order.clone();
+        group.sort();
+        let pairs = order
+            .iter()
+            .enumerate()
+            .flat_map(|(at, first)| order[at + 1..].iter().map(move |second| [first.clone(), second.clone()]));
+        groups.entry(group).or_default().extend(pairs);
+    }
+    assert_eq!(groups.len(), 9);
+    for (group, pairs) in groups {
+        assert_eq!(pairs.len(), group.len() * (group.len() - 1), "{group:?}");
     }
 }
 
@@ -45,7 +90,7 @@ fn nodes() {
 }
 
 #[test]
-fn written() {
+fn to_char() {
     let template = hex::encode(b"YYYY-MM-DD HH24:MI:SS.US Day IW");
     let text = hex::decode(&answer(&format!("to_char 1709219045000006 {template}")));
     assert_eq!(std::str::from_utf8(&text), Ok("2024-02-29 15:04:05.000006 Thursday  09"));

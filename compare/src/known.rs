@@ -1,4 +1,7 @@
-//! Lines of which the answer is known: the stored list begins with them, and a test compares the module's answers.
+//! Lines of which the answer is known: the stored lists begin with them, and tests compare the module's answers.
+
+pub mod moments;
+pub mod readings;
 
 /// A template, an input, and the answer.
 type Known = (&'static str, &'static str, &'static str);

@@ -32,6 +32,12 @@ impl Random {
         from[self.below(from.len())]
     }
 
+    pub fn shuffle<T>(&mut self, list: &mut [T]) {
+        for last in (1..list.len()).rev() {
+            list.swap(last, self.below(last + 1));
+        }
+    }
+
     /// Bytes from `alphabet`, at most `most` of them.
     pub fn bytes(&mut self, alphabet: &[u8], most: usize) -> Vec<u8> {
         let length = self.below(most + 1);

@@ -7,9 +7,13 @@ use std::str::FromStr;
 
 mod fields;
 mod reading;
+mod writing;
 
 pub use fields::fields;
-pub use reading::line;
+pub use reading::{cut, date, instant, line, parts};
+#[cfg(test)]
+pub use writing::patterns;
+pub use writing::{back, written};
 
 pub fn answer(question: &str) -> String {
     let words: Vec<&str> = question.split(' ').collect();
@@ -35,7 +39,7 @@ pub fn answer(question: &str) -> String {
         ["parts", template, input] => reading::parts(&hex::decode(template), &hex::decode(input)),
         ["timestamp", template, input] => reading::instant(&hex::decode(template), &hex::decode(input)),
         ["date", template, input] => reading::date(&hex::decode(template), &hex::decode(input)),
-        ["to_char", micros, template] => written(number(micros), &hex::decode(template)),
+        ["to_char", micros, template] => to_char(number(micros), &hex::decode(template)),
         _ => panic!("no such question: {question}"),
     }
 }
@@ -96,8 +100,7 @@ fn nodes(template: &[u8]) -> String {
 }
 
 /// What to_char writes for microseconds since 1970-01-01; `-` also where it gives NULL.
-fn written(micros: i64, template: &[u8]) -> String {
+fn to_char(micros: i64, template: &[u8]) -> String {
     let template = std::str::from_utf8(template).expect("a template in UTF-8");
-    let text = to_char_timestamp(micros, template).expect("a date pattern writes every timestamp");
-    hex::encode(text.unwrap_or_default().as_bytes())
+    hex::encode(writing::to_char(template, micros).as_bytes())
 }

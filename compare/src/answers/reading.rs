@@ -3,16 +3,16 @@
 use super::*;
 use std::fmt;
 
-const TEMPLATE_LIMIT: usize = 256;
-const INPUT_LIMIT: usize = 512;
+pub const TEMPLATE_LIMIT: usize = 256;
+pub const INPUT_LIMIT: usize = 512;
 
-/// The answer of the line program to one line, "template TAB input".
-pub fn line(line: &[u8]) -> String {
+/// The answer of the line program to one line, "template TAB input", where `answer` answers a template and an input.
+pub fn line(line: &[u8], answer: impl Fn(&[u8], &[u8]) -> String) -> String {
     if line.len() > TEMPLATE_LIMIT + 1 + INPUT_LIMIT {
         return Refusal::plain(1).to_string();
     }
     let (template, input) = cut(line);
-    parts(template, input)
+    answer(template, input)
 }
 
 /// The template and the input of a line: cut at the first TAB; without one the input is empty.
@@ -62,14 +62,14 @@ fn read<T>(
 }
 
 /// A refusal: its number, the pattern as the template spells it, two figures.
-struct Refusal {
-    number: u8,
-    pattern: Option<String>,
-    figures: [i64; 2],
+pub struct Refusal {
+    pub number: u8,
+    pub pattern: Option<String>,
+    pub figures: [i64; 2],
 }
 
 impl Refusal {
-    fn plain(number: u8) -> Refusal {
+    pub fn plain(number: u8) -> Refusal {
         Refusal { number, pattern: None, figures: [0, 0] }
     }
 }

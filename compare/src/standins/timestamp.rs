@@ -9,7 +9,7 @@ fn is_leap(year: i64) -> bool {
     year.rem_euclid(4) == 0 && (year.rem_euclid(100) != 0 || year.rem_euclid(400) == 0)
 }
 
-fn month_lengths(year: i64) -> [i64; 12] {
+pub fn month_lengths(year: i64) -> [i64; 12] {
     let february = if is_leap(year) { 29 } else { 28 };
     [31, february, 31, 30, 31, 30, 31, 31, 30, 31, 30, 31]
 }
@@ -26,7 +26,7 @@ pub fn days_from_civil(year: i64, month: i64, day: i64) -> i64 {
     days_before_year(year) - days_before_year(1970) + before_month + day - 1
 }
 
-fn civil_from_days(days: i64) -> (i64, i64, i64) {
+pub fn civil_from_days(days: i64) -> (i64, i64, i64) {
     let from_year_0 = days + days_before_year(1970);
     let mut year = (from_year_0 * 400).div_euclid(146_097);
     while days_before_year(year) > from_year_0 {

@@ -5,3 +5,4 @@ mod Hex
 pub mod Magnitude
 mod Moves
 mod Places
+mod Narrow

@@ -5,14 +5,17 @@ use mathlib.Core.List.{List, [], _∷_, map}
 use Prim.Native.Nat.{ℕ, _+_, _-_, _*_}
 use Prim.Native.Char.{code}
 use lib.Dec.{eqb, ltb}
-use lib.IntN.{pos, negsuc}
+use lib.IntN.{ℤ, pos, negsuc}
 use lib.ListN.{length}
+use lib.Signed.{ltZ}
 use Rattle.notation.specs.Choice.{if_then_else_}
 use Rattle.notation.specs.Text.{utf8}
 use Rattle.chars.specs.Class.{classOf}
 use Rattle.chars.specs.Range.{_‥_, _∈_}
 use Rattle.strtol.specs.Runs.{leading, numberFrom}
 use Rattle.strtol.specs.Strtol.{strtol}
+use Rattle.lines.specs.declared.words.Int.{Int}
+use Rattle.lines.specs.declared.words.Int.the-variants.{Value as Whole, Malformed as NoInt}
 use Rattle.lines.specs.declared.words.Number.{Number}
 use Rattle.lines.specs.declared.words.Number.the-variants.{Value, Malformed}
 
@@ -21,6 +24,17 @@ unfoldable pub numberOf : List ℕ → Number
 numberOf word =
     let n = strtol word 0 in
     if n .overflow || eqb (n .end) 0 || not (eqb (n .end) (length word)) then Malformed else Value (n .value)
+
+-- a number of 32 bits, and a word that is one
+unfoldable pub narrowed : ℤ → Int
+narrowed z = if ltZ z (negsuc 2147483647) || ltZ (pos 2147483647) z then NoInt else Whole z
+
+unfoldable pub narrow : Number → Int
+narrow (Value z) = narrowed z
+narrow Malformed = NoInt
+
+abbrev pub intOf : List ℕ → Int
+intOf word = narrow (numberOf word)
 
 -- the value of a hexadecimal digit, 16 for any other byte
 unfoldable pub hexDigit : ℕ → ℕ
@@ -42,6 +56,12 @@ pub numbers
     ≡ Value (pos 2024) ∷ Value (negsuc 6) ∷ Malformed ∷ Malformed ∷ Malformed ∷ Malformed ∷ []
 unfolding numberOf strtol leading numberFrom classOf
 numbers = refl
+
+pub ints
+    : map intOf (utf8 "2147483647" ∷ utf8 "2147483648" ∷ utf8 "-2147483648" ∷ utf8 "-2147483649" ∷ utf8 "7 " ∷ [])
+    ≡ Whole (pos 2147483647) ∷ NoInt ∷ Whole (negsuc 2147483647) ∷ NoInt ∷ NoInt ∷ []
+unfolding narrow narrowed numberOf strtol leading numberFrom classOf
+ints = refl
 
 pub hexadecimal : (bytesOf (utf8 "4a0Fff") ≡ 0x4a ∷ 0x0f ∷ 0xff ∷ []) × (bytesOf (utf8 "4ag0ff") ≡ 0x4a ∷ []) × (bytesOf (utf8 "4a0") ≡ 0x4a ∷ [])
 unfolding bytesOf hexDigit

@@ -10,6 +10,8 @@ pub use input::move_down;
 pub use output::put_byte;
 pub use output::put_bytes;
 pub use output::put_decimal;
+pub use words::Int;
 pub use words::Number;
 pub use words::put_hex;
+pub use words::read_int;
 pub use words::read_number;

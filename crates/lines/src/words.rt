@@ -1,11 +1,17 @@
 // The words of a line: numbers, and bytes in hexadecimal digits.
 ghost use mathlib.Core.Path.{_≡_};
-ghost use Rattle.lines.specs.Words.{numberOf, hexDigit, bytesOf};
+ghost use Rattle.lines.specs.Words.{numberOf, narrowed, intOf, hexDigit, bytesOf};
 ghost use Rattle.lines.specs.Output.{Put};
 use crate::output::put_byte;
 
 pub enum Number {
     Value(i64),
+    Malformed,
+}
+
+// A number of 32 bits.
+pub enum Int {
+    Value(i32),
     Malformed,
 }
 
@@ -24,6 +30,28 @@ pub fn read_number(word: &[u8]) -> Number
         return Number::Value(n.value);
     }
     Number::Malformed
+}
+
+fn narrow(n: i64) -> Int
+    ensures { λ r. ⌜ r ≡ narrowed n ⌝ }
+{
+    if n < -2147483648 {
+        return Int::Malformed;
+    }
+    if 2147483647 < n {
+        return Int::Malformed;
+    }
+    Int::Value(n as i32)
+}
+
+// A word as a number of 32 bits.
+pub fn read_int(word: &[u8]) -> Int
+    ensures { λ r. ⌜ r ≡ intOf (now (word .entry)) ⌝ }
+{
+    match read_number(word) {
+        Number::Value(n) => narrow(n),
+        Number::Malformed => Int::Malformed,
+    }
 }
 
 // The value of a hexadecimal digit, 16 for any other byte.

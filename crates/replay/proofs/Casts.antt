@@ -4,12 +4,11 @@ use mathlib.Core.Bool.{false}
 use mathlib.Core.List.{List}
 use Prim.Native.Nat.{ℕ, _^_, _<_}
 use native.Mathlib.Omega.{arith}
-use borrow.Author.Tests.{ltb-false}
 use lib.Dec.{T}
 use lib.IntN.{ℤ, pos, negsuc, natAbs}
 use lib.Signed.{ltZ, nonNeg}
 use lib.ListN.{length}
-use mir.Syntax.{w32, w64}
+use mir.Syntax.{w64}
 use mir.Val.{Fits, SFits}
 use Rattle.strtol.specs.Strtol.{strtol}
 use Rattle.strtol.specs.declared.Strtol.{Strtol}
@@ -19,11 +18,6 @@ use Rattle.strtol.proofs.Places.{end-within}
 pub placed : (z : ℤ) → SFits w64 z → ltZ z (pos 0) ≡ false → (T (nonNeg z) × Fits w64 (natAbs z)) × (natAbs z < 2 ^ 63)
 placed (pos n) f e = ((tt, omega arith), omega arith)
 placed (negsuc n) f e = absurd (subst T e tt)
-
--- neither below nor above 32 bits
-pub narrowed : (z : ℤ) → ltZ z (negsuc 2147483647) ≡ false → ltZ (pos 2147483647) z ≡ false → SFits w32 z
-narrowed (pos n) l h = let e = ltb-false 2147483647 n h in omega arith
-narrowed (negsuc n) l h = let e = ltb-false 2147483647 n l in omega arith
 
 -- the end of a number that is read from a place of 63 bits
 pub end-fits : (s : List ℕ) (start : ℕ) (n : Strtol) → n ≡ strtol s start → start < 2 ^ 63 → length s < 2 ^ 63 → SFits w64 (pos (n .end))

@@ -3,7 +3,7 @@ ghost use Prim.Native.Nat.{_≤_, max};
 ghost use lib.ListN.{length};
 use crate::calendar;
 use crate::text;
-use lines::Number;
+use lines::Int;
 use lines::put_decimal;
 
 // The numbers of an answer; none where the question is unknown or malformed.
@@ -11,12 +11,6 @@ pub enum Values {
     One(i64),
     Three(i64, i64, i64),
     None,
-}
-
-// A word as a number of 32 bits.
-pub enum Int {
-    Value(i32),
-    Malformed,
 }
 
 // The numbers of a question: `count` of them, none where a word is no number or there are more than three.
@@ -53,23 +47,6 @@ fn put_values(out: &mut [u8], at: usize, values: Values) -> usize
     }
 }
 
-fn narrow(n: i64) -> Int {
-    if n < -2147483648 {
-        return Int::Malformed;
-    }
-    if 2147483647 < n {
-        return Int::Malformed;
-    }
-    Int::Value(n as i32)
-}
-
-fn read_int(word: &[u8]) -> Int {
-    match lines::read_number(word) {
-        Number::Value(n) => narrow(n),
-        Number::Malformed => Int::Malformed,
-    }
-}
-
 // The numbers of the words from `from` on, where the first one's separator stands.
 fn read_numbers(line: &[u8], from: usize) -> Numbers {
     let mut values = [0i32; 3];
@@ -77,7 +54,7 @@ fn read_numbers(line: &[u8], from: usize) -> Numbers {
     let mut at = from;
     while at < line.len() {
         let end = lines::find(line, at + 1, b' ');
-        let Int::Value(n) = read_int(&line[at + 1..end]) else {
+        let Int::Value(n) = lines::read_int(&line[at + 1..end]) else {
             return Numbers { values, count: 0 };
         };
         if 2 < count {

@@ -1,0 +1,151 @@
+// Reads lines and answers each with a line, by the mode that the first argument names.
+mod answer;
+mod modes;
+mod output;
+mod reading;
+mod writing;
+
+ghost use Prim.Native.Nat.{_≤_, _<_};
+ghost use lib.ListN.{length};
+use libc::STDERR_FILENO;
+use libc::STDIN_FILENO;
+use libc::STDOUT_FILENO;
+use modes::Choice;
+use modes::Mode;
+
+// Room for any answer: the longest is a 0, a space, a text of 512 bytes and the newline.
+const LONGEST: usize = 515;
+
+// Where the answers to the lines of a text end: in the text, and in the buffer. `long` says that the next line began before the text.
+struct Answered {
+    from: usize,
+    at: usize,
+    long: bool,
+}
+
+// What is left between two reads: the bytes kept of an unfinished line, whether it is too long, the answers not yet written, and
+// how many reads may come. A proved loop has to end, and nothing says that the input does: so the reads are counted.
+struct State {
+    kept: usize,
+    long: bool,
+    at: usize,
+    reads: u64,
+}
+
+// Reads behind the bytes that are kept; the answer is the end of all.
+fn read_on(input: &mut [u8], kept: usize) -> usize
+    requires { ⌜ kept ≤ length (now input) ⌝ }
+    ensures { λ r. ⌜ r ≤ length (now (input .exit)) ⌝ }
+{
+    let got = libc::read(STDIN_FILENO, &mut input[kept..]);
+    kept + io::count(got, &input[kept..])
+}
+
+// Writes the answers out where there may be no room for one more.
+fn make_room(out: &[u8], at: usize) -> usize
+    requires { ⌜ at ≤ length (now out) ⌝ }
+    ensures { λ r. ⌜ r ≤ length (now (out .entry)) ⌝ }
+{
+    if LONGEST <= out.len() - at {
+        return at;
+    }
+    io::write_all(STDOUT_FILENO, &out[0..at]);
+    0
+}
+
+// Answers one line.
+fn answer_line(mode: Mode, line: &[u8], long: bool, out: &mut [u8], at: usize) -> usize
+    requires { ⌜ at ≤ length (now out) ⌝ }
+    ensures { λ r. ⌜ r ≤ length (now (out .exit)) ⌝ }
+{
+    let start = make_room(out, at);
+    let end = answer::answer(mode, line, long, out, start);
+    lines::put_byte(out, end, b'\n')
+}
+
+// Answers the lines that end in a text.
+fn answer_lines(mode: Mode, text: &[u8], long: bool, out: &mut [u8], at: usize) -> Answered
+    requires { ⌜ at ≤ length (now out) ⌝ }
+    ensures { λ r. ⌜ r .at ≤ length (now (out .exit)) ⌝ }
+{
+    let mut s = Answered { from: 0, at, long };
+    let mut end = lines::find(text, 0, b'\n');
+    while end < text.len() {
+        let from = s.from;
+        let next = answer_line(mode, &text[from..end], s.long, out, s.at);
+        s = Answered {
+            from: end + 1,
+            at: next,
+            long: false,
+        };
+        end = lines::find(text, end + 1, b'\n');
+    }
+    s
+}
+
+// Reads once and answers the lines that end there. At the end of the input no read is left.
+fn turn(mode: Mode, input: &mut [u8], out: &mut [u8], s: State) -> State
+    requires { ⌜ (s .kept ≤ length (now input)) × (s .at ≤ length (now out)) × (0 < s .reads) ⌝ }
+    ensures { λ r. ⌜ (r .kept ≤ length (now (input .exit))) × (r .at ≤ length (now (out .exit))) × (r .reads < s .reads) ⌝ }
+{
+    let kept = s.kept;
+    let end = read_on(input, kept);
+    if end == kept {
+        return State {
+            kept,
+            long: s.long,
+            at: s.at,
+            reads: 0,
+        };
+    }
+    let a = answer_lines(mode, &input[0..end], s.long, out, s.at);
+    let k = lines::keep(input, a.from, end, a.long);
+    State {
+        kept: k.count,
+        long: k.long,
+        at: a.at,
+        reads: s.reads - 1,
+    }
+}
+
+// Answers the last line, where it has no newline.
+fn answer_last(mode: Mode, line: &[u8], long: bool, out: &mut [u8], at: usize) -> usize
+    requires { ⌜ at ≤ length (now out) ⌝ }
+    ensures { λ r. ⌜ r ≤ length (now (out .exit)) ⌝ }
+{
+    if long {
+        return answer_line(mode, line, true, out, at);
+    }
+    if line.len() == 0 {
+        return at;
+    }
+    answer_line(mode, line, false, out, at)
+}
+
+fn answer_all(mode: Mode, input: &mut [u8], out: &mut [u8]) {
+    let mut s = State {
+        kept: 0,
+        long: false,
+        at: 0,
+        reads: u64::MAX,
+    };
+    while s.reads > 0 {
+        s = turn(mode, input, out, s);
+    }
+    let kept = s.kept;
+    let end = answer_last(mode, &input[0..kept], s.long, out, s.at);
+    io::write_all(STDOUT_FILENO, &out[0..end]);
+}
+
+fn main() {
+    let Choice::Of(mode) = modes::chosen() else {
+        io::write_all(
+            STDERR_FILENO,
+            b"dates: the first argument is parts, instants, days or write\n",
+        );
+        return;
+    };
+    let mut input = io::large_buffer();
+    let mut output = io::large_buffer();
+    answer_all(mode, &mut input, &mut output);
+}
