@@ -6,8 +6,8 @@ use lib.IntN.{ℤ, pos, negsuc, negℤ, _+ℤ_, _*ℤ_}
 use lib.Signed.{ltZ, quotZ, remZ}
 use Rattle.notation.specs.Choice.{if_then_else_}
 use Rattle.answers.specs.declared.Refusal.the-variants.{HourOfTwelve, OffsetRange}
-use Rattle.reader.specs.Fields.{get, put, noFields, isZero, eqℤ, hh, pm, mi, ss, ssss, ms, us, clock, tzsign, tzh, tzm}
-use Rattle.reader.specs.declared.Fields.{Fields}
+use Rattle.tasks.specs.Fields.{get, put, noFields, isZero, eqℤ, hh, pm, mi, ss, ssss, ms, us, clock, tzsign, tzh, tzm}
+use Rattle.tasks.specs.declared.Fields.{Fields}
 use Rattle.wrapping.specs.Wrap.{wrap32, _⊕_}
 use Rattle.values.specs.Checked.{_times_}
 use Rattle.values.specs.Within.{below}

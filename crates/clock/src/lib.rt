@@ -4,7 +4,7 @@ ghost use mathlib.Core.Bool.{_&&_};
 ghost use Rattle.values.specs.Within.{below};
 ghost use Rattle.clock.specs.Time.{_or_, hourOf, minuteOf, secondOf, hourOfTwelve, clockHour, microsOf, timeInRange, checkedOffset};
 use answers::Refusal;
-use reader::Fields;
+use tasks::Fields;
 use values::Value;
 use values::checked_mul;
 use wrapping::wrapping_add;

@@ -8,8 +8,8 @@ use Rattle.julian.specs.ToDate.{j2date}
 use Rattle.julian.specs.Week.{isoweek2j}
 use Rattle.julian.specs.declared.Date.{Date as JulianDate}
 use Rattle.patterns.specs.Patterns.{isoWeek}
-use Rattle.reader.specs.Fields.{get, isZero, eqℤ, mode, d, ww, w, j, mm}
-use Rattle.reader.specs.declared.Fields.{Fields}
+use Rattle.tasks.specs.Fields.{get, isZero, eqℤ, mode, d, ww, w, j, mm}
+use Rattle.tasks.specs.declared.Fields.{Fields}
 use Rattle.days.specs.Dates.{monthBit, dayBit, isSet, whole, begun, withJulian, dayOfWeek, firstOfWeek, onDayOfYear, onDayOfMonth, withWeek, withMonthWeek, withDay, withMonth, fromDayOfYear, fromDayOfIsoYear, countsDayOfYear, lacksYear, withDayOfYear, thenDayOfYear, thenMonthWeek, thenWeek, datedOf}
 use Rattle.days.specs.Year.{yearOf}
 use Rattle.days.specs.declared.Dated.{Dated}

@@ -14,8 +14,8 @@ use Rattle.julian.specs.ToDate.{j2date}
 use Rattle.julian.specs.Week.{isoweek2j}
 use Rattle.julian.specs.declared.Date.{Date}
 use Rattle.patterns.specs.Patterns.{isoWeek}
-use Rattle.reader.specs.Fields.{get, isZero, eqℤ, mode, d, dd, ddd, mm, year, bc, ww, w, cc, j}
-use Rattle.reader.specs.declared.Fields.{Fields}
+use Rattle.tasks.specs.Fields.{get, isZero, eqℤ, mode, d, dd, ddd, mm, year, bc, ww, w, cc, j}
+use Rattle.tasks.specs.declared.Fields.{Fields}
 use Rattle.wrapping.specs.Wrap.{wrap32, _⊕_, _⊖_}
 use Rattle.values.specs.Checked.{_plus_, _times_}
 use Rattle.days.specs.Year.{yearOf}

@@ -4,8 +4,8 @@ use mathlib.Core.Bool.{Bool, true, false, not, _&&_}
 use lib.IntN.{ℤ, pos, negsuc, negℤ, _+ℤ_}
 use lib.Signed.{ltZ, remZ}
 use Rattle.notation.specs.Choice.{if_then_else_}
-use Rattle.reader.specs.Fields.{get, isZero, year, bc, cc, yysz}
-use Rattle.reader.specs.declared.Fields.{Fields}
+use Rattle.tasks.specs.Fields.{get, isZero, year, bc, cc, yysz}
+use Rattle.tasks.specs.declared.Fields.{Fields}
 use Rattle.wrapping.specs.Wrap.{wrap32, _⊕_, _⊖_, _⊗_}
 use Rattle.values.specs.Checked.{_plus_, _times_}
 use Rattle.values.specs.declared.Value.{Value}

@@ -14,7 +14,7 @@ use gregorian::pg_is_leap;
 use julian::pg_isoweek2j;
 use julian::pg_j2date;
 use patterns::MODE_ISOWEEK;
-use reader::Fields;
+use tasks::Fields;
 use values::Value;
 use values::checked_add;
 use values::checked_mul;

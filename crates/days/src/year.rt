@@ -4,7 +4,7 @@ ghost use lib.IntN.{pos};
 ghost use lib.Signed.{remZ};
 ghost use Rattle.days.specs.Year.{signedBy, plainYear, yearInCentury, firstOfCentury, yearOf};
 use super::places;
-use reader::Fields;
+use tasks::Fields;
 use values::Value;
 use values::checked_add;
 use values::checked_mul;

@@ -17,8 +17,8 @@ use Rattle.julian.proofs.Inverse.{j2date-is}
 use Rattle.julian.proofs.IsoWeeks.{isoweek2j-is}
 use Rattle.days.specs.Dates.{yearBit, allBits, days, begun, withJulian, dayOfWeek, withWeek, fromDayOfYear, withDayOfYear, datedOf}
 use Rattle.days.specs.declared.Dated.the-variants.{Date}
-use Rattle.reader.specs.Fields as F
-use Rattle.reader.specs.declared.Fields.{Fields}
+use Rattle.tasks.specs.Fields as F
+use Rattle.tasks.specs.declared.Fields.{Fields}
 use Rattle.groups.specs.Values.{DateGroup, by-month, by-day, by-week, dateValues, TimeValues, fieldsOf, Same}
 use Rattle.groups.proofs.Steps.{year-read, begun-is, no-julian, no-week, no-day-of-year, after-weeks}
 

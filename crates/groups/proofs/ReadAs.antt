@@ -14,8 +14,8 @@ use Rattle.days.specs.Dates.{allBits, days, dateInRange}
 use Rattle.parts.specs.Parts.{checkedMoment, momentOf}
 use Rattle.clock.specs.Time.{timeInRange}
 use Rattle.parts.specs.declared.Answer.the-variants.{Moment}
-use Rattle.reader.specs.Fields as F
-use Rattle.reader.specs.declared.Fields.{Fields}
+use Rattle.tasks.specs.Fields as F
+use Rattle.tasks.specs.declared.Fields.{Fields}
 use Rattle.writer.specs.Moment.{IsMoment}
 use Rattle.groups.specs.Values.{DateGroup, TimeGroup, dateValues, timeValues, fieldsOf, Same}
 use Rattle.groups.proofs.Dates.{DateRead, date-read}

@@ -14,8 +14,8 @@ use Rattle.days.specs.declared.Days.{Days}
 use Rattle.clock.specs.declared.Offset.the-variants.{Absent}
 use Rattle.values.specs.declared.Value.the-variants.{Is}
 use Rattle.clock.specs.declared.Zoned.the-variants.{At}
-use Rattle.reader.specs.Fields as F
-use Rattle.reader.specs.declared.Fields.{Fields}
+use Rattle.tasks.specs.Fields as F
+use Rattle.tasks.specs.declared.Fields.{Fields}
 
 module _ (f : Fields) where
   -- a year, with no century and not before Christ

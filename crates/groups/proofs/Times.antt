@@ -10,8 +10,8 @@ use Rattle.notation.specs.Choice.{if_then_else_}
 use Rattle.clock.specs.Time.{_or_, hourOf, minuteOf, secondOf, hourOfTwelve, clockHour}
 use Rattle.values.specs.declared.Value.{Value}
 use Rattle.values.specs.declared.Value.the-variants.{Is}
-use Rattle.reader.specs.Fields as F
-use Rattle.reader.specs.declared.Fields.{Fields}
+use Rattle.tasks.specs.Fields as F
+use Rattle.tasks.specs.declared.Fields.{Fields}
 use Rattle.writer.specs.Pieces.{of12}
 use Rattle.groups.specs.Values.{TimeGroup, of-24, of-12, by-second, timeValues, DateValues, fieldsOf, Same}
 

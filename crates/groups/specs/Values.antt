@@ -8,8 +8,8 @@ use Rattle.notation.specs.Choice.{if_then_else_}
 use Rattle.gregorian.specs.Gregorian.{beforeYear, dayNumber, dayOfYear, leap}
 use Rattle.gregorian.specs.IsoWeek.{isoMonday, isoWeek, isoWeekday, isoYear}
 use Rattle.patterns.specs.Patterns as P
-use Rattle.reader.specs.Fields.{get}
-use Rattle.reader.specs.declared.Fields.{Fields}
+use Rattle.tasks.specs.Fields.{get}
+use Rattle.tasks.specs.declared.Fields.{Fields}
 use Rattle.writer.specs.Pieces.{of12}
 
 -- YYYY MM DD, YYYY DDD, and IYYY IW ID

@@ -8,7 +8,7 @@ use lib.ListN.{length}
 use Rattle.answers.specs.declared.Refusal.the-variants.{TooLong, NotUtf8}
 use Rattle.chars.specs.Utf8.{wellFormed}
 use Rattle.reader.specs.Reader.{readAll}
-use Rattle.reader.specs.declared.Reading.{Reading}
+use Rattle.tasks.specs.declared.Reading.{Reading}
 use Rattle.template.specs.Template.{nodesOf}
 use Rattle.parts.specs.Parts.{partsOf, thenFields}
 use Rattle.parts.specs.declared.Answer.the-variants.{Refused}

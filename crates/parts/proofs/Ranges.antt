@@ -17,12 +17,12 @@ use Rattle.answers.specs.declared.Refusal.the-variants.{TooLong, NotUtf8, Mixed
 use Rattle.chars.specs.Utf8.{wellFormed}
 use Rattle.gregorian.specs.Civil.{lengthOf}
 use Rattle.gregorian.specs.Gregorian.{isLeap}
-use Rattle.reader.specs.Fields.{get, isZero, tzsign, tzh, tzm}
+use Rattle.tasks.specs.Fields.{get, isZero, tzsign, tzh, tzm}
 use Rattle.reader.specs.Reader.{readAll}
-use Rattle.reader.specs.declared.Fields.{Fields}
-use Rattle.reader.specs.declared.Reading.{Reading}
-use Rattle.reader.specs.declared.Verdict.{Verdict}
-use Rattle.reader.specs.declared.Verdict.the-variants.{Read, Refused as Stopped}
+use Rattle.tasks.specs.declared.Fields.{Fields}
+use Rattle.tasks.specs.declared.Reading.{Reading}
+use Rattle.tasks.specs.declared.Verdict.{Verdict}
+use Rattle.tasks.specs.declared.Verdict.the-variants.{Read, Refused as Stopped}
 use Rattle.template.specs.Template.{nodesOf}
 use Rattle.days.specs.Dates.{monthBit, dayBit, allBits, isSet, outside, partInRange, dayInMonth, dateInRange, datedOf}
 use Rattle.parts.specs.Parts.{templateLimit, inputLimit, withOffset, checkedMoment, thenMoment, thenMicros, thenDate, momentOf, thenFields, partsOf}

@@ -9,12 +9,12 @@ use Rattle.notation.specs.Choice.{if_then_else_}
 use Rattle.answers.specs.declared.Refusal.{Refusal}
 use Rattle.answers.specs.declared.Refusal.the-variants.{TooLong, NotUtf8, FieldOverflow}
 use Rattle.chars.specs.Utf8.{wellFormed}
-use Rattle.reader.specs.Fields.{get, ff}
+use Rattle.tasks.specs.Fields.{get, ff}
 use Rattle.reader.specs.Reader.{readAll}
-use Rattle.reader.specs.declared.Fields.{Fields}
-use Rattle.reader.specs.declared.Reading.{Reading}
-use Rattle.reader.specs.declared.Verdict.{Verdict}
-use Rattle.reader.specs.declared.Verdict.the-variants.{Read as Done, Refused as Stopped}
+use Rattle.tasks.specs.declared.Fields.{Fields}
+use Rattle.tasks.specs.declared.Reading.{Reading}
+use Rattle.tasks.specs.declared.Verdict.{Verdict}
+use Rattle.tasks.specs.declared.Verdict.the-variants.{Read as Done, Refused as Stopped}
 use Rattle.template.specs.Template.{nodesOf}
 use Rattle.days.specs.Dates.{datedOf, dateInRange}
 use Rattle.clock.specs.Time.{clockHour, minuteOf, secondOf, microsOf, timeInRange, checkedOffset}

@@ -8,7 +8,7 @@ use Rattle.answers.specs.Report.{reportOf}
 use Rattle.gregorian.specs.Civil.{lengthOf}
 use Rattle.gregorian.specs.Gregorian.{isLeap}
 use Rattle.reader.specs.Reader.{readAll}
-use Rattle.reader.specs.declared.Fields.{Fields}
+use Rattle.tasks.specs.declared.Fields.{Fields}
 use Rattle.template.specs.Template.{nodesOf}
 use Rattle.days.specs.Dates.{allBits, datedOf}
 use Rattle.values.specs.Within.{Within}

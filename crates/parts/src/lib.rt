@@ -14,9 +14,9 @@ use days::Dated;
 use days::Days;
 use days::date_in_range;
 use days::dated_of;
-use reader::Fields;
-use reader::Reading;
-use reader::Verdict;
+use tasks::Fields;
+use tasks::Reading;
+use tasks::Verdict;
 use values::Value;
 
 pub struct Parts {

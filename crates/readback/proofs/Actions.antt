@@ -15,12 +15,12 @@ use Rattle.fields.specs.Suffix.{isFree, pastOrdinal}
 use Rattle.fields.specs.Word.{wordAt}
 use Rattle.fields.specs.declared.Word.the-variants.{At}
 use Rattle.gregorian.proofs.Dates.{each}
-use Rattle.reader.specs.Fields.{get, put, read, mode}
-use Rattle.reader.specs.Numbers.{storedNumber}
+use Rattle.tasks.specs.Fields.{get, put, read, mode}
+use Rattle.tasks.specs.Numbers.{storedNumber}
 use Rattle.reader.specs.Reader.{place, mixes, withMode, performed, pastSpaces, actionRead, entered, nodeRead}
-use Rattle.reader.specs.Tasks.{exact, number, word}
-use Rattle.reader.specs.Words.{listOf, storedWord}
-use Rattle.reader.specs.declared.Fields.{Fields}
+use Rattle.tasks.specs.Tasks.{exact, number, word}
+use Rattle.tasks.specs.Words.{listOf, storedWord}
+use Rattle.tasks.specs.declared.Fields.{Fields}
 use Rattle.strtol.specs.Decimal.{decimal}
 use Rattle.strtol.specs.Runs.{digits, spaces}
 use Rattle.template.specs.Template.{action}

@@ -11,7 +11,7 @@ use lib.ListN.{replicate, getD-replicate, List·getD-eq-default}
 use Rattle.notation.specs.Choice.{if_then_else_}
 use Rattle.notation.proofs.Cases.{both}
 use Rattle.notation.proofs.Table.{allFrom, entry}
-use Rattle.reader.specs.Fields.{mode, get, noFields}
+use Rattle.tasks.specs.Fields.{mode, get, noFields}
 use Rattle.reader.specs.Reader.{mixes}
 use Rattle.writer.specs.Full.{times}
 use Rattle.writer.specs.declared.Moment.{Moment}

@@ -11,8 +11,8 @@ use lib.Seq.{set-comm, set-out, getD-set-same, getD-set-other}
 use Rattle.notation.specs.Choice.{if_then_else_}
 use Rattle.notation.proofs.Cases.{both}
 use Rattle.notation.proofs.Table.{allFrom}
-use Rattle.reader.specs.Fields.{get, put}
-use Rattle.reader.specs.declared.Fields.{Fields}
+use Rattle.tasks.specs.Fields.{get, put}
+use Rattle.tasks.specs.declared.Fields.{Fields}
 use Rattle.writer.specs.Full.{times}
 use Rattle.writer.specs.declared.Moment.{Moment}
 use Rattle.readback.specs.Settings.{Kept, always, own, Setting, valueOf, filledBy}

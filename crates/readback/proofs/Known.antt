@@ -10,9 +10,9 @@ use Rattle.notation.specs.Choice.{if_then_else_}
 use Rattle.notation.proofs.Cases.{both}
 use Rattle.notation.proofs.Table.{entry}
 use Rattle.patterns.specs.Patterns.{patternOf, nameOf}
-use Rattle.reader.specs.Fields as F
-use Rattle.reader.specs.Tasks.{task, nothing, number, word, plain, hour12, micros, isoDay, wholeYear, oddHour12, taskOf}
-use Rattle.reader.specs.declared.Task.{Task}
+use Rattle.tasks.specs.Fields as F
+use Rattle.tasks.specs.Tasks.{task, nothing, number, word, plain, hour12, micros, isoDay, wholeYear, oddHour12, taskOf}
+use Rattle.tasks.specs.declared.Task.{Task}
 use Rattle.writer.specs.Pieces as P
 
 -- the task and the date mode of a piece's patterns

@@ -14,7 +14,7 @@ use Rattle.instants.proofs.Plain.{plainParts, instant-is, day-is}
 use Rattle.parts.specs.Parts.{momentOf, partsOf, inputLimit}
 use Rattle.parts.specs.declared.Answer.{Answer}
 use Rattle.parts.specs.declared.Answer.the-variants.{Moment as Accepted, Refused}
-use Rattle.reader.specs.declared.Reading.{Reading}
+use Rattle.tasks.specs.declared.Reading.{Reading}
 use Rattle.writer.specs.Full.{times, isFull}
 use Rattle.writer.specs.Moment.{moment, isMoment, IsMoment}
 use Rattle.writer.specs.Pieces.{numberOf}

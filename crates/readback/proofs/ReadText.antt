@@ -11,9 +11,9 @@ use lib.ListN.{length}
 use Rattle.notation.proofs.Cases.{both}
 use Rattle.chars.specs.Utf8.{wellFormed}
 use Rattle.parts.specs.Parts.{templateLimit, inputLimit}
-use Rattle.reader.specs.Fields.{noFields}
+use Rattle.tasks.specs.Fields.{noFields}
 use Rattle.reader.specs.Reader.{readAll}
-use Rattle.reader.specs.declared.Fields.{Fields}
+use Rattle.tasks.specs.declared.Fields.{Fields}
 use Rattle.template.specs.Template.{nodesOf}
 use Rattle.writer.specs.Full.{pieces, times, areFull, isFull}
 use Rattle.writer.specs.Moment.{moment, IsMoment}

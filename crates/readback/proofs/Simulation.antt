@@ -9,12 +9,12 @@ use borrow.Author.Tests.{lt-ltb, le-ltb, ltb-false, ltb-true}
 use lib.Dec.{eqb, ltb}
 use lib.ListN.{length, drop}
 use lib.Seq.{drop-drop}
-use Rattle.reader.specs.Fields.{read}
+use Rattle.tasks.specs.Fields.{read}
 use Rattle.reader.specs.Reader.{place, literalPassed, entered, nodeRead, headOf, readFrom}
-use Rattle.reader.specs.declared.Fields.{Fields}
-use Rattle.reader.specs.declared.Place.{Place}
-use Rattle.reader.specs.declared.Reading.{Reading}
-use Rattle.reader.specs.declared.Verdict.the-variants.{Read}
+use Rattle.tasks.specs.declared.Fields.{Fields}
+use Rattle.tasks.specs.declared.Place.{Place}
+use Rattle.tasks.specs.declared.Reading.{Reading}
+use Rattle.tasks.specs.declared.Verdict.the-variants.{Read}
 use Rattle.strtol.specs.Runs.{spaces}
 use Rattle.template.specs.Template.{action}
 use Rattle.template.specs.declared.Node.{Node}

@@ -11,11 +11,11 @@ use Rattle.gregorian.specs.IsoWeek.{isoWeekday}
 use Rattle.gregorian.proofs.Dates.{each, length-range, real}
 use Rattle.gregorian.proofs.Ordinal.{ordinal-range}
 use Rattle.gregorian.proofs.Weeks.{week-range, year-range}
-use Rattle.reader.specs.Fields.{put}
-use Rattle.reader.specs.Numbers.{kept, noted}
+use Rattle.tasks.specs.Fields.{put}
+use Rattle.tasks.specs.Numbers.{kept, noted}
 use Rattle.reader.specs.Reader.{withMode}
-use Rattle.reader.specs.Words.{meant, notedWord, keptWord}
-use Rattle.reader.specs.declared.Fields.{Fields}
+use Rattle.tasks.specs.Words.{meant, notedWord, keptWord}
+use Rattle.tasks.specs.declared.Fields.{Fields}
 use Rattle.wrapping.specs.Wrap.{wrap32}
 use Rattle.wrapping.proofs.Small.{wrap-pos}
 use Rattle.writer.specs.Full.{times}

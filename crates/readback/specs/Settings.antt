@@ -9,8 +9,8 @@ use Rattle.notation.specs.Choice.{if_then_else_}
 use Rattle.gregorian.specs.Gregorian.{leap, beforeYear}
 use Rattle.gregorian.specs.IsoWeek.{isoMonday, isoWeek, isoYear}
 use Rattle.patterns.specs.Patterns as P
-use Rattle.reader.specs.Fields as F
-use Rattle.reader.specs.declared.Fields.{Fields}
+use Rattle.tasks.specs.Fields as F
+use Rattle.tasks.specs.declared.Fields.{Fields}
 use Rattle.writer.specs.Full.{times}
 use Rattle.writer.specs.Moment.{moment}
 use Rattle.writer.specs.Pieces.{year, month, day, yearDay, weekYear, week, weekday, hour24, hour12, minute, second, daySecond, micros, marker, dottedMarker, numberOf, isMorning}

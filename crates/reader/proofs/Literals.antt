@@ -15,7 +15,7 @@ use Rattle.strtol.specs.Runs.{spaces}
 use Rattle.strtol.proofs.Leading.{leading-place, leading-within}
 use Rattle.template.specs.declared.Node.{Node}
 use Rattle.reader.specs.Reader.{blankPassed, charPassed, enteredBy, literalPassed, place, skipped}
-use Rattle.reader.specs.declared.Place.{Place}
+use Rattle.tasks.specs.declared.Place.{Place}
 
 abbrev blank : ℕ → Bool
 blank b = isSpace b || isSeparator b

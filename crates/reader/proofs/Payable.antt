@@ -16,14 +16,14 @@ use Rattle.fields.specs.Suffix.{isFree}
 use Rattle.patterns.specs.Patterns.{patternOf}
 use Rattle.template.specs.Template.{separator, space}
 use Rattle.template.specs.declared.Node.{Node}
-use Rattle.reader.specs.Fields.{get, mode, refuse}
+use Rattle.tasks.specs.Fields.{get, mode, refuse}
 use Rattle.reader.specs.Reader.{Payable, actionRead, behind, blankPassed, charPassed, enteredBy, literalPassed, mixes, pastSpaces, performed, place, skipped, whenRead, withMode}
-use Rattle.reader.specs.Tasks.{taskOf}
-use Rattle.reader.specs.declared.Fields.{Fields}
-use Rattle.reader.specs.declared.Place.{Place}
-use Rattle.reader.specs.declared.Reading.{Reading}
-use Rattle.reader.specs.declared.Verdict.{Verdict}
-use Rattle.reader.specs.declared.Verdict.the-variants.{Read, Refused}
+use Rattle.tasks.specs.Tasks.{taskOf}
+use Rattle.tasks.specs.declared.Fields.{Fields}
+use Rattle.tasks.specs.declared.Place.{Place}
+use Rattle.tasks.specs.declared.Reading.{Reading}
+use Rattle.tasks.specs.declared.Verdict.{Verdict}
+use Rattle.tasks.specs.declared.Verdict.the-variants.{Read, Refused}
 use Rattle.reader.proofs.Literals.{spaces-few}
 
 module _ (s : List ℕ) where

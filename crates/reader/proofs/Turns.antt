@@ -13,14 +13,14 @@ use Rattle.answers.specs.declared.Refusal.{Refusal}
 use Rattle.template.specs.Template.{endNode, nodesOf, compiledOf}
 use Rattle.template.specs.declared.Node.{Node}
 use Rattle.template.proofs.Nodes.{node-at}
-use Rattle.reader.specs.Fields.{noFields, read, onward}
+use Rattle.tasks.specs.Fields.{noFields, read, onward}
 use Rattle.reader.specs.Reader.{Payable, actionRead, entered, enteredBy, headOf, literalPassed, nodeRead, place, readAll, readFrom}
-use Rattle.reader.specs.Tasks.{exact, taskOf}
-use Rattle.reader.specs.declared.Fields.{Fields}
-use Rattle.reader.specs.declared.Place.{Place}
-use Rattle.reader.specs.declared.Reading.{Reading}
-use Rattle.reader.specs.declared.Verdict.{Verdict}
-use Rattle.reader.specs.declared.Verdict.the-variants.{Read, Refused}
+use Rattle.tasks.specs.Tasks.{exact, taskOf}
+use Rattle.tasks.specs.declared.Fields.{Fields}
+use Rattle.tasks.specs.declared.Place.{Place}
+use Rattle.tasks.specs.declared.Reading.{Reading}
+use Rattle.tasks.specs.declared.Verdict.{Verdict}
+use Rattle.tasks.specs.declared.Verdict.the-variants.{Read, Refused}
 use Rattle.reader.proofs.Payable.{payable-action, payable-entered, payable-literal}
 
 -- i nodes are read

@@ -7,13 +7,13 @@ use Rattle.answers.specs.declared.Refusal.{Refusal}
 use Rattle.fields.specs.Suffix.{isFree}
 use Rattle.patterns.specs.Patterns.{patternOf}
 use Rattle.template.specs.declared.Node.{Node}
-use Rattle.reader.specs.Fields.{get, mode, read, refuse}
+use Rattle.tasks.specs.Fields.{get, mode, read, refuse}
 use Rattle.reader.specs.Reader.{actionRead, behind, mixes, pastSpaces, performed, withMode}
-use Rattle.reader.specs.Tasks.{taskOf}
-use Rattle.reader.specs.declared.Fields.{Fields}
-use Rattle.reader.specs.declared.Place.{Place}
-use Rattle.reader.specs.declared.Reading.{Reading}
-use Rattle.reader.specs.declared.Verdict.the-variants.{Read, Refused}
+use Rattle.tasks.specs.Tasks.{taskOf}
+use Rattle.tasks.specs.declared.Fields.{Fields}
+use Rattle.tasks.specs.declared.Place.{Place}
+use Rattle.tasks.specs.declared.Reading.{Reading}
+use Rattle.tasks.specs.declared.Verdict.the-variants.{Read, Refused}
 
 module _ (t s : List ℕ) (n next : Node) (f : Fields) (p : Place)
     (unmixed : mixes (patternOf (n .pattern) .mode) (get f mode) ≡ false)

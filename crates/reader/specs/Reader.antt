@@ -16,17 +16,17 @@ use Rattle.patterns.specs.Patterns.{patternOf}
 use Rattle.strtol.specs.Runs.{spaces}
 use Rattle.template.specs.Template.{end, action, character, separator, space, endNode}
 use Rattle.template.specs.declared.Node.{Node}
-use Rattle.reader.specs.Fields.{mode, noFields, get, put, read, refuse, onward, conflicts}
-use Rattle.reader.specs.Numbers.{readNumber, readCommaYear, readDropped}
-use Rattle.reader.specs.Tasks.{exact, number, word, dropped, commaYear, offset, offsetMinutes, taskOf}
-use Rattle.reader.specs.Words.{readWord}
-use Rattle.reader.specs.Zones.{readOffset, readOffsetMinutes}
-use Rattle.reader.specs.declared.Fields.{Fields}
-use Rattle.reader.specs.declared.Place.{Place}
-use Rattle.reader.specs.declared.Reading.{Reading}
-use Rattle.reader.specs.declared.Task.{Task}
-use Rattle.reader.specs.declared.Verdict.{Verdict}
-use Rattle.reader.specs.declared.Verdict.the-variants.{Read, Refused}
+use Rattle.tasks.specs.Fields.{mode, noFields, get, put, read, refuse, onward, conflicts}
+use Rattle.tasks.specs.Numbers.{readNumber, readCommaYear, readDropped}
+use Rattle.tasks.specs.Tasks.{exact, number, word, dropped, commaYear, offset, offsetMinutes, taskOf}
+use Rattle.tasks.specs.Words.{readWord}
+use Rattle.tasks.specs.Zones.{readOffset, readOffsetMinutes}
+use Rattle.tasks.specs.declared.Fields.{Fields}
+use Rattle.tasks.specs.declared.Place.{Place}
+use Rattle.tasks.specs.declared.Reading.{Reading}
+use Rattle.tasks.specs.declared.Task.{Task}
+use Rattle.tasks.specs.declared.Verdict.{Verdict}
+use Rattle.tasks.specs.declared.Verdict.the-variants.{Read, Refused}
 
 abbrev pub place : ℕ → ℕ → Bool → Place
 place at extra fx = record { at = at; extra = extra; fx = fx }

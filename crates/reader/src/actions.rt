@@ -5,20 +5,20 @@ ghost use Prim.Native.Nat.{_<_, _≤_};
 ghost use lib.Dec.{eqb};
 ghost use lib.ListN.{length};
 ghost use Rattle.reader.specs.Reader.{Payable, actionRead, behind, enteredBy, mixes, performed, withMode};
-ghost use Rattle.reader.specs.Tasks.{Assigned, exact, taskOf, taskTable};
-use crate::Fields;
-use crate::Place;
-use crate::Reading;
-use crate::Task;
-use crate::Verdict;
-use crate::field;
-use crate::numbers;
+ghost use Rattle.tasks.specs.Tasks.{Assigned, exact, taskOf, taskTable};
 use crate::places;
-use crate::state;
-use crate::tasks;
-use crate::words;
-use crate::zones;
 use answers::Refusal;
+use tasks::Fields;
+use tasks::Place;
+use tasks::Reading;
+use tasks::Task;
+use tasks::Verdict;
+use tasks::field;
+use tasks::numbers;
+use tasks::state;
+use tasks::table;
+use tasks::words;
+use tasks::zones;
 use template::Node;
 
 // By the kind of its task.
@@ -28,13 +28,13 @@ fn performed(s: &[u8], n: Node, free: bool, task: Task, f: Fields, p: Place) -> 
 {
     let kind = task.kind;
     match kind {
-        tasks::NUMBER => numbers::read_number(s, n, free, task, f, p),
-        tasks::WORD => words::read_word(s, n, task, f, p),
-        tasks::EXACT => state::read(f, places::exact(p)),
-        tasks::DROPPED => numbers::read_dropped(s, n, free, task, f, p),
-        tasks::COMMA_YEAR => numbers::read_comma_year(s, n, task, f, p),
-        tasks::OFFSET => zones::read_offset(s, n, free, task, f, p),
-        tasks::OFFSET_MINUTES => zones::read_offset_minutes(s, n, free, f, p),
+        table::NUMBER => numbers::read_number(s, n, free, task, f, p),
+        table::WORD => words::read_word(s, n, task, f, p),
+        table::EXACT => state::read(f, places::exact(p)),
+        table::DROPPED => numbers::read_dropped(s, n, free, task, f, p),
+        table::COMMA_YEAR => numbers::read_comma_year(s, n, task, f, p),
+        table::OFFSET => zones::read_offset(s, n, free, task, f, p),
+        table::OFFSET_MINUTES => zones::read_offset_minutes(s, n, free, f, p),
         _ => state::read(f, p),
     }
 }
@@ -93,7 +93,7 @@ pub fn pattern_read(
     requires { ⌜ (now tasks ≡ taskTable) × Payable (now s) p × (p .at ≤ length (now s)) × (length (now s) ≤ 512) ⌝ }
     ensures { λ r. ⌜ r ≡ actionRead (now (t .entry)) (now (s .entry)) n next f (enteredBy (now (s .entry)) (not (eqb (taskOf (n .pattern) .kind) exact)) p) ⌝ }
 {
-    let task = tasks::task_at(tasks, n.pattern);
-    let q = places::entered(s, task.kind != tasks::EXACT, p);
+    let task = table::task_at(tasks, n.pattern);
+    let q = places::entered(s, task.kind != table::EXACT, p);
     action_read(t, s, n, next, task, f, q)
 }

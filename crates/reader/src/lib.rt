@@ -1,61 +1,26 @@
 // Reading an input by the nodes of a template: dch_from_char of PostgreSQL's formatting.c.
 mod actions;
-pub mod field;
-mod numbers;
 mod places;
-mod state;
-mod tasks;
-mod words;
-mod zones;
 
 ghost use mathlib.Core.Path.{_≡_};
 ghost use Prim.Native.Nat.{_≤_};
 ghost use lib.ListN.{length};
 ghost use Rattle.template.specs.Template.{compiledOf, nodesOf};
 ghost use Rattle.reader.specs.Reader.{readAll};
-use answers::Refusal;
-pub use state::get;
-pub use state::put;
+use tasks::Fields;
+use tasks::Place;
+use tasks::Reading;
+use tasks::Verdict;
+use tasks::state;
+use tasks::table;
 use template::Compiled;
-
-// What is read so far: a number for each field, 0 where it is absent.
-pub struct Fields {
-    pub values: [i32; 24],
-}
-
-// Where reading stands in the input, how many skipped spaces may still pay for literals, and whether FX was read.
-pub struct Place {
-    pub at: usize,
-    pub extra: usize,
-    pub fx: bool,
-}
-
-pub enum Verdict {
-    Read,
-    Refused(Refusal),
-}
-
-// The fields with one pattern more, and the place behind it. A refusal leaves both as they were.
-pub struct Reading {
-    pub verdict: Verdict,
-    pub fields: Fields,
-    pub place: Place,
-}
-
-// What reading a pattern does.
-pub struct Task {
-    pub kind: u8,
-    pub field: u8,
-    pub rule: u8,
-    pub width: u8,
-}
 
 // The nodes of the template t, one after another, until the input or the template ends or a node is refused.
 pub fn dch_from_char(compiled: Compiled, t: &[u8], s: &[u8]) -> Reading
     requires { ⌜ (compiled ≡ compiledOf (now t)) × (length (now t) ≤ 256) × (length (now s) ≤ 512) ⌝ }
     ensures { λ r. ⌜ r ≡ readAll (now (t .entry)) (now (s .entry)) (nodesOf (now (t .entry))) ⌝ }
 {
-    let tasks = tasks::tasks();
+    let tasks = table::tasks();
     let count = compiled.count;
     let values = [0; 24];
     let mut f = Fields { values };

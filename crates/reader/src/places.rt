@@ -5,7 +5,7 @@ ghost use Prim.Native.Nat.{_≤_, pred};
 ghost use lib.ListN.{length};
 ghost use Rattle.chars.specs.Class.{isSeparator, isSpace};
 ghost use Rattle.reader.specs.Reader.{Payable, behind, blankPassed, charPassed, enteredBy, literalPassed, place, skipped};
-use crate::Place;
+use tasks::Place;
 use template::Node;
 
 // Past the spaces, which pay for literals to come.

@@ -13,9 +13,9 @@ use denote.Laws.{Is}
 use denote.Signed.{SInt}
 use denote.Shadow.{shadow}
 use denote.Struct.Declared.{row}
-use Rattle.reader.proofs.Fields.{the-type as fields-type}
-use Rattle.reader.specs.Fields.{get}
-use Rattle.reader.specs.declared.Fields.{Fields}
+use Rattle.tasks.proofs.Fields.{the-type as fields-type}
+use Rattle.tasks.specs.Fields.{get}
+use Rattle.tasks.specs.declared.Fields.{Fields}
 use Rattle.wrapping.proofs.Fits.{read}
 
 each-fits : (xs : List ℤ) (us : List Val) (k : ℕ) → shadow (each ℤ (SInt w32 .own) xs us) → SFits w32 (getD xs k (pos 0))

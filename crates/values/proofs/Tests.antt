@@ -8,7 +8,7 @@ use lib.IntN.{ℤ, pos, negsuc}
 use mir.Facts.{toZ-ofZ, toZ-pos}
 use mir.Syntax.{w32}
 use mir.Val.{SFits, toZ, ofZ}
-use Rattle.reader.specs.Fields.{eqℤ, isZero}
+use Rattle.tasks.specs.Fields.{eqℤ, isZero}
 
 same : (n : ℕ) (z : ℤ) → z ≡ pos n → eqℤ z (pos n) ≡ true
 same n z e = rw (e, eq-eqb n n refl)

@@ -12,7 +12,7 @@ use Rattle.notation.specs.Text.{utf8}
 use Rattle.gregorian.specs.Gregorian.{dayNumber, dayOfYear, leap, beforeYear}
 use Rattle.gregorian.specs.IsoWeek.{isoMonday, isoWeek, isoWeekday, isoYear}
 use Rattle.patterns.specs.Patterns.{nameOf}
-use Rattle.reader.specs.Tasks.{among}
+use Rattle.tasks.specs.Tasks.{among}
 use Rattle.strtol.specs.Decimal.{decimal}
 use Rattle.writer.specs.Moment.{moment}
 use Rattle.writer.specs.declared.Moment.{Moment}

@@ -1,7 +1,7 @@
 -- `parts::time::micros_of` meets its contract. Assumes nothing.
 use mathlib.Core.Path.{_≡_, _∙_, sym}
 use borrow.Author.Needs.{needs}
-use Rattle.reader.specs.Fields.{get, ms}
+use Rattle.tasks.specs.Fields.{get, ms}
 use Rattle.wrapping.proofs.Fits.{wrap-back}
 use Rattle.values.specs.Checked.{_times_}
 use Rattle.clock.specs.Time.{microsOf}

@@ -6,7 +6,7 @@ use Prim.Native.Nat.{ℕ}
 use lib.IntN.{ℤ, pos, negℤ, _*ℤ_, +ℤ-idl}
 use mir.Facts.{toZ-ofZ}
 use Rattle.notation.proofs.Cases.{both}
-use Rattle.reader.specs.Fields.{get, isZero, tzsign, tzh, tzm}
+use Rattle.tasks.specs.Fields.{get, isZero, tzsign, tzh, tzm}
 use Rattle.wrapping.proofs.Fits.{read}
 use Rattle.values.specs.Within.{Within, below}
 use Rattle.clock.specs.Time.{eastOf, offsetOf, offsetInRange, checkedOffset}

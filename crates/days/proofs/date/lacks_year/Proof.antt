@@ -1,7 +1,7 @@
 -- `parts::date::lacks_year` meets its contract. Assumes nothing.
 use mathlib.Core.Path.{refl}
 use borrow.Author.Needs.{needs}
-use Rattle.reader.specs.Fields.{bc}
+use Rattle.tasks.specs.Fields.{bc}
 use Rattle.values.proofs.Known.{known}
 use Rattle.days.proofs.Held.{fitting}
 use Rattle.values.proofs.Tests.{absent, present, zero-bits}

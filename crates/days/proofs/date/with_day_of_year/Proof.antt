@@ -3,7 +3,7 @@ use mathlib.Core.Path.{_≡_, _∙_, sym}
 use mathlib.Core.Bool.{true, false}
 use borrow.Author.Needs.{needs}
 use lib.Dec.{lit<}
-use Rattle.reader.specs.Fields.{mode}
+use Rattle.tasks.specs.Fields.{mode}
 use Rattle.days.specs.Dates.{countsDayOfYear, lacksYear, withDayOfYear}
 use Rattle.values.proofs.Known.{Known, known}
 use Rattle.values.proofs.Tests.{equal, unequal, failed, passed}

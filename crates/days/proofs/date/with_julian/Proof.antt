@@ -1,6 +1,6 @@
 -- `parts::date::with_julian` meets its contract. Assumes nothing.
 use borrow.Author.Needs.{needs}
-use Rattle.reader.specs.Fields.{j}
+use Rattle.tasks.specs.Fields.{j}
 use Rattle.days.specs.Dates.{withJulian}
 use Rattle.values.proofs.Known.{Known, known}
 use Rattle.values.proofs.Tests.{absent, present}

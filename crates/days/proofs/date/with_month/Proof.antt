@@ -1,7 +1,7 @@
 -- `parts::date::with_month` meets its contract. Assumes nothing.
 use borrow.Author.Needs.{needs}
 use mir.Facts.{toZ-ofZ}
-use Rattle.reader.specs.Fields.{mm}
+use Rattle.tasks.specs.Fields.{mm}
 use Rattle.values.proofs.Known.{Known, known}
 use Rattle.days.proofs.Held.{fitting}
 use Rattle.values.proofs.Tests.{absent, present}

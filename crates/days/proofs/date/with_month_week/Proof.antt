@@ -2,7 +2,7 @@
 use mathlib.Core.Path.{_≡_, _∙_, sym}
 use borrow.Author.Needs.{needs}
 use mir.Facts.{toZ-ofZ}
-use Rattle.reader.specs.Fields.{get, w}
+use Rattle.tasks.specs.Fields.{get, w}
 use Rattle.days.specs.Dates.{firstOfWeek, withMonthWeek}
 use Rattle.values.specs.declared.Value.{Value}
 use Rattle.values.proofs.Fits.{back}

@@ -3,7 +3,7 @@ use mathlib.Core.Path.{_≡_, _∙_, sym}
 use borrow.Author.Needs.{needs}
 use lib.Dec.{lit<}
 use mir.Facts.{toZ-ofZ}
-use Rattle.reader.specs.Fields.{get, mode, ww}
+use Rattle.tasks.specs.Fields.{get, mode, ww}
 use Rattle.wrapping.proofs.Fits.{returned}
 use Rattle.days.specs.Dates.{firstOfWeek, withWeek}
 use Rattle.values.specs.declared.Value.{Value}

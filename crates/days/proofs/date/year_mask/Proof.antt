@@ -1,6 +1,6 @@
 -- `parts::date::year_mask` meets its contract. Assumes nothing.
 use borrow.Author.Needs.{needs}
-use Rattle.reader.specs.Fields.{year, cc}
+use Rattle.tasks.specs.Fields.{year, cc}
 use Rattle.values.proofs.Known.{Known, known}
 use Rattle.values.proofs.Tests.{absent, present}
 use Rattle.days.proofs.date.year_mask.Statement.{statement}

@@ -8,7 +8,7 @@ use lib.Signed.{remZ}
 use mir.Facts.{toZ-ofZ}
 use mir.Syntax.{w32}
 use mir.Val.{SFits}
-use Rattle.reader.specs.Fields.{isZero}
+use Rattle.tasks.specs.Fields.{isZero}
 use Rattle.wrapping.proofs.Fits.{wrap-back, quot-fits}
 use Rattle.days.specs.Year.{yearInCentury}
 use Rattle.values.proofs.Fits.{rem-fits, neg-rem-fits, wrap-twice}

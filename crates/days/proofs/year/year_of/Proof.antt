@@ -1,6 +1,6 @@
 -- `parts::year::year_of` meets its contract. Assumes nothing.
 use borrow.Author.Needs.{needs}
-use Rattle.reader.specs.Fields.{year, cc}
+use Rattle.tasks.specs.Fields.{year, cc}
 use Rattle.wrapping.proofs.Fits.{returned}
 use Rattle.days.specs.Year.{yearOf}
 use Rattle.values.proofs.Known.{Known, known}

@@ -5,9 +5,9 @@ use denote.Ref.{now}
 use Rattle.fields.specs.Suffix.{isFree}
 use Rattle.patterns.specs.Patterns.{patternOf}
 use Rattle.wrapping.proofs.Fits.{returned}
-use Rattle.reader.specs.Fields.{get, mode}
+use Rattle.tasks.specs.Fields.{get, mode}
 use Rattle.reader.specs.Reader.{actionRead, mixes, performed, withMode}
-use Rattle.reader.specs.Tasks.{taskOf}
+use Rattle.tasks.specs.Tasks.{taskOf}
 use Rattle.reader.proofs.Verdicts.{stopped, passed}
 use Rattle.reader.proofs.actions.action_read.Statement.{statement}
 use Rattle.reader.proofs.actions.action_read.Tie as tie

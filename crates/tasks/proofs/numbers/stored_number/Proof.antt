@@ -1,0 +1,86 @@
+-- `reader::numbers::stored_number` meets its contract. Assumes nothing.
+use mathlib.Core.Path.{_≡_, _∙_, sym}
+use Prim.Native.Nat.{_<_}
+use native.Mathlib.Omega.{arith}
+use borrow.Author.Needs.{needs}
+use lib.ListN.{length}
+use denote.Ref.{now}
+use mir.Facts.{toZ-ofZ}
+use mir.Syntax.{w32}
+use mir.Val.{SFits}
+use Rattle.wrapping.proofs.Fits.{returned}
+use Rattle.fields.specs.Number.{Inside}
+use Rattle.fields.specs.Setting.{conflicts}
+use Rattle.fields.specs.declared.Number.the-variants.{Read}
+use Rattle.tasks.specs.Fields.{get}
+use Rattle.tasks.specs.Numbers.{storedNumber}
+use Rattle.tasks.proofs.numbers.stored_number.Statement.{statement}
+use Rattle.tasks.proofs.numbers.stored_number.Tie as tie
+
+-- the number that was read is one of 32 bits, and ends behind its place
+value-fits : (c : tie.After-known-told2) → SFits w32 (c .before .number2 .given .0 .0)
+value-fits c = search needs
+
+moved : (c : tie.After-known-told2) → c .before .before .before .before .args .p .at < c .before .number2 .given .0 .1 .0
+moved c =
+    let a = c .before .before .before .before in
+    (rw (c .before .number2 .given .1) at (a .pre .1)) .0
+
+-- the test
+tested : (c : tie.After-from-char-set-int) →
+    let a = c .before .before .before .before .before .before .args in
+    c .from-char-set-int .result ≡ conflicts (get (a .f) (a .task .field)) (c .before .before .before .number2 .given .0 .0)
+tested c =
+    let g = c .before .get in
+    simp (returned (g .ok) (g .ensures), toZ-ofZ (value-fits (c .before .before))) at (c .from-char-set-int .ensures)
+
+returns : tie.Need-returns
+unfolding storedNumber
+returns c =
+    let t = c .before .before in
+    rw (t .before .before .before .number2 .given .1, sym (tested t) ∙ c .before .if1 .taken) (c .refuse2 .ensures)
+
+returns-2 : tie.Need-returns-2
+unfolding storedNumber
+returns-2 c = rw (c .before .before .number .given .1) (c .refuse .ensures)
+
+returns-3 : tie.Need-returns-3
+unfolding storedNumber
+returns-3 c =
+    let l = c .before .before in
+    let w = l .before .before in
+    let k = w .before in
+    let t = k .before .before .before in
+    let v = t .before .before in
+    simp (
+      v .before .number2 .given .1,
+      sym (tested t) ∙ k .before .before .if1 .left,
+      c .read .ensures,
+      c .before .noted .ensures,
+      l .at-place .ensures,
+      l .before .skip-th .ensures .is,
+      w .put .ensures,
+      returned (k .kept .ok) (k .kept .ensures),
+      toZ-ofZ (value-fits v),
+    )
+
+pub stored-number-spec : {M : Type 1} → statement M
+stored-number-spec =
+    tie.close
+    (tie.spec
+    (λ c. search needs)
+    (λ c κs. search needs)
+    (λ c. search needs)
+    (λ c κs. search needs)
+    (λ c κs. search needs)
+    (λ c κs. search needs)
+    returns
+    (λ c. let h = moved (c .before .before .before .before) in omega arith)
+    (λ c κs. search needs)
+    (λ c κs. search needs)
+    (λ c κs. search needs)
+    (λ c κs. search needs)
+    (λ c κs. search needs)
+    (λ c κs. search needs)
+    returns-2
+    returns-3)

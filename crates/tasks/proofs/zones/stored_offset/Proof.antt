@@ -1,0 +1,66 @@
+-- `reader::zones::stored_offset` meets its contract. Assumes nothing.
+use mathlib.Core.Path.{_≡_, _∙_, sym}
+use borrow.Author.Needs.{needs}
+use mir.Facts.{toZ-ofZ}
+use mir.Syntax.{w32}
+use mir.Val.{SFits}
+use Rattle.wrapping.proofs.Fits.{returned}
+use Rattle.fields.specs.Setting.{conflicts}
+use Rattle.tasks.specs.Fields.{get}
+use Rattle.tasks.specs.Zones.{storedOffset}
+use Rattle.tasks.proofs.zones.stored_offset.Statement.{statement}
+use Rattle.tasks.proofs.zones.stored_offset.Tie as tie
+
+-- the number that was read is one of 32 bits
+value-fits : (c : tie.After-known-told2) → SFits w32 (c .before .number2 .given .0 .0)
+value-fits c = search needs
+
+-- the test
+tested : (c : tie.After-from-char-set-int) →
+    let a = c .before .before .before .before .before .args in
+    c .from-char-set-int .result ≡ conflicts (get (a .f) (a .k)) (c .before .before .before .number2 .given .0 .0)
+tested c =
+    let g = c .before .get in
+    simp (returned (g .ok) (g .ensures), toZ-ofZ (value-fits (c .before .before))) at (c .from-char-set-int .ensures)
+
+returns : tie.Need-returns
+unfolding storedOffset
+returns c =
+    let t = c .before .before in
+    rw (t .before .before .before .number2 .given .1, sym (tested t) ∙ c .before .if1 .taken) (c .refuse2 .ensures)
+
+returns-2 : tie.Need-returns-2
+unfolding storedOffset
+returns-2 c = rw (c .before .before .number .given .1) (c .refuse .ensures)
+
+returns-3 : tie.Need-returns-3
+unfolding storedOffset
+returns-3 c =
+    let w = c .before .before in
+    let t = w .before .before in
+    let v = t .before .before in
+    simp (
+      v .before .number2 .given .1,
+      sym (tested t) ∙ w .before .if1 .left,
+      c .read .ensures,
+      c .before .at-place .ensures,
+      w .put .ensures,
+      toZ-ofZ (value-fits v),
+    )
+
+pub stored-offset-spec : {M : Type 1} → statement M
+stored-offset-spec =
+    tie.close
+    (tie.spec
+    (λ c. search needs)
+    (λ c κs. search needs)
+    (λ c. search needs)
+    (λ c κs. search needs)
+    (λ c κs. search needs)
+    (λ c κs. search needs)
+    returns
+    (λ c κs. search needs)
+    (λ c κs. search needs)
+    (λ c κs. search needs)
+    returns-2
+    returns-3)

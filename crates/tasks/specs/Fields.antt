@@ -1,0 +1,111 @@
+-- The fields that a template reads (TmFromChar of formatting.c), a list of numbers with named places. 0 is absent.
+use Prim.Native.Nat.{ℕ}
+use lib.IntN.{ℤ, pos}
+use lib.ListN.{getD, set, replicate}
+use Rattle.answers.specs.declared.Refusal.{Refusal}
+pub use Rattle.fields.specs.Setting.{eqℤ, isZero, conflicts}
+use Rattle.tasks.specs.declared.Fields.{Fields}
+use Rattle.tasks.specs.declared.Place.{Place}
+use Rattle.tasks.specs.declared.Reading.{Reading}
+use Rattle.tasks.specs.declared.Verdict.{Verdict}
+use Rattle.tasks.specs.declared.Verdict.the-variants.{Read, Refused}
+
+-- the places: the date mode; hour, half of the day, minute, second, second of the day; weekday, day of the month, day of the year, month; millisecond;
+-- year, before Christ, week of the year, week of the month, century, Julian day; microsecond; digits of the year; clock of 12 or 24 hours; sign, hours
+-- and minutes of the offset; digits of the fraction
+abbrev pub mode : ℕ
+mode = 0
+
+abbrev pub hh : ℕ
+hh = 1
+
+abbrev pub pm : ℕ
+pm = 2
+
+abbrev pub mi : ℕ
+mi = 3
+
+abbrev pub ss : ℕ
+ss = 4
+
+abbrev pub ssss : ℕ
+ssss = 5
+
+abbrev pub d : ℕ
+d = 6
+
+abbrev pub dd : ℕ
+dd = 7
+
+abbrev pub ddd : ℕ
+ddd = 8
+
+abbrev pub mm : ℕ
+mm = 9
+
+abbrev pub ms : ℕ
+ms = 10
+
+abbrev pub year : ℕ
+year = 11
+
+abbrev pub bc : ℕ
+bc = 12
+
+abbrev pub ww : ℕ
+ww = 13
+
+abbrev pub w : ℕ
+w = 14
+
+abbrev pub cc : ℕ
+cc = 15
+
+abbrev pub j : ℕ
+j = 16
+
+abbrev pub us : ℕ
+us = 17
+
+abbrev pub yysz : ℕ
+yysz = 18
+
+abbrev pub clock : ℕ
+clock = 19
+
+abbrev pub tzsign : ℕ
+tzsign = 20
+
+abbrev pub tzh : ℕ
+tzh = 21
+
+abbrev pub tzm : ℕ
+tzm = 22
+
+abbrev pub ff : ℕ
+ff = 23
+
+-- no field read
+abbrev pub noFields : Fields
+noFields = record { values = replicate 24 (pos 0) }
+
+abbrev pub get : Fields → ℕ → ℤ
+get f k = getD (f .values) k (pos 0)
+
+abbrev pub put : Fields → ℕ → ℤ → Fields
+put f k z = record { values = set (f .values) k z }
+
+-- the fields and the place behind a pattern, or as they were
+abbrev pub read : Fields → Place → Reading
+read f p = record { verdict = Read; fields = f; place = p }
+
+abbrev pub refuse : Refusal → Fields → Place → Reading
+refuse why f p = record { verdict = Refused why; fields = f; place = p }
+
+abbrev pub atPlace : Place → ℕ → Place
+atPlace p at = record { at = at; extra = p .extra; fx = p .fx }
+
+-- what comes after a pattern: nothing where it was refused
+abbrev pub onward : Verdict → Reading → Reading → Reading
+onward Read r rest = rest
+onward (Refused why) r rest = r

@@ -1,0 +1,41 @@
+// What reading each pattern does: the table of tasks, and numbers, words and offsets read into fields.
+pub mod field;
+pub mod numbers;
+pub mod state;
+pub mod table;
+pub mod words;
+pub mod zones;
+
+use answers::Refusal;
+
+// What is read so far: a number for each field, 0 where it is absent.
+pub struct Fields {
+    pub values: [i32; 24],
+}
+
+// Where reading stands in the input, how many skipped spaces may still pay for literals, and whether FX was read.
+pub struct Place {
+    pub at: usize,
+    pub extra: usize,
+    pub fx: bool,
+}
+
+pub enum Verdict {
+    Read,
+    Refused(Refusal),
+}
+
+// The fields with one pattern more, and the place behind it. A refusal leaves both as they were.
+pub struct Reading {
+    pub verdict: Verdict,
+    pub fields: Fields,
+    pub place: Place,
+}
+
+// What reading a pattern does.
+pub struct Task {
+    pub kind: u8,
+    pub field: u8,
+    pub rule: u8,
+    pub width: u8,
+}

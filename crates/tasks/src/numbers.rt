@@ -1,0 +1,159 @@
+// Patterns that read a number, and a year with a comma.
+ghost use mathlib.Core.Path.{_≡_};
+ghost use Prim.Native.Nat.{_<_, _≤_, _^_};
+ghost use lib.IntN.{pos};
+ghost use lib.ListN.{length};
+ghost use Rattle.fields.specs.Number.{Inside};
+ghost use Rattle.wrapping.specs.Wrap.{_⊗_};
+ghost use Rattle.tasks.specs.Numbers.{kept, missing, nearIfShort, noted, readCommaYear, readDropped, readNumber, storedNumber, sundayFirst};
+use crate::Fields;
+use crate::Place;
+use crate::Reading;
+use crate::Task;
+use crate::field;
+use crate::state;
+use answers::Refusal;
+use fields::Number;
+use template::Node;
+
+// The rules for a number; any other keeps it as it is.
+const HOUR12: u8 = 1;
+
+const MILLIS: u8 = 2;
+
+const MICROS: u8 = 3;
+
+const FRACTION: u8 = 4;
+
+const ISO_DAY: u8 = 5;
+
+const WHOLE_YEAR: u8 = 6;
+
+const PART_YEAR: u8 = 7;
+
+fn power_of_ten(k: usize) -> i32
+    requires { ⌜ k < 6 ⌝ }
+    ensures { λ r. ⌜ r ≡ pos (10 ^ k) ⌝ }
+{
+    match k {
+        0 => 1,
+        1 => 10,
+        2 => 100,
+        3 => 1000,
+        4 => 10000,
+        _ => 100000,
+    }
+}
+
+// What a number that was read from n bytes is multiplied by, where it stands for the first digits of a width.
+fn missing(width: usize, n: usize) -> i32
+    requires { ⌜ width ≤ 6 ⌝ }
+    ensures { λ r. ⌜ r ≡ missing width n ⌝ }
+{
+    if n == 0 {
+        return 1;
+    }
+    if width <= n {
+        return 1;
+    }
+    power_of_ten(width - n)
+}
+
+fn scaled(z: i32, width: usize, n: usize) -> i32
+    requires { ⌜ width ≤ 6 ⌝ }
+    ensures { λ r. ⌜ r ≡ z ⊗ missing width n ⌝ }
+{
+    wrapping::wrapping_mul(z, missing(width, n))
+}
+
+// A year of fewer than four digits is put near 2020.
+fn near_if_short(z: i32, n: usize) -> i32
+    ensures { λ r. ⌜ r ≡ nearIfShort z n ⌝ }
+{
+    if n < 4 {
+        return fields::adjust_partial_year(z);
+    }
+    z
+}
+
+// An ISO weekday as one that counts from Sunday.
+fn sunday_first(z: i32) -> i32
+    ensures { λ r. ⌜ r ≡ sundayFirst z ⌝ }
+{
+    let d = wrapping::wrapping_add(z, 1);
+    if d > 7 { 1 } else { d }
+}
+
+// What a field keeps of a number that was read from n bytes.
+fn kept(rule: u8, z: i32, n: usize) -> i32
+    ensures { λ r. ⌜ r ≡ kept rule z n ⌝ }
+{
+    match rule {
+        MILLIS => scaled(z, 3, n),
+        MICROS => scaled(z, 6, n),
+        FRACTION => scaled(z, 6, n),
+        ISO_DAY => sunday_first(z),
+        PART_YEAR => near_if_short(z, n),
+        _ => z,
+    }
+}
+
+// What else is set: the clock of 12 hours, the digits of the year or of the fraction.
+fn noted(rule: u8, width: u8, f: Fields) -> Fields
+    ensures { λ r. ⌜ r ≡ noted rule width f ⌝ }
+{
+    match rule {
+        HOUR12 => state::put(f, field::CLOCK, 12),
+        WHOLE_YEAR => state::put(f, field::YYSZ, 4),
+        PART_YEAR => state::put(f, field::YYSZ, width as i32),
+        FRACTION => state::put(f, field::FF, width as i32),
+        _ => f,
+    }
+}
+
+// A number goes into its field, unless that was set to another value; an ordinal suffix is skipped.
+fn stored_number(s: &[u8], n: Node, task: Task, number: Number, f: Fields, p: Place) -> Reading
+    requires { ⌜ (task .field < 24) × Inside (now s) (p .at) number ⌝ }
+    ensures { λ r. ⌜ r ≡ storedNumber (now (s .entry)) n task number f p ⌝ }
+{
+    match number {
+        Number::Refused(why) => state::refuse(why, f, p),
+        Number::Read { value, next } => {
+            if fields::from_char_set_int(state::get(f, task.field), value) {
+                return state::refuse(Refusal::Conflict { pattern: n.pattern }, f, p);
+            }
+            let set = state::put(f, task.field, kept(task.rule, value, next - p.at));
+            let behind = state::at_place(p, fields::skip_th(s, next, n.suffix));
+            state::read(noted(task.rule, task.width, set), behind)
+        }
+    }
+}
+
+pub fn read_number(s: &[u8], n: Node, free: bool, task: Task, f: Fields, p: Place) -> Reading
+    requires { ⌜ (task .field < 24) × (p .at ≤ length (now s)) ⌝ }
+    ensures { λ r. ⌜ r ≡ readNumber (now (s .entry)) n free task f p ⌝ }
+{
+    let number = fields::parse_int_len(s, p.at, task.width, n.pattern, free);
+    stored_number(s, n, task, number, f, p)
+}
+
+pub fn read_comma_year(s: &[u8], n: Node, task: Task, f: Fields, p: Place) -> Reading
+    requires { ⌜ (task .field < 24) × (p .at ≤ length (now s)) ⌝ }
+    ensures { λ r. ⌜ r ≡ readCommaYear (now (s .entry)) n task f p ⌝ }
+{
+    let number = fields::comma_year(s, p.at, n.pattern);
+    stored_number(s, n, task, number, f, p)
+}
+
+// A number that is read and dropped.
+pub fn read_dropped(s: &[u8], n: Node, free: bool, task: Task, f: Fields, p: Place) -> Reading
+    requires { ⌜ p .at ≤ length (now s) ⌝ }
+    ensures { λ r. ⌜ r ≡ readDropped (now (s .entry)) n free task f p ⌝ }
+{
+    match fields::parse_int_len(s, p.at, task.width, n.pattern, free) {
+        Number::Refused(why) => state::refuse(why, f, p),
+        Number::Read { value: _, next } => {
+            state::read(f, state::at_place(p, fields::skip_th(s, next, n.suffix)))
+        }
+    }
+}

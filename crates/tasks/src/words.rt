@@ -1,0 +1,93 @@
+// Patterns that read a word.
+ghost use mathlib.Core.Path.{_≡_};
+ghost use Prim.Native.Nat.{_<_, _≤_};
+ghost use Rattle.tasks.specs.Words.{keptWord, listOf, meant, notedWord, readWord, wordStored};
+use crate::Fields;
+use crate::Place;
+use crate::Reading;
+use crate::Task;
+use crate::field;
+use crate::state;
+use answers::Refusal;
+use fields::Word;
+use patterns::WordList;
+use template::Node;
+
+// The rules for a word; by any other the odd places of its list are 1.
+const ODD_HOUR12: u8 = 1;
+
+const MONTH: u8 = 2;
+
+const WEEKDAY: u8 = 3;
+
+const ROMAN_MONTH: u8 = 4;
+
+// The word lists by number.
+fn list_of(k: u8) -> WordList
+    ensures { λ r. ⌜ r ≡ listOf k ⌝ }
+{
+    match k {
+        1 => WordList::MonthsAbbrev,
+        2 => WordList::DaysFull,
+        3 => WordList::DaysAbbrev,
+        4 => WordList::AmPm,
+        5 => WordList::AmPmLong,
+        6 => WordList::AdBc,
+        7 => WordList::AdBcLong,
+        8 => WordList::RomanMonths,
+        _ => WordList::MonthsFull,
+    }
+}
+
+// The number of a word at a place of its list.
+fn meant(rule: u8, k: usize) -> u8
+    requires { ⌜ k < 12 ⌝ }
+    ensures { λ r. ⌜ (r ≡ meant rule k) × (r ≤ 12) ⌝ }
+{
+    match rule {
+        MONTH => (k + 1) as u8,
+        WEEKDAY => k as u8,
+        ROMAN_MONTH => (12 - k) as u8,
+        _ => (k % 2) as u8,
+    }
+}
+
+// A weekday is kept one higher.
+fn kept_word(rule: u8, z: u8) -> u8
+    requires { ⌜ z ≤ 12 ⌝ }
+    ensures { λ r. ⌜ r ≡ keptWord rule z ⌝ }
+{
+    if rule == WEEKDAY { z + 1 } else { z }
+}
+
+fn noted_word(rule: u8, f: Fields) -> Fields
+    ensures { λ r. ⌜ r ≡ notedWord rule f ⌝ }
+{
+    if rule == ODD_HOUR12 {
+        return state::put(f, field::CLOCK, 12);
+    }
+    f
+}
+
+// A word's number goes into its field, unless that was set to another value.
+fn word_stored(n: Node, task: Task, z: u8, next: usize, f: Fields, p: Place) -> Reading
+    requires { ⌜ (task .field < 24) × (z ≤ 12) ⌝ }
+    ensures { λ r. ⌜ r ≡ wordStored n task z next f p ⌝ }
+{
+    if fields::from_char_set_int(state::get(f, task.field), z as i32) {
+        return state::refuse(Refusal::Conflict { pattern: n.pattern }, f, p);
+    }
+    let set = state::put(f, task.field, kept_word(task.rule, z) as i32);
+    state::read(noted_word(task.rule, set), state::at_place(p, next))
+}
+
+pub fn read_word(s: &[u8], n: Node, task: Task, f: Fields, p: Place) -> Reading
+    requires { ⌜ task .field < 24 ⌝ }
+    ensures { λ r. ⌜ r ≡ readWord (now (s .entry)) n task f p ⌝ }
+{
+    let at = p.at;
+    match fields::seq_search_ascii(s, at, list_of(task.width)) {
+        Word::Nothing => state::refuse(Refusal::NoWord { pattern: n.pattern }, f, p),
+        Word::At { index, len } => word_stored(n, task, meant(task.rule, index), at + len, f, p),
+    }
+}
