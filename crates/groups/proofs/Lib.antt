@@ -1,4 +1,4 @@
--- From the fields that a full template's groups set to the moment, its instant and its day.
+-- From the fields that a full template's groups set to the moment.
 mod Steps
 mod Dates
 mod Times
