@@ -126,8 +126,8 @@ fn fixed(s: &[u8], at: usize, width: u8, pattern: u8) -> Number
     checked(pattern, at, found)
 }
 
-// A number of a width, or of any width if it is free.
-pub fn parse_int_len(s: &[u8], at: usize, width: u8, pattern: u8, free: bool) -> Number
+// A number of a width, or of any width if it is free, as strtol reads it.
+pub fn strtol_number(s: &[u8], at: usize, width: u8, pattern: u8, free: bool) -> Number
     requires { ⌜ at ≤ length (now s) ⌝ }
     ensures { λ r. ⌜ Numbered (now (s .entry)) at (numberAt (now (s .entry)) at width pattern free) r ⌝ }
 {
@@ -135,6 +135,23 @@ pub fn parse_int_len(s: &[u8], at: usize, width: u8, pattern: u8, free: bool) ->
         return checked(pattern, at, strtol::c_strtol(s, at));
     }
     fixed(s, at, width, pattern)
+}
+
+// The same. Most numbers are digits alone, and few.
+pub fn parse_int_len(s: &[u8], at: usize, width: u8, pattern: u8, free: bool) -> Number
+    requires { ⌜ at ≤ length (now s) ⌝ }
+    ensures { λ r. ⌜ Numbered (now (s .entry)) at (numberAt (now (s .entry)) at width pattern free) r ⌝ }
+{
+    if free {
+        let short = strtol::short_number(s, at);
+        if short.end != at {
+            return Number::Read {
+                value: short.value as i32,
+                next: short.end,
+            };
+        }
+    }
+    strtol_number(s, at, width, pattern, free)
 }
 
 // Whether a field that holds `old`, 0 if it is absent, cannot be set to `new`.

@@ -1,5 +1,5 @@
 mod Order
 mod Range
-mod Seconds
+pub mod Seconds
 mod Rounding
 pub mod Plain

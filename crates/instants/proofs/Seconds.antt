@@ -58,6 +58,7 @@ pub record Ranged (p : Parts) : Type 0 where
   pub minute : SFits w32 (p .minute)
   pub second : SFits w32 (p .second)
   pub micros : SFits w32 (p .micros)
+  pub precision : SFits w32 (p .precision)
 
 -- the seconds since 1970
 abbrev pub days : Parts → ℤ

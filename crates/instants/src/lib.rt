@@ -3,7 +3,9 @@ ghost use mathlib.Core.Path.{_≡_};
 ghost use Prim.Native.Nat.{_+_, _-_, _/_, _<_, _≤_, _^_};
 ghost use lib.IntN.{pos, natAbs, _+ℤ_, _*ℤ_};
 ghost use Rattle.gregorian.specs.Civil.{daysFromCivil};
-ghost use Rattle.instants.specs.Instant.{within, secondsOf, wallOf, lessOffset, rounded, away, roundedTo, instantOf, dayOf, timestampOf, dateOf};
+ghost use Rattle.parts.specs.Parts.{partsBy};
+ghost use Rattle.template.specs.Bytes.{nodesIn};
+ghost use Rattle.instants.specs.Instant.{within, secondsOf, wallOf, lessOffset, rounded, away, roundedTo, instantOf, dayOf, instantBy, dayBy, timestampOf, dateOf};
 ghost use Rattle.instants.specs.Report.{unplacedReport};
 use answers::Refusal;
 use answers::Report;
@@ -186,24 +188,49 @@ pub fn day_of(p: Parts) -> Day
     Day::Refused(Unplaced::DateRange)
 }
 
-// The instant of an input by a template.
-pub fn to_timestamp_text(t: &[u8], s: &[u8]) -> Instant
-    ensures { λ r. ⌜ r ≡ timestampOf (now (t .entry)) (now (s .entry)) ⌝ }
+// The instant and the day of an answer.
+fn instant_from(answer: Answer) -> Instant
+    ensures { λ r. ⌜ r ≡ instantBy answer ⌝ }
 {
-    match parts::to_timestamp_parts(t, s) {
+    match answer {
         Answer::Moment(p) => instant_of(p),
         Answer::Refused(why) => Instant::Refused(Unplaced::Unread(why)),
     }
 }
 
-// The day of an input by a template.
-pub fn to_date_text(t: &[u8], s: &[u8]) -> Day
-    ensures { λ r. ⌜ r ≡ dateOf (now (t .entry)) (now (s .entry)) ⌝ }
+fn day_from(answer: Answer) -> Day
+    ensures { λ r. ⌜ r ≡ dayBy answer ⌝ }
 {
-    match parts::to_timestamp_parts(t, s) {
+    match answer {
         Answer::Moment(p) => day_of(p),
         Answer::Refused(why) => Day::Refused(Unplaced::Unread(why)),
     }
+}
+
+// The instant and the day of an input by a template.
+pub fn to_timestamp_text(t: &[u8], s: &[u8]) -> Instant
+    ensures { λ r. ⌜ r ≡ timestampOf (now (t .entry)) (now (s .entry)) ⌝ }
+{
+    instant_from(parts::to_timestamp_parts(t, s))
+}
+
+pub fn to_date_text(t: &[u8], s: &[u8]) -> Day
+    ensures { λ r. ⌜ r ≡ dateOf (now (t .entry)) (now (s .entry)) ⌝ }
+{
+    day_from(parts::to_timestamp_parts(t, s))
+}
+
+// The same by the nodes that any bytes hold. t is the template that they were made from.
+pub fn instant_by(c: &[u8], t: &[u8], s: &[u8]) -> Instant
+    ensures { λ r. ⌜ r ≡ instantBy (partsBy (nodesIn (now (c .entry))) (now (t .entry)) (now (s .entry))) ⌝ }
+{
+    instant_from(parts::parts_by(c, t, s))
+}
+
+pub fn day_by(c: &[u8], t: &[u8], s: &[u8]) -> Day
+    ensures { λ r. ⌜ r ≡ dayBy (partsBy (nodesIn (now (c .entry))) (now (t .entry)) (now (s .entry))) ⌝ }
+{
+    day_from(parts::parts_by(c, t, s))
 }
 
 // By which number a refusal is known, with its pattern and figures.

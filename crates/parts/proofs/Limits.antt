@@ -10,7 +10,8 @@ use Rattle.chars.specs.Utf8.{wellFormed}
 use Rattle.reader.specs.Reader.{readAll}
 use Rattle.tasks.specs.declared.Reading.{Reading}
 use Rattle.template.specs.Template.{nodesOf}
-use Rattle.parts.specs.Parts.{partsOf, thenFields}
+use Rattle.template.specs.declared.Node.{Node}
+use Rattle.parts.specs.Parts.{partsBy, partsOf, thenFields}
 use Rattle.parts.specs.declared.Answer.the-variants.{Refused}
 
 module _ (t s : List ℕ) where
@@ -28,11 +29,22 @@ module _ (t s : List ℕ) where
       unfolding partsOf
       bad-template e = rw (le-ltb 256 (length t) short, le-ltb 512 (length s) small, e)
 
-      pub bad-input : wellFormed t ≡ true → wellFormed s ≡ false → partsOf t s ≡ Refused NotUtf8
-      unfolding partsOf
-      bad-input e f = rw (le-ltb 256 (length t) short, le-ltb 512 (length s) small, e, f)
+    -- a template in UTF-8, by its nodes
+    pub by-nodes : wellFormed t ≡ true → partsBy (nodesOf t) t s ≡ partsOf t s
+    unfolding partsOf partsBy
+    by-nodes e = rw (le-ltb 256 (length t) short, e)
 
-      pub good : wellFormed t ≡ true → wellFormed s ≡ true → (r : Reading) → r ≡ readAll t s (nodesOf t)
-          → partsOf t s ≡ thenFields (r .verdict) (r .fields)
-      unfolding partsOf
-      good e f r q = rw (le-ltb 256 (length t) short, le-ltb 512 (length s) small, e, f, q)
+-- by any nodes
+module _ (ns : List Node) (t s : List ℕ) where
+  pub input-long : 512 < length s → Refused TooLong ≡ partsBy ns t s
+  unfolding partsBy
+  input-long h = rw (lt-ltb 512 (length s) h)
+
+  module _ (small : length s ≤ 512) where
+    pub input-bad : wellFormed s ≡ false → Refused NotUtf8 ≡ partsBy ns t s
+    unfolding partsBy
+    input-bad e = rw (le-ltb 512 (length s) small, e)
+
+    pub input-good : wellFormed s ≡ true → (r : Reading) → r ≡ readAll t s ns → thenFields (r .verdict) (r .fields) ≡ partsBy ns t s
+    unfolding partsBy
+    input-good e r q = rw (le-ltb 512 (length s) small, e, q)

@@ -16,6 +16,7 @@ use Rattle.tasks.specs.declared.Reading.{Reading}
 use Rattle.tasks.specs.declared.Verdict.{Verdict}
 use Rattle.tasks.specs.declared.Verdict.the-variants.{Read as Done, Refused as Stopped}
 use Rattle.template.specs.Template.{nodesOf}
+use Rattle.template.specs.declared.Node.{Node}
 use Rattle.days.specs.Dates.{datedOf, dateInRange}
 use Rattle.clock.specs.Time.{clockHour, minuteOf, secondOf, microsOf, timeInRange, checkedOffset}
 use Rattle.parts.specs.declared.Answer.{Answer}
@@ -77,6 +78,14 @@ momentOf f = thenDate f (clockHour f)
 abbrev pub thenFields : Verdict → Fields → Answer
 thenFields Done f = momentOf f
 thenFields (Stopped why) f = Refused why
+
+-- the parts of an input by the nodes of a template t
+unfoldable pub partsBy : List Node → List ℕ → List ℕ → Answer
+partsBy ns t s =
+    let r = readAll t s ns in
+    if ltb inputLimit (length s) then Refused TooLong
+    else if not (wellFormed s) then Refused NotUtf8
+    else thenFields (r .verdict) (r .fields)
 
 -- the parts of an input by a template
 unfoldable pub partsOf : List ℕ → List ℕ → Answer

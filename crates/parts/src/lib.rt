@@ -1,6 +1,7 @@
 // The parts of a moment from the fields that a template read: do_to_timestamp of PostgreSQL's formatting.c.
 ghost use mathlib.Core.Path.{_≡_};
-ghost use Rattle.parts.specs.Parts.{checkedMoment, momentOf, partsOf, thenFields};
+ghost use Rattle.template.specs.Bytes.{nodesIn};
+ghost use Rattle.parts.specs.Parts.{checkedMoment, momentOf, partsBy, partsOf, thenFields};
 use answers::Refusal;
 use clock::Offset;
 use clock::Zoned;
@@ -17,6 +18,8 @@ use days::dated_of;
 use tasks::Fields;
 use tasks::Reading;
 use tasks::Verdict;
+use template::NODE;
+use template::NODES;
 use values::Value;
 
 pub struct Parts {
@@ -101,6 +104,19 @@ fn answered(r: Reading) -> Answer
     }
 }
 
+// The parts of an input by the nodes that any bytes hold. t is the template that they were made from.
+pub fn parts_by(c: &[u8], t: &[u8], s: &[u8]) -> Answer
+    ensures { λ a. ⌜ a ≡ partsBy (nodesIn (now (c .entry))) (now (t .entry)) (now (s .entry)) ⌝ }
+{
+    if INPUT_LIMIT < s.len() {
+        return Answer::Refused(Refusal::TooLong);
+    }
+    if !chars::is_utf8(s) {
+        return Answer::Refused(Refusal::NotUtf8);
+    }
+    answered(reader::dch_from_char(c, t, s))
+}
+
 // The parts of an input by a template.
 pub fn to_timestamp_parts(t: &[u8], s: &[u8]) -> Answer
     ensures { λ a. ⌜ a ≡ partsOf (now (t .entry)) (now (s .entry)) ⌝ }
@@ -114,8 +130,7 @@ pub fn to_timestamp_parts(t: &[u8], s: &[u8]) -> Answer
     if !chars::is_utf8(t) {
         return Answer::Refused(Refusal::NotUtf8);
     }
-    if !chars::is_utf8(s) {
-        return Answer::Refused(Refusal::NotUtf8);
-    }
-    answered(reader::dch_from_char(template::parse_format(t), t, s))
+    let mut nodes = [0u8; NODES];
+    let end = NODE * template::parse_format(t, &mut nodes);
+    parts_by(&nodes[..end], t, s)
 }

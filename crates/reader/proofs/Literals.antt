@@ -15,7 +15,15 @@ use Rattle.strtol.specs.Runs.{spaces}
 use Rattle.strtol.proofs.Leading.{leading-place, leading-within}
 use Rattle.template.specs.declared.Node.{Node}
 use Rattle.reader.specs.Reader.{blankPassed, charPassed, enteredBy, literalPassed, place, skipped}
+use Rattle.tasks.specs.Fields.{isExact}
 use Rattle.tasks.specs.declared.Place.{Place}
+
+-- FX was read, by its number
+pub was-exact : (p : Place) → (p .fx ≡ 0 → ⊥) → isExact p ≡ true
+was-exact p h = rw (ne-eqb (p .fx) 0 h)
+
+pub not-exact : (p : Place) → p .fx ≡ 0 → isExact p ≡ false
+not-exact p e = rw e
 
 abbrev blank : ℕ → Bool
 blank b = isSpace b || isSeparator b
@@ -43,24 +51,24 @@ module _ (s : List ℕ) (p : Place) where
 -- a place within the input stays there
 pub entered-within : (s : List ℕ) (p : Place) (skip : Bool) → p .at ≤ length s → enteredBy s skip p .at ≤ length s
 entered-within s p skip h =
-    by-if (λ (q : Place). q .at ≤ length s) (p .fx) p (if skip then skipped s p else p) (λ e. h)
+    by-if (λ (q : Place). q .at ≤ length s) (isExact p) p (if skip then skipped s p else p) (λ e. h)
     (λ e. by-if (λ (q : Place). q .at ≤ length s) skip (skipped s p) p (λ e. omega (arith, leading-place isSpace s (p .at))) (λ e. h))
 
 -- the cases of a literal
 module _ (s : List ℕ) (n : Node) (p : Place) where
-  pub with-exact : p .fx ≡ true → charPassed s p ≡ literalPassed s n p
+  pub with-exact : isExact p ≡ true → charPassed s p ≡ literalPassed s n p
   unfolding literalPassed
   with-exact e = rw e
 
-  pub as-separator : p .fx ≡ false → n .kind ≡ 3 → blankPassed s p ≡ literalPassed s n p
+  pub as-separator : isExact p ≡ false → n .kind ≡ 3 → blankPassed s p ≡ literalPassed s n p
   unfolding literalPassed
   as-separator e k = rw (e, k)
 
-  pub as-space : p .fx ≡ false → n .kind ≡ 4 → blankPassed s p ≡ literalPassed s n p
+  pub as-space : isExact p ≡ false → n .kind ≡ 4 → blankPassed s p ≡ literalPassed s n p
   unfolding literalPassed
   as-space e k = rw (e, k)
 
-  module _ (e : p .fx ≡ false) (no3 : n .kind ≡ 3 → ⊥) (no4 : n .kind ≡ 4 → ⊥) where
+  module _ (e : isExact p ≡ false) (no3 : n .kind ≡ 3 → ⊥) (no4 : n .kind ≡ 4 → ⊥) where
     pub as-char : p .extra ≡ 0 → charPassed s p ≡ literalPassed s n p
     unfolding literalPassed
     as-char z = rw (e, ne-eqb _ _ no3, ne-eqb _ _ no4, z)

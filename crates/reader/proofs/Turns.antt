@@ -10,29 +10,23 @@ use lib.Dec.{eqb, ltb}
 use lib.ListN.{length, drop, getD, drop-of-length-le}
 use lib.Seq.{drop-cons}
 use Rattle.answers.specs.declared.Refusal.{Refusal}
-use Rattle.template.specs.Template.{endNode, nodesOf, compiledOf}
+use Rattle.template.specs.Template.{endNode}
 use Rattle.template.specs.declared.Node.{Node}
-use Rattle.template.proofs.Nodes.{node-at}
 use Rattle.tasks.specs.Fields.{noFields, read, onward}
 use Rattle.reader.specs.Reader.{Payable, actionRead, entered, enteredBy, headOf, literalPassed, nodeRead, place, readAll, readFrom}
 use Rattle.tasks.specs.Tasks.{exact, taskOf}
+use Rattle.reader.specs.Turn.{Turned, LiteralsRead}
 use Rattle.tasks.specs.declared.Fields.{Fields}
+use Rattle.reader.specs.declared.Passed.{Passed}
 use Rattle.tasks.specs.declared.Place.{Place}
 use Rattle.tasks.specs.declared.Reading.{Reading}
 use Rattle.tasks.specs.declared.Verdict.{Verdict}
 use Rattle.tasks.specs.declared.Verdict.the-variants.{Read, Refused}
 use Rattle.reader.proofs.Payable.{payable-action, payable-entered, payable-literal}
 
--- i nodes are read
-pub record Turned (t s : List ℕ) (i : ℕ) (f : Fields) (p : Place) : Type 0 where
-  pub within : i ≤ length (nodesOf t)
-  pub none : i ≡ 0 → p .extra ≡ 0
-  pub payable : Payable s p
-  pub left : readFrom t s (drop i (nodesOf t)) (eqb i 0) f p ≡ readAll t s (nodesOf t)
-
-pub begun : (t s : List ℕ) → Turned t s 0 noFields (place 0 0 false)
+pub begun : (t s : List ℕ) (ns : List Node) → Turned t s ns (readAll t s ns) 0 noFields (place 0 0 false)
 unfolding readAll
-begun t s = record { within = omega arith; none = λ e. refl; payable = λ e. omega arith; left = refl }
+begun t s ns = record { within = omega arith; none = λ e. refl; payable = λ e. omega arith; left = refl }
 
 at-end : (t s : List ℕ) (ns : List Node) (first : Bool) (f : Fields) (p : Place) → length s ≤ p .at → readFrom t s ns first f p ≡ read f p
 unfolding readFrom
@@ -57,51 +51,53 @@ unfolding readFrom
 one t s ns i first f p h l n next e q r is =
     rw (drop-cons ns i endNode h, head-is ns (suc i), ← e, ← q, ← is, lt-ltb (p .at) (length s) l)
 
-module _ (t s : List ℕ) (i : ℕ) (f : Fields) (p : Place) (turned : Turned t s i f p) where
-  pub input-ends : length s ≤ p .at → read f p ≡ readAll t s (nodesOf t)
-  input-ends h = sym (at-end t s (drop i (nodesOf t)) (eqb i 0) f p h) ∙ turned .left
+module _ (t s : List ℕ) (ns : List Node) (whole : Reading) (i : ℕ) (f : Fields) (p : Place) (turned : Turned t s ns whole i f p) where
+  pub input-ends : length s ≤ p .at → read f p ≡ whole
+  input-ends h = sym (at-end t s (drop i ns) (eqb i 0) f p h) ∙ turned .left
 
-  pub template-ends : length (nodesOf t) ≤ i → read f p ≡ readAll t s (nodesOf t)
-  template-ends h = sym (no-node t s (nodesOf t) i (eqb i 0) f p h) ∙ turned .left
+  pub template-ends : length ns ≤ i → read f p ≡ whole
+  template-ends h = sym (no-node t s ns i (eqb i 0) f p h) ∙ turned .left
 
-  module _ (h : i < length (nodesOf t)) (l : p .at < length s) (n next : Node)
-      (e : n ≡ getD (compiledOf t .nodes) i endNode) (q : next ≡ getD (compiledOf t .nodes) (i + 1) endNode)
-    where
-      turn : (r : Reading) → r ≡ nodeRead t s n next (eqb i 0) f p
-          → onward (r .verdict) r (readFrom t s (drop (i + 1) (nodesOf t)) false (r .fields) (r .place)) ≡ readAll t s (nodesOf t)
-      turn r is =
-          rw (add-one i)
-          (sym (one t s (nodesOf t) i (eqb i 0) f p h l n next (e ∙ node-at t i) (rw (add-one i) at q ∙ node-at t (suc i)) r is) ∙ turned .left)
+  -- on from literals that were read
+  pub then-on : {r : Passed} → LiteralsRead s ns i p r → Turned t s ns whole (r .next) f (r .place)
+  then-on run =
+      let k = run .turned t f in
+      record { within = k .within; none = k .none; payable = k .payable; left = k .left ∙ turned .left }
 
-      next-turn : (r : Reading) → r ≡ nodeRead t s n next (eqb i 0) f p → r .verdict ≡ Read → Payable s (r .place) → Turned t s (i + 1) (r .fields) (r .place)
-      next-turn r is v pay =
-          record {
-            within = omega arith;
-            none = λ z. absurd (omega arith);
-            payable = pay;
-            left = rw (ne-eqb (i + 1) 0 (omega arith)) (rw v at (turn r is));
-          }
+  module _ (h : i < length ns) (l : p .at < length s) (n next : Node) (e : n ≡ getD ns i endNode) (q : next ≡ getD ns (i + 1) endNode) where
+    turn : (r : Reading) → r ≡ nodeRead t s n next (eqb i 0) f p
+        → onward (r .verdict) r (readFrom t s (drop (i + 1) ns) false (r .fields) (r .place)) ≡ whole
+    turn r is = rw (add-one i) (sym (one t s ns i (eqb i 0) f p h l n next e (rw (add-one i) at q) r is) ∙ turned .left)
 
-      -- a pattern
-      module _ (k : n .kind ≡ 1) (r : Reading)
-          (is : r ≡ actionRead t s n next f (enteredBy s (not (eqb (taskOf (n .pattern) .kind) exact)) p))
-        where
-          node : r ≡ nodeRead t s n next (eqb i 0) f p
-          unfolding nodeRead entered
-          node = rw (eq-eqb (n .kind) 1 k) is
+    next-turn : (r : Reading) → r ≡ nodeRead t s n next (eqb i 0) f p → r .verdict ≡ Read → Payable s (r .place) → Turned t s ns whole (i + 1) (r .fields) (r .place)
+    next-turn r is v pay =
+        record {
+          within = omega arith;
+          none = λ z. absurd (omega arith);
+          payable = pay;
+          left = rw (ne-eqb (i + 1) 0 (omega arith)) (rw v at (turn r is));
+        }
 
-          pub stops : (why : Refusal) → r .verdict ≡ Refused why → r ≡ readAll t s (nodesOf t)
-          stops why v =
-              sym (ap (λ (v : Verdict). onward v r (readFrom t s (drop (i + 1) (nodesOf t)) false (r .fields) (r .place))) v) ∙ turn r node
+    -- a pattern
+    module _ (k : n .kind ≡ 1) (r : Reading)
+        (is : r ≡ actionRead t s n next f (enteredBy s (not (eqb (taskOf (n .pattern) .kind) exact)) p))
+      where
+        node : r ≡ nodeRead t s n next (eqb i 0) f p
+        unfolding nodeRead entered
+        node = rw (eq-eqb (n .kind) 1 k) is
 
-          pub goes-on : r .verdict ≡ Read → Turned t s (i + 1) (r .fields) (r .place)
-          goes-on v =
-              next-turn r node v
-              (rw (← is) at (payable-action s f (enteredBy s (not (eqb (taskOf (n .pattern) .kind) exact)) p) t n next (rw is at v)))
+        pub stops : (why : Refusal) → r .verdict ≡ Refused why → r ≡ whole
+        stops why v =
+            sym (ap (λ (v : Verdict). onward v r (readFrom t s (drop (i + 1) ns) false (r .fields) (r .place))) v) ∙ turn r node
 
-      -- a literal
-      pub passes : (n .kind ≡ 1 → ⊥) → (p′ : Place) → p′ ≡ literalPassed s n (enteredBy s (eqb i 0) p) → Turned t s (i + 1) f p′
-      unfolding nodeRead entered
-      passes k p′ is =
-          let pay = payable-literal s n _ (payable-entered s p (eqb i 0) (turned .payable) (λ z. turned .none (eqb-true i 0 z))) in
-          next-turn (read f p′) (rw (ne-eqb (n .kind) 1 k, is)) refl (rw is pay)
+        pub goes-on : r .verdict ≡ Read → Turned t s ns whole (i + 1) (r .fields) (r .place)
+        goes-on v =
+            next-turn r node v
+            (rw (← is) at (payable-action s f (enteredBy s (not (eqb (taskOf (n .pattern) .kind) exact)) p) t n next (rw is at v)))
+
+    -- a literal
+    pub passes : (n .kind ≡ 1 → ⊥) → (p′ : Place) → p′ ≡ literalPassed s n (enteredBy s (eqb i 0) p) → Turned t s ns whole (i + 1) f p′
+    unfolding nodeRead entered
+    passes k p′ is =
+        let pay = payable-literal s n _ (payable-entered s p (eqb i 0) (turned .payable) (λ z. turned .none (eqb-true i 0 z))) in
+        next-turn (read f p′) (rw (ne-eqb (n .kind) 1 k, is)) refl (rw is pay)

@@ -1,2 +1,3 @@
 -- Reading an input by the nodes of a template.
 pub mod Reader
+pub mod Turn

@@ -16,12 +16,13 @@ use Rattle.patterns.specs.Patterns.{patternOf}
 use Rattle.strtol.specs.Runs.{spaces}
 use Rattle.template.specs.Template.{end, action, character, separator, space, endNode}
 use Rattle.template.specs.declared.Node.{Node}
-use Rattle.tasks.specs.Fields.{mode, noFields, get, put, read, refuse, onward, conflicts}
-use Rattle.tasks.specs.Numbers.{readNumber, readCommaYear, readDropped}
+use Rattle.tasks.specs.Fields.{fieldsOf, mode, noFields, get, put, read, refuse, onward, conflicts, isExact, atPlace}
+use Rattle.tasks.specs.Numbers.{readNumber, readDropped}
 use Rattle.tasks.specs.Tasks.{exact, number, word, dropped, commaYear, offset, offsetMinutes, taskOf}
 use Rattle.tasks.specs.Words.{readWord}
 use Rattle.tasks.specs.Zones.{readOffset, readOffsetMinutes}
 use Rattle.tasks.specs.declared.Fields.{Fields}
+use Rattle.tasks.specs.declared.Outcome.{Outcome}
 use Rattle.tasks.specs.declared.Place.{Place}
 use Rattle.tasks.specs.declared.Reading.{Reading}
 use Rattle.tasks.specs.declared.Task.{Task}
@@ -29,7 +30,7 @@ use Rattle.tasks.specs.declared.Verdict.{Verdict}
 use Rattle.tasks.specs.declared.Verdict.the-variants.{Read, Refused}
 
 abbrev pub place : ℕ → ℕ → Bool → Place
-place at extra fx = record { at = at; extra = extra; fx = fx }
+place at extra fx = record { at = at; extra = extra; fx = if fx then 1 else 0 }
 
 -- a pattern has a date mode, and another was set before
 abbrev pub mixes : ℕ → ℤ → Bool
@@ -41,11 +42,10 @@ withMode new f = if eqb new 0 then f else put f mode (pos new)
 -- what a pattern reads, by the kind of its task
 abbrev pub byKind : ℕ → List ℕ → Node → Bool → Task → Fields → Place → Reading
 byKind kind s n free task f p =
-    if eqb kind number then readNumber s n free task f p
+    if eqb kind number || eqb kind commaYear then readNumber s n free task f p
     else if eqb kind word then readWord s n task f p
     else if eqb kind exact then read f (place (p .at) (p .extra) true)
     else if eqb kind dropped then readDropped s n free task f p
-    else if eqb kind commaYear then readCommaYear s n task f p
     else if eqb kind offset then readOffset s n free task f p
     else if eqb kind offsetMinutes then readOffsetMinutes s n free f p
     else read f p
@@ -59,31 +59,37 @@ skipped s p = let k = spaces (drop (p .at) s) in place (p .at + k) (p .extra + k
 
 -- without FX the spaces behind a field are skipped, and pay for literals to come
 abbrev pub behind : List ℕ → Place → Place
-behind s p = if p .fx then p else skipped s (place (p .at) 0 false)
+behind s p = if isExact p then p else skipped s (place (p .at) 0 false)
 
 unfoldable pub pastSpaces : List ℕ → Reading → Reading
 pastSpaces s r = record { verdict = r .verdict; fields = r .fields; place = behind s (r .place) }
 
--- a refusal leaves the fields and the place as they were before the pattern
-abbrev pub whenRead : Verdict → Reading → Fields → Place → Reading
-whenRead Read r f p = r
-whenRead (Refused why) r f p = refuse why f p
+-- a refusal hands out no fields, and leaves the place as it was before the pattern
+abbrev pub whenRead : Verdict → Reading → Place → Reading
+whenRead Read r p = r
+whenRead (Refused why) r p = refuse why noFields p
 
 -- a pattern: its date mode is tested first
 unfoldable pub actionRead : List ℕ → List ℕ → Node → Node → Fields → Place → Reading
 actionRead t s n next f p =
     let new = patternOf (n .pattern) .mode in
     let r = performed s n (isFree t n next) (taskOf (n .pattern)) (withMode new f) p in
-    if mixes new (get f mode) then refuse (MixedDates (n .pattern)) f p
-    else whenRead (r .verdict) (pastSpaces s r) f p
+    if mixes new (get f mode) then refuse (MixedDates (n .pattern)) noFields p
+    else whenRead (r .verdict) (pastSpaces s r) p
+
+-- reading as r says, into an array that then holds the values: those of a refusal are not told
+pub record Went (r : Reading) (o : Outcome) (values : List ℤ) : Type 0 where
+  pub verdict : o .verdict ≡ r .verdict
+  pub place : o .place ≡ r .place
+  pub fields : o .verdict ≡ Read → fieldsOf values ≡ r .fields
 
 -- without FX no more spaces were skipped than the input has bytes
 abbrev pub Payable : List ℕ → Place → Type 0
-Payable s p = p .fx ≡ false → p .extra ≤ length s
+Payable s p = isExact p ≡ false → p .extra ≤ length s
 
 -- one character
 abbrev pub charPassed : List ℕ → Place → Place
-charPassed s p = place (p .at + charLength s (p .at)) (p .extra) (p .fx)
+charPassed s p = atPlace p (p .at + charLength s (p .at))
 
 -- a space or separator takes one of the input, or a skipped space
 abbrev pub blankPassed : List ℕ → Place → Place
@@ -95,7 +101,7 @@ blankPassed s p =
 -- a literal that is no space or separator takes a skipped space, or one character. With FX each literal takes one character
 unfoldable pub literalPassed : List ℕ → Node → Place → Place
 literalPassed s n p =
-    if p .fx then charPassed s p
+    if isExact p then charPassed s p
     else if eqb (n .kind) separator || eqb (n .kind) space then blankPassed s p
     else if ltb 0 (p .extra) then place (p .at) (pred (p .extra)) false
     else charPassed s p
@@ -106,7 +112,7 @@ skips n first = if eqb (n .kind) action then not (eqb (taskOf (n .pattern) .kind
 
 -- unless FX was read
 abbrev pub enteredBy : List ℕ → Bool → Place → Place
-enteredBy s skip p = if p .fx then p else if skip then skipped s p else p
+enteredBy s skip p = if isExact p then p else if skip then skipped s p else p
 
 unfoldable pub entered : List ℕ → Node → Bool → Place → Place
 entered s n first p = enteredBy s (skips n first) p

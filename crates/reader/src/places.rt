@@ -19,7 +19,7 @@ pub fn spaces_skipped(s: &[u8], p: Place) -> Place
     Place {
         at: next,
         extra,
-        fx: false,
+        fx: 0,
     }
 }
 
@@ -49,13 +49,13 @@ fn blank_passed(s: &[u8], p: Place) -> Place
         return Place {
             at: at + 1,
             extra,
-            fx: false,
+            fx: 0,
         };
     }
     Place {
         at,
         extra: less_one(extra),
-        fx: false,
+        fx: 0,
     }
 }
 
@@ -77,7 +77,7 @@ pub fn literal_passed(s: &[u8], n: Node, p: Place) -> Place
     requires { ⌜ p .at ≤ length (now s) ⌝ }
     ensures { λ r. ⌜ r ≡ literalPassed (now (s .entry)) n p ⌝ }
 {
-    if p.fx {
+    if p.fx != 0 {
         return char_passed(s, p);
     }
     if n.kind == template::FN_SEPARATOR {
@@ -93,7 +93,7 @@ pub fn literal_passed(s: &[u8], n: Node, p: Place) -> Place
     Place {
         at: p.at,
         extra: extra - 1,
-        fx: false,
+        fx: 0,
     }
 }
 
@@ -104,7 +104,7 @@ pub fn exact(p: Place) -> Place
     Place {
         at: p.at,
         extra: p.extra,
-        fx: true,
+        fx: 1,
     }
 }
 
@@ -113,13 +113,13 @@ pub fn behind(s: &[u8], p: Place) -> Place
     requires { ⌜ length (now s) ≤ 512 ⌝ }
     ensures { λ r. ⌜ r ≡ behind (now (s .entry)) p ⌝ }
 {
-    if p.fx {
+    if p.fx != 0 {
         return p;
     }
     let q = Place {
         at: p.at,
         extra: 0,
-        fx: false,
+        fx: 0,
     };
     spaces_skipped(s, q)
 }
@@ -129,7 +129,7 @@ pub fn entered(s: &[u8], skip: bool, p: Place) -> Place
     requires { ⌜ Payable (now s) p × (length (now s) ≤ 512) ⌝ }
     ensures { λ r. ⌜ r ≡ enteredBy (now (s .entry)) skip p ⌝ }
 {
-    if p.fx {
+    if p.fx != 0 {
         return p;
     }
     if skip {

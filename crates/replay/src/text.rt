@@ -6,7 +6,7 @@ use crate::questions::put_after;
 use crate::questions::unknown;
 use lines::Number;
 use lines::put_decimal;
-use template::FN_END;
+use template::NODES;
 use template::Node;
 
 // The most bytes of a text, and those of a template.
@@ -155,15 +155,12 @@ fn put_nodes(out: &mut [u8], at: usize, t: &[u8]) -> usize
     requires { ⌜ length (now t) ≤ 256 ⌝ }
     ensures { λ r. ⌜ r ≤ max at (length (now (out .entry))) ⌝ }
 {
-    let c = template::parse_format(t);
+    let mut nodes = [0u8; NODES];
+    let count = template::parse_format(t, &mut nodes);
     let mut next = at;
     let mut i: usize = 0;
-    while i < 257 {
-        let node = c.nodes[i];
-        if node.kind == FN_END {
-            return next;
-        }
-        next = put_node(out, next, i == 0, node);
+    while i < count {
+        next = put_node(out, next, i == 0, template::node_at(&nodes, i));
         i += 1;
     }
     next

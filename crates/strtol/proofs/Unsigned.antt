@@ -1,5 +1,5 @@
 -- A number without a sign, after spaces or not, is read as its digits say. Assumes nothing.
-use mathlib.Core.Path.{_≡_, _∙_, refl, ap}
+use mathlib.Core.Path.{_≡_, _∙_, refl, sym, ap}
 use mathlib.Core.Bool.{true, false}
 use mathlib.Core.List.{List, [], _∷_, _++_}
 use Prim.Native.Nat.{ℕ, _+_, _^_, _<_, min}
@@ -13,7 +13,8 @@ use Rattle.chars.specs.Class.{digit, classOf, isDigit}
 use Rattle.chars.proofs.Classes.{the-class, digit-bounds}
 use Rattle.strtol.specs.Decimal.{decimal}
 use Rattle.strtol.specs.Runs.{leading, spaces, digits, number}
-use Rattle.strtol.specs.Strtol.{minus, signs, trimmed, limit, strtol, answer}
+use Rattle.strtol.specs.Strtol.{minus, signs, trimmed, limit, digitsRead, strtol, answer}
+use Rattle.strtol.specs.declared.Run.{Run}
 use Rattle.strtol.proofs.Decimals.{field-digits, field-number}
 
 -- what begins with a digit
@@ -48,6 +49,16 @@ module _ (s : List ℕ) (start : ℕ) where
       let u = trimmed (drop start s) in
       let z = no-sign u h in
       rw (z .1, z .0, ne-eqb (digits u) 0 (omega arith), add-zero)
+
+  -- digits right at the place, that are no more than the limit
+  pub strtol-digits : {value end : ℕ} → record { value = value; end = end; over = false } ≡ digitsRead (limit false) start (drop start s) → (end ≡ start → ⊥)
+      → strtol s start ≡ answer (pos value) end false
+  strtol-digits r moved =
+      let u = drop start s in
+      let e = ap (λ (x : Run). x .end) r in
+      let h : 0 < digits u = omega (arith, e, moved) in
+      let z = no-space u h in
+      rw (z, add-zero) at (strtol-unsigned (rw z h)) ∙ λ i. answer (pos (sym r i .value)) (sym r i .end) (sym r i .over)
 
   module _ (w n : ℕ) (t : List ℕ) (some : 0 < w) (small : n < 10 ^ w) (fits : n < 2 ^ 63) (stops : digits t ≡ 0) where
     -- spaces, a number of a fixed width, and a text that goes on with no digit

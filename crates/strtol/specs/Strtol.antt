@@ -2,7 +2,7 @@
 use mathlib.Core.Path.{_≡_, refl}
 use mathlib.Core.Bool.{Bool, true, false, _||_}
 use mathlib.Core.List.{List, []}
-use Prim.Native.Nat.{ℕ, _+_, _-_, _^_, min}
+use Prim.Native.Nat.{ℕ, _+_, _-_, _^_, _<_, min}
 use Prim.Native.Char.{code}
 use lib.Dec.{eqb, ltb}
 use lib.IntN.{ℤ, pos, negsuc, negℤ}
@@ -12,6 +12,7 @@ use Rattle.notation.specs.Text.{byteAt, utf8}
 use Rattle.chars.specs.Class.{classOf}
 use Rattle.strtol.specs.Runs.{leading, spaces, digits, number, numberFrom}
 use Rattle.strtol.specs.declared.Run.{Run}
+use Rattle.strtol.specs.declared.Short.{Short}
 use Rattle.strtol.specs.declared.Strtol.{Strtol}
 
 -- the text after its spaces
@@ -54,6 +55,11 @@ strtol s start =
     let run = digitsRead (limit neg) (start + spaces t + signs (trimmed t)) (unsigned t) in
     if eqb (digits (unsigned t)) 0 then answer (pos 0) start false
     else answer (signed neg (run .value)) (run .end) (run .over)
+
+-- r is what is read where that needs neither spaces nor a sign and is below 1,000,000,000; with its end at the place it says nothing
+pub record ShortRead (s : List ℕ) (at : ℕ) (r : Short) : Type 0 where
+  pub small : r .value < 1000000000
+  pub is : (r .end ≡ at → ⊥) → strtol s at ≡ answer (pos (r .value)) (r .end) false
 
 -- spaces and a sign are skipped, what follows the digits is left
 pub plain : strtol (utf8 "x  -12x") 1 ≡ answer (negsuc 11) 6 false

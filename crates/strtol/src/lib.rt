@@ -3,7 +3,7 @@ ghost use mathlib.Core.Path.{_≡_};
 ghost use Prim.Native.Nat.{_+_, _≤_};
 ghost use lib.ListN.{drop};
 ghost use Rattle.strtol.specs.Runs.{spaces};
-ghost use Rattle.strtol.specs.Strtol.{minus, signs, limit, signed, digitsRead, strtol};
+ghost use Rattle.strtol.specs.Strtol.{minus, signs, limit, signed, digitsRead, strtol, ShortRead};
 
 // What is read: the number, the place after it, and whether it was past 64 bits.
 pub struct Strtol {
@@ -99,6 +99,32 @@ fn digits_at(s: &[u8], at: usize, neg: bool) -> Run
         end: i,
         over,
     }
+}
+
+// A number of few digits, right at a place, and the place after it.
+pub struct Short {
+    pub value: u32,
+    pub end: usize,
+}
+
+// The number at a place where nothing but digits makes it and it is below 1,000,000,000; otherwise the place stays.
+pub fn short_number(s: &[u8], at: usize) -> Short
+    ensures { λ r. ⌜ ShortRead (now (s .entry)) at r ⌝ }
+{
+    let mut value: u32 = 0;
+    let mut i = at;
+    while i < s.len() {
+        let b = s[i];
+        if !chars::is_digit_c(b) {
+            return Short { value, end: i };
+        }
+        if 99999999 < value {
+            return Short { value: 0, end: at };
+        }
+        i += 1;
+        value = value * 10 + (b - b'0') as u32;
+    }
+    Short { value, end: i }
 }
 
 // A number with its sign. 2 ^ 63 is no positive number of 64 bits, so the negative is made of one less.

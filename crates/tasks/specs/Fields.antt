@@ -1,10 +1,14 @@
 -- The fields that a template reads (TmFromChar of formatting.c), a list of numbers with named places. 0 is absent.
+use mathlib.Core.Bool.{Bool, not}
+use mathlib.Core.List.{List}
 use Prim.Native.Nat.{ℕ}
+use lib.Dec.{eqb}
 use lib.IntN.{ℤ, pos}
 use lib.ListN.{getD, set, replicate}
 use Rattle.answers.specs.declared.Refusal.{Refusal}
 pub use Rattle.fields.specs.Setting.{eqℤ, isZero, conflicts}
 use Rattle.tasks.specs.declared.Fields.{Fields}
+use Rattle.tasks.specs.declared.Outcome.{Outcome}
 use Rattle.tasks.specs.declared.Place.{Place}
 use Rattle.tasks.specs.declared.Reading.{Reading}
 use Rattle.tasks.specs.declared.Verdict.{Verdict}
@@ -89,6 +93,10 @@ ff = 23
 abbrev pub noFields : Fields
 noFields = record { values = replicate 24 (pos 0) }
 
+-- the fields that an array lends
+abbrev pub fieldsOf : List ℤ → Fields
+fieldsOf values = record { values = values }
+
 abbrev pub get : Fields → ℕ → ℤ
 get f k = getD (f .values) k (pos 0)
 
@@ -101,6 +109,17 @@ read f p = record { verdict = Read; fields = f; place = p }
 
 abbrev pub refuse : Refusal → Fields → Place → Reading
 refuse why f p = record { verdict = Refused why; fields = f; place = p }
+
+-- the same with the fields in an array that is lent: how it went, and what the array then holds
+abbrev pub went : Verdict → Place → Outcome
+went v p = record { verdict = v; place = p }
+
+abbrev pub readInto : Outcome → List ℤ → Reading
+readInto o values = record { verdict = o .verdict; fields = fieldsOf values; place = o .place }
+
+-- FX was read
+abbrev pub isExact : Place → Bool
+isExact p = not (eqb (p .fx) 0)
 
 abbrev pub atPlace : Place → ℕ → Place
 atPlace p at = record { at = at; extra = p .extra; fx = p .fx }

@@ -16,7 +16,7 @@ use Rattle.fields.specs.declared.Number.the-variants.{Read, Refused}
 use Rattle.template.specs.declared.Node.{Node}
 use Rattle.wrapping.specs.Wrap.{wrap32, _⊕_, _⊗_}
 use Rattle.tasks.specs.Fields.{conflicts, get, put, read, refuse, atPlace, clock, yysz, ff}
-use Rattle.tasks.specs.Tasks.{hour12, millis, micros, fraction, isoDay, wholeYear, partYear}
+use Rattle.tasks.specs.Tasks.{commaYear, hour12, millis, micros, fraction, isoDay, wholeYear, partYear}
 use Rattle.tasks.specs.declared.Fields.{Fields}
 use Rattle.tasks.specs.declared.Place.{Place}
 use Rattle.tasks.specs.declared.Reading.{Reading}
@@ -61,11 +61,12 @@ storedNumber s n task (Read z next) f p =
     else read (noted (task .rule) (task .width) (put f (task .field) (kept (task .rule) z (next - p .at))))
     (atPlace p (pastOrdinal s next (n .suffix)))
 
-abbrev pub readNumber : List ℕ → Node → Bool → Task → Fields → Place → Reading
-readNumber s n free task f p = storedNumber s n task (numberAt s (p .at) (task .width) (n .pattern) free) f p
+-- the number at a place: with a comma, or of a width
+abbrev pub numberOf : List ℕ → Node → Bool → Task → ℕ → Number
+numberOf s n free task at = if eqb (task .kind) commaYear then commaYearAt s at (n .pattern) else numberAt s at (task .width) (n .pattern) free
 
-abbrev pub readCommaYear : List ℕ → Node → Task → Fields → Place → Reading
-readCommaYear s n task f p = storedNumber s n task (commaYearAt s (p .at) (n .pattern)) f p
+abbrev pub readNumber : List ℕ → Node → Bool → Task → Fields → Place → Reading
+readNumber s n free task f p = storedNumber s n task (numberOf s n free task (p .at)) f p
 
 -- a number that is read and dropped
 unfoldable pub droppedNumber : List ℕ → Node → Number → Fields → Place → Reading

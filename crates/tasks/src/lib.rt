@@ -13,16 +13,23 @@ pub struct Fields {
     pub values: [i32; 24],
 }
 
-// Where reading stands in the input, how many skipped spaces may still pay for literals, and whether FX was read.
+// Where reading stands in the input, how many skipped spaces may still pay for literals, and whether FX was read: 0 if not. A number
+// and not a truth value, so that a copy is of whole words.
 pub struct Place {
     pub at: usize,
     pub extra: usize,
-    pub fx: bool,
+    pub fx: usize,
 }
 
 pub enum Verdict {
     Read,
     Refused(Refusal),
+}
+
+// How a pattern was read into fields that are lent, and the place behind it.
+pub struct Outcome {
+    pub verdict: Verdict,
+    pub place: Place,
 }
 
 // The fields with one pattern more, and the place behind it. A refusal leaves both as they were.

@@ -3,15 +3,16 @@ ghost use mathlib.Core.Path.{_≡_};
 ghost use Prim.Native.Nat.{_<_, _≤_, _^_};
 ghost use lib.IntN.{pos};
 ghost use lib.ListN.{length};
-ghost use Rattle.fields.specs.Number.{Inside};
+ghost use Rattle.fields.specs.Number.{Found as Numbered, Inside};
 ghost use Rattle.wrapping.specs.Wrap.{_⊗_};
-ghost use Rattle.tasks.specs.Numbers.{kept, missing, nearIfShort, noted, readCommaYear, readDropped, readNumber, storedNumber, sundayFirst};
-use crate::Fields;
+ghost use Rattle.tasks.specs.Fields.{fieldsOf, readInto};
+ghost use Rattle.tasks.specs.Numbers.{kept, missing, nearIfShort, noted, numberOf, readDropped, readNumber, storedNumber, sundayFirst};
+use crate::Outcome;
 use crate::Place;
-use crate::Reading;
 use crate::Task;
 use crate::field;
 use crate::state;
+use crate::table;
 use answers::Refusal;
 use fields::Number;
 use template::Node;
@@ -99,61 +100,85 @@ fn kept(rule: u8, z: i32, n: usize) -> i32
 }
 
 // What else is set: the clock of 12 hours, the digits of the year or of the fraction.
-fn noted(rule: u8, width: u8, f: Fields) -> Fields
-    ensures { λ r. ⌜ r ≡ noted rule width f ⌝ }
+fn noted(rule: u8, width: u8, f: &mut [i32; 24])
+    ensures { λ r. ⌜ fieldsOf (now (f .exit)) ≡ noted rule width (fieldsOf (now (f .entry))) ⌝ }
 {
     match rule {
         HOUR12 => state::put(f, field::CLOCK, 12),
         WHOLE_YEAR => state::put(f, field::YYSZ, 4),
         PART_YEAR => state::put(f, field::YYSZ, width as i32),
         FRACTION => state::put(f, field::FF, width as i32),
-        _ => f,
+        _ => {}
     }
 }
 
 // A number goes into its field, unless that was set to another value; an ordinal suffix is skipped.
-fn stored_number(s: &[u8], n: Node, task: Task, number: Number, f: Fields, p: Place) -> Reading
+fn stored_number(
+    s: &[u8],
+    n: Node,
+    task: Task,
+    number: Number,
+    f: &mut [i32; 24],
+    p: Place,
+) -> Outcome
     requires { ⌜ (task .field < 24) × Inside (now s) (p .at) number ⌝ }
-    ensures { λ r. ⌜ r ≡ storedNumber (now (s .entry)) n task number f p ⌝ }
+    ensures { λ r. ⌜ readInto r (now (f .exit)) ≡ storedNumber (now (s .entry)) n task number (fieldsOf (now (f .entry))) p ⌝ }
 {
     match number {
-        Number::Refused(why) => state::refuse(why, f, p),
+        Number::Refused(why) => state::refuse(why, p),
         Number::Read { value, next } => {
             if fields::from_char_set_int(state::get(f, task.field), value) {
-                return state::refuse(Refusal::Conflict { pattern: n.pattern }, f, p);
+                return state::refuse(Refusal::Conflict { pattern: n.pattern }, p);
             }
-            let set = state::put(f, task.field, kept(task.rule, value, next - p.at));
-            let behind = state::at_place(p, fields::skip_th(s, next, n.suffix));
-            state::read(noted(task.rule, task.width, set), behind)
+            state::put(f, task.field, kept(task.rule, value, next - p.at));
+            noted(task.rule, task.width, f);
+            state::read(state::at_place(p, fields::skip_th(s, next, n.suffix)))
         }
     }
 }
 
-pub fn read_number(s: &[u8], n: Node, free: bool, task: Task, f: Fields, p: Place) -> Reading
-    requires { ⌜ (task .field < 24) × (p .at ≤ length (now s)) ⌝ }
-    ensures { λ r. ⌜ r ≡ readNumber (now (s .entry)) n free task f p ⌝ }
+// The number at a place: with a comma, or of a width.
+fn number_at(s: &[u8], n: Node, free: bool, task: Task, at: usize) -> Number
+    requires { ⌜ at ≤ length (now s) ⌝ }
+    ensures { λ r. ⌜ Numbered (now (s .entry)) at (numberOf (now (s .entry)) n free task at) r ⌝ }
 {
-    let number = fields::parse_int_len(s, p.at, task.width, n.pattern, free);
-    stored_number(s, n, task, number, f, p)
+    if task.kind == table::COMMA_YEAR {
+        return fields::comma_year(s, at, n.pattern);
+    }
+    fields::parse_int_len(s, at, task.width, n.pattern, free)
 }
 
-pub fn read_comma_year(s: &[u8], n: Node, task: Task, f: Fields, p: Place) -> Reading
+pub fn read_number(
+    s: &[u8],
+    n: Node,
+    free: bool,
+    task: Task,
+    f: &mut [i32; 24],
+    p: Place,
+) -> Outcome
     requires { ⌜ (task .field < 24) × (p .at ≤ length (now s)) ⌝ }
-    ensures { λ r. ⌜ r ≡ readCommaYear (now (s .entry)) n task f p ⌝ }
+    ensures { λ r. ⌜ readInto r (now (f .exit)) ≡ readNumber (now (s .entry)) n free task (fieldsOf (now (f .entry))) p ⌝ }
 {
-    let number = fields::comma_year(s, p.at, n.pattern);
+    let number = number_at(s, n, free, task, p.at);
     stored_number(s, n, task, number, f, p)
 }
 
 // A number that is read and dropped.
-pub fn read_dropped(s: &[u8], n: Node, free: bool, task: Task, f: Fields, p: Place) -> Reading
+pub fn read_dropped(
+    s: &[u8],
+    n: Node,
+    free: bool,
+    task: Task,
+    f: &mut [i32; 24],
+    p: Place,
+) -> Outcome
     requires { ⌜ p .at ≤ length (now s) ⌝ }
-    ensures { λ r. ⌜ r ≡ readDropped (now (s .entry)) n free task f p ⌝ }
+    ensures { λ r. ⌜ readInto r (now (f .exit)) ≡ readDropped (now (s .entry)) n free task (fieldsOf (now (f .entry))) p ⌝ }
 {
     match fields::parse_int_len(s, p.at, task.width, n.pattern, free) {
-        Number::Refused(why) => state::refuse(why, f, p),
+        Number::Refused(why) => state::refuse(why, p),
         Number::Read { value: _, next } => {
-            state::read(f, state::at_place(p, fields::skip_th(s, next, n.suffix)))
+            state::read(state::at_place(p, fields::skip_th(s, next, n.suffix)))
         }
     }
 }

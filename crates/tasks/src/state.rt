@@ -1,46 +1,43 @@
-// The fields and the place, by value.
+// The fields in place, and the place by value.
 ghost use mathlib.Core.Path.{_≡_};
 ghost use Prim.Native.Nat.{_<_};
-ghost use Rattle.tasks.specs.Fields.{atPlace, get, put, read, refuse};
-use crate::Fields;
+ghost use Rattle.tasks.specs.Fields.{atPlace, fieldsOf, get, put, went};
+ghost use Rattle.tasks.specs.declared.Verdict.the-variants.{Read, Refused};
+use crate::Outcome;
 use crate::Place;
-use crate::Reading;
 use crate::Verdict;
 use answers::Refusal;
 
-pub fn get(f: Fields, k: u8) -> i32
+pub fn get(f: &[i32; 24], k: u8) -> i32
     requires { ⌜ k < 24 ⌝ }
-    ensures { λ r. ⌜ r ≡ get f k ⌝ }
+    ensures { λ r. ⌜ r ≡ get (fieldsOf (now (f .entry))) k ⌝ }
 {
     let i = k as usize;
-    f.values[i]
+    f[i]
 }
 
-pub fn put(mut f: Fields, k: u8, z: i32) -> Fields
+pub fn put(f: &mut [i32; 24], k: u8, z: i32)
     requires { ⌜ k < 24 ⌝ }
-    ensures { λ r. ⌜ r ≡ put f k z ⌝ }
+    ensures { λ r. ⌜ fieldsOf (now (f .exit)) ≡ put (fieldsOf (now (f .entry))) k z ⌝ }
 {
     let i = k as usize;
-    f.values[i] = z;
-    f
+    f[i] = z;
 }
 
-pub fn read(f: Fields, p: Place) -> Reading
-    ensures { λ r. ⌜ r ≡ read f p ⌝ }
+pub fn read(p: Place) -> Outcome
+    ensures { λ r. ⌜ r ≡ went Read p ⌝ }
 {
-    Reading {
+    Outcome {
         verdict: Verdict::Read,
-        fields: f,
         place: p,
     }
 }
 
-pub fn refuse(why: Refusal, f: Fields, p: Place) -> Reading
-    ensures { λ r. ⌜ r ≡ refuse why f p ⌝ }
+pub fn refuse(why: Refusal, p: Place) -> Outcome
+    ensures { λ r. ⌜ r ≡ went (Refused why) p ⌝ }
 {
-    Reading {
+    Outcome {
         verdict: Verdict::Refused(why),
-        fields: f,
         place: p,
     }
 }

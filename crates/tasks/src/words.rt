@@ -1,10 +1,10 @@
 // Patterns that read a word.
 ghost use mathlib.Core.Path.{_≡_};
 ghost use Prim.Native.Nat.{_<_, _≤_};
+ghost use Rattle.tasks.specs.Fields.{fieldsOf, readInto};
 ghost use Rattle.tasks.specs.Words.{keptWord, listOf, meant, notedWord, readWord, wordStored};
-use crate::Fields;
+use crate::Outcome;
 use crate::Place;
-use crate::Reading;
 use crate::Task;
 use crate::field;
 use crate::state;
@@ -60,34 +60,34 @@ fn kept_word(rule: u8, z: u8) -> u8
     if rule == WEEKDAY { z + 1 } else { z }
 }
 
-fn noted_word(rule: u8, f: Fields) -> Fields
-    ensures { λ r. ⌜ r ≡ notedWord rule f ⌝ }
+fn noted_word(rule: u8, f: &mut [i32; 24])
+    ensures { λ r. ⌜ fieldsOf (now (f .exit)) ≡ notedWord rule (fieldsOf (now (f .entry))) ⌝ }
 {
     if rule == ODD_HOUR12 {
-        return state::put(f, field::CLOCK, 12);
+        state::put(f, field::CLOCK, 12);
     }
-    f
 }
 
 // A word's number goes into its field, unless that was set to another value.
-fn word_stored(n: Node, task: Task, z: u8, next: usize, f: Fields, p: Place) -> Reading
+fn word_stored(n: Node, task: Task, z: u8, next: usize, f: &mut [i32; 24], p: Place) -> Outcome
     requires { ⌜ (task .field < 24) × (z ≤ 12) ⌝ }
-    ensures { λ r. ⌜ r ≡ wordStored n task z next f p ⌝ }
+    ensures { λ r. ⌜ readInto r (now (f .exit)) ≡ wordStored n task z next (fieldsOf (now (f .entry))) p ⌝ }
 {
     if fields::from_char_set_int(state::get(f, task.field), z as i32) {
-        return state::refuse(Refusal::Conflict { pattern: n.pattern }, f, p);
+        return state::refuse(Refusal::Conflict { pattern: n.pattern }, p);
     }
-    let set = state::put(f, task.field, kept_word(task.rule, z) as i32);
-    state::read(noted_word(task.rule, set), state::at_place(p, next))
+    state::put(f, task.field, kept_word(task.rule, z) as i32);
+    noted_word(task.rule, f);
+    state::read(state::at_place(p, next))
 }
 
-pub fn read_word(s: &[u8], n: Node, task: Task, f: Fields, p: Place) -> Reading
+pub fn read_word(s: &[u8], n: Node, task: Task, f: &mut [i32; 24], p: Place) -> Outcome
     requires { ⌜ task .field < 24 ⌝ }
-    ensures { λ r. ⌜ r ≡ readWord (now (s .entry)) n task f p ⌝ }
+    ensures { λ r. ⌜ readInto r (now (f .exit)) ≡ readWord (now (s .entry)) n task (fieldsOf (now (f .entry))) p ⌝ }
 {
     let at = p.at;
     match fields::seq_search_ascii(s, at, list_of(task.width)) {
-        Word::Nothing => state::refuse(Refusal::NoWord { pattern: n.pattern }, f, p),
+        Word::Nothing => state::refuse(Refusal::NoWord { pattern: n.pattern }, p),
         Word::At { index, len } => word_stored(n, task, meant(task.rule, index), at + len, f, p),
     }
 }

@@ -6,11 +6,11 @@ ghost use lib.Dec.{eqb};
 ghost use lib.ListN.{length};
 ghost use Rattle.notation.specs.Text.{byteAt};
 ghost use Rattle.chars.specs.Class.{isLetter};
+ghost use Rattle.tasks.specs.Fields.{fieldsOf, readInto};
 ghost use Rattle.tasks.specs.Tasks.{noLetter};
-ghost use Rattle.tasks.specs.Zones.{Signed, colonMinutes, isSign, readOffset, readOffsetMinutes, signOf, storedOffset, thenMinutes, withSign};
-use crate::Fields;
+ghost use Rattle.tasks.specs.Zones.{Signed, colonMinutes, isSign, readOffset, readOffsetMinutes, signOf, storedOffset, withSign};
+use crate::Outcome;
 use crate::Place;
-use crate::Reading;
 use crate::Task;
 use crate::Verdict;
 use crate::field;
@@ -71,49 +71,35 @@ fn past_sign(s: &[u8], at: usize) -> usize
 }
 
 // A number of an offset goes into its field, unless that was set to another value.
-fn stored_offset(n: Node, k: u8, number: Number, f: Fields, p: Place) -> Reading
+fn stored_offset(n: Node, k: u8, number: Number, f: &mut [i32; 24], p: Place) -> Outcome
     requires { ⌜ k < 24 ⌝ }
-    ensures { λ r. ⌜ r ≡ storedOffset n k number f p ⌝ }
+    ensures { λ r. ⌜ readInto r (now (f .exit)) ≡ storedOffset n k number (fieldsOf (now (f .entry))) p ⌝ }
 {
     match number {
-        Number::Refused(why) => state::refuse(why, f, p),
+        Number::Refused(why) => state::refuse(why, p),
         Number::Read { value, next } => {
             if fields::from_char_set_int(state::get(f, k), value) {
-                return state::refuse(Refusal::Conflict { pattern: n.pattern }, f, p);
+                return state::refuse(Refusal::Conflict { pattern: n.pattern }, p);
             }
-            state::read(state::put(f, k, value), state::at_place(p, next))
+            state::put(f, k, value);
+            state::read(state::at_place(p, next))
         }
     }
 }
 
 // The minutes behind a colon, where both are read.
-fn colon_minutes(s: &[u8], n: Node, free: bool, rule: u8, f: Fields, p: Place) -> Reading
-    ensures { λ r. ⌜ r ≡ colonMinutes (now (s .entry)) n free rule f p ⌝ }
+fn colon_minutes(s: &[u8], n: Node, free: bool, rule: u8, f: &mut [i32; 24], p: Place) -> Outcome
+    ensures { λ r. ⌜ readInto r (now (f .exit)) ≡ colonMinutes (now (s .entry)) n free rule (fieldsOf (now (f .entry))) p ⌝ }
 {
     if rule == HOURS {
-        return state::read(f, p);
+        return state::read(p);
     }
     let at = p.at;
     if chars::byte_at(s, at) != b':' {
-        return state::read(f, p);
+        return state::read(p);
     }
-    let number = fields::parse_int_len(s, at + 1, 2, n.pattern, free);
+    let number = fields::strtol_number(s, at + 1, 2, n.pattern, free);
     stored_offset(n, field::TZM, number, f, p)
-}
-
-// What follows the hours.
-fn then_minutes(s: &[u8], n: Node, free: bool, rule: u8, hours: Reading) -> Reading
-    ensures { λ r. ⌜ r ≡ thenMinutes (now (s .entry)) n free rule hours ⌝ }
-{
-    let verdict = hours.verdict;
-    match verdict {
-        Verdict::Refused(_) => hours,
-        Verdict::Read => {
-            let f = hours.fields;
-            let p = hours.place;
-            colon_minutes(s, n, free, rule, f, p)
-        }
-    }
 }
 
 // Whether a letter stands where TZ reads an offset.
@@ -127,40 +113,49 @@ fn is_zone_letter(rule: u8, b: u8) -> bool
 }
 
 // A letter is refused before the sign is read.
-pub fn read_offset(s: &[u8], n: Node, free: bool, task: Task, f: Fields, p: Place) -> Reading
+pub fn read_offset(
+    s: &[u8],
+    n: Node,
+    free: bool,
+    task: Task,
+    f: &mut [i32; 24],
+    p: Place,
+) -> Outcome
     requires { ⌜ p .at ≤ length (now s) ⌝ }
-    ensures { λ r. ⌜ r ≡ readOffset (now (s .entry)) n free task f p ⌝ }
+    ensures { λ r. ⌜ readInto r (now (f .exit)) ≡ readOffset (now (s .entry)) n free task (fieldsOf (now (f .entry))) p ⌝ }
 {
     let at = p.at;
     if is_zone_letter(task.rule, chars::byte_at(s, at)) {
-        return state::refuse(Refusal::ZoneLetter { pattern: n.pattern }, f, p);
+        return state::refuse(Refusal::ZoneLetter { pattern: n.pattern }, p);
     }
-    let signed = state::put(f, field::TZSIGN, sign_of(s, p));
-    let number = fields::parse_int_len(s, past_sign(s, at), 2, n.pattern, free);
-    then_minutes(
-        s,
-        n,
-        free,
-        task.rule,
-        stored_offset(n, field::TZH, number, signed, p),
-    )
+    state::put(f, field::TZSIGN, sign_of(s, p));
+    let number = fields::strtol_number(s, past_sign(s, at), 2, n.pattern, free);
+    let hours = stored_offset(n, field::TZH, number, f, p);
+    let verdict = hours.verdict;
+    match verdict {
+        Verdict::Refused(_) => hours,
+        Verdict::Read => {
+            let behind = hours.place;
+            colon_minutes(s, n, free, task.rule, f, behind)
+        }
+    }
 }
 
 // The sign is plus if none was read.
-fn with_sign(f: Fields) -> Fields
-    ensures { λ r. ⌜ r ≡ withSign f ⌝ }
+fn with_sign(f: &mut [i32; 24])
+    ensures { λ r. ⌜ fieldsOf (now (f .exit)) ≡ withSign (fieldsOf (now (f .entry))) ⌝ }
 {
     if state::get(f, field::TZSIGN) == 0 {
-        return state::put(f, field::TZSIGN, 1);
+        state::put(f, field::TZSIGN, 1);
     }
-    f
 }
 
 // Minutes alone.
-pub fn read_offset_minutes(s: &[u8], n: Node, free: bool, f: Fields, p: Place) -> Reading
+pub fn read_offset_minutes(s: &[u8], n: Node, free: bool, f: &mut [i32; 24], p: Place) -> Outcome
     requires { ⌜ p .at ≤ length (now s) ⌝ }
-    ensures { λ r. ⌜ r ≡ readOffsetMinutes (now (s .entry)) n free f p ⌝ }
+    ensures { λ r. ⌜ readInto r (now (f .exit)) ≡ readOffsetMinutes (now (s .entry)) n free (fieldsOf (now (f .entry))) p ⌝ }
 {
-    let number = fields::parse_int_len(s, p.at, 2, n.pattern, free);
-    stored_offset(n, field::TZM, number, with_sign(f), p)
+    let number = fields::strtol_number(s, p.at, 2, n.pattern, free);
+    with_sign(f);
+    stored_offset(n, field::TZM, number, f, p)
 }

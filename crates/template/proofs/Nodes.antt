@@ -1,13 +1,13 @@
--- The nodes of a template in their array: at most one for each byte, and END behind the last. Assumes nothing.
+-- A template has at most one node for each byte. Assumes nothing.
 use mathlib.Core.Path.{_≡_, refl}
 use mathlib.Core.Bool.{Bool, false}
 use mathlib.Core.List.{List, [], _∷_, _++_}
-use Prim.Native.Nat.{ℕ, zero, suc, _-_, _≤_}
+use Prim.Native.Nat.{ℕ, zero, suc, _≤_}
 use native.Mathlib.Omega.{arith}
 use lib.Dec.{ltb}
-use lib.ListN.{length, replicate, getD, length-append}
+use lib.ListN.{length, length-append}
 use Rattle.notation.proofs.Cases.{by-if}
-use Rattle.template.specs.Template.{endNode, stepAt, madeBy, nodesFrom, nodesOf, compiledOf}
+use Rattle.template.specs.Template.{stepAt, madeBy, nodesFrom, nodesOf}
 use Rattle.template.specs.declared.Node.{Node}
 use Rattle.template.specs.declared.Step.{Step}
 
@@ -25,24 +25,7 @@ at-most (suc fuel) t at quoted =
     (λ e. omega (arith, length-append (madeBy s) rest, made-one s, at-most fuel t (s .next) (s .quoted)))
     (λ e. omega arith)
 
--- past a list's end, its default or more of it is the same
-padded : {A : Type 0} (xs : List A) (m k : ℕ) (d : A) → getD (xs ++ replicate m d) k d ≡ getD xs k d
-padded [] zero k d = refl
-padded [] (suc m) zero d = refl
-padded [] (suc m) (suc k) d = padded [] m k d
-padded (x ∷ xs) m zero d = refl
-padded (x ∷ xs) m (suc k) d = padded xs m k d
-
 module _ (t : List ℕ) where
   pub count-within : length (nodesOf t) ≤ length t
   unfolding nodesOf
   count-within = at-most (length t) t 0 false
-
-  -- the array has the template's nodes, and END behind them
-  pub node-at : (k : ℕ) → getD (compiledOf t .nodes) k endNode ≡ getD (nodesOf t) k endNode
-  unfolding compiledOf
-  node-at k = padded (nodesOf t) (257 - length (nodesOf t)) k endNode
-
-  pub count-is : compiledOf t .count ≡ length (nodesOf t)
-  unfolding compiledOf
-  count-is = refl

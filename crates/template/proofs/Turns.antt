@@ -3,42 +3,41 @@
 use mathlib.Core.Path.{_≡_, _∙_, refl, sym, ap}
 use mathlib.Core.Bool.{Bool, true, false}
 use mathlib.Core.List.{List, [], _∷_, _++_, append-assoc, append-nil}
-use Prim.Native.Nat.{ℕ, zero, suc, _+_, _-_, _<_, _≤_}
+use Prim.Native.Nat.{ℕ, zero, suc, _+_, _*_, _<_, _≤_}
 use native.Mathlib.Omega.{arith}
 use borrow.Author.Tests.{lt-ltb, le-ltb}
-use lib.ListN.{length, replicate, set, length-append}
-use lib.Seq.{set-at}
-use Rattle.template.specs.Template.{endNode, stepAt, madeBy, nodesFrom, nodesOf, compiledOf}
+use lib.ListN.{length, drop, length-append}
+use lib.Seq.{sets}
+use Rattle.template.specs.Bytes.{Parsed, bytesOf, encoded}
+use Rattle.template.specs.Template.{stepAt, madeBy, nodesFrom, nodesOf}
 use Rattle.template.specs.declared.Node.{Node}
 use Rattle.template.specs.declared.Step.{Step}
-use Rattle.template.specs.declared.Compiled.{Compiled}
+use Rattle.template.proofs.Encoding.{put-behind}
 
 -- n nodes are done, and the fuel that is left is enough for the rest
-pub record Read (t : List ℕ) (nodes : List Node) (n at : ℕ) (quoted : Bool) : Type 0 where
+pub record Read (t before after : List ℕ) (n at : ℕ) (quoted : Bool) : Type 0 where
   pub fuel : ℕ
   pub done : List Node
   pub enough : length t ≤ at + fuel
   pub size : length done ≡ n
-  pub stored : nodes ≡ done ++ replicate (257 - n) endNode
+  pub stored : after ≡ encoded done ++ drop (6 * n) before
   pub whole : done ++ nodesFrom fuel t at quoted ≡ nodesOf t
 
-pub begun : (t : List ℕ) → Read t (replicate 257 endNode) 0 0 false
-unfolding nodesOf
-begun t = record { fuel = length t; done = []; enough = omega arith; size = refl; stored = refl; whole = refl }
+pub begun : (t before : List ℕ) → Read t before before 0 0 false
+unfolding nodesOf encoded
+begun t before = record { fuel = length t; done = []; enough = omega arith; size = refl; stored = refl; whole = refl }
 
 -- at the end nothing is left
-after : (t : List ℕ) (fuel at : ℕ) (quoted : Bool) → length t ≤ at → nodesFrom fuel t at quoted ≡ []
+after-end : (t : List ℕ) (fuel at : ℕ) (quoted : Bool) → length t ≤ at → nodesFrom fuel t at quoted ≡ []
 unfolding nodesFrom
-after t zero at quoted h = refl
-after t (suc f) at quoted h = rw (le-ltb at (length t) h)
+after-end t zero at quoted h = refl
+after-end t (suc f) at quoted h = rw (le-ltb at (length t) h)
 
-pub ended : (t : List ℕ) (nodes : List Node) (n at : ℕ) (quoted : Bool) → Read t nodes n at quoted → length t ≤ at
-    → (nodes ≡ compiledOf t .nodes) × (n ≡ compiledOf t .count)
-unfolding compiledOf
-ended t nodes n at quoted r h =
-    let all : r .done ≡ nodesOf t = rw (after t (r .fuel) at quoted h, append-nil) at (r .whole) in
+pub ended : (t before after : List ℕ) (n at : ℕ) (quoted : Bool) → Read t before after n at quoted → n ≤ 256 → length t ≤ at → Parsed (nodesOf t) before after n
+ended t before after n at quoted r few h =
+    let all : r .done ≡ nodesOf t = rw (after-end t (r .fuel) at quoted h, append-nil) at (r .whole) in
     let count : n ≡ length (nodesOf t) = sym (r .size) ∙ ap (λ (l : List Node). length l) all in
-    (r .stored ∙ rw (all, count), count)
+    record { is = r .stored ∙ rw (all, count); count = count; few = few }
 
 -- a step
 one : (t : List ℕ) (fuel at : ℕ) (quoted : Bool) (s : Step) → s ≡ stepAt t at quoted → at < length t
@@ -46,12 +45,12 @@ one : (t : List ℕ) (fuel at : ℕ) (quoted : Bool) (s : Step) → s ≡ stepAt
 unfolding nodesFrom
 one t fuel at quoted s e h = rw (e, lt-ltb at (length t) h)
 
-module _ (t : List ℕ) (nodes : List Node) (n at : ℕ) (quoted : Bool) (s : Step) (e : s ≡ stepAt t at quoted) (h : at < length t) (on : at < s .next) where
+module _ (t before : List ℕ) (n at : ℕ) (quoted : Bool) (s : Step) (e : s ≡ stepAt t at quoted) (h : at < length t) (on : at < s .next) where
   turn : (fuel : ℕ) (done : List Node) → length t ≤ at + fuel → done ++ nodesFrom fuel t at quoted ≡ nodesOf t
-      → (nodes′ : List Node) (n′ : ℕ) → length (done ++ madeBy s) ≡ n′ → nodes′ ≡ (done ++ madeBy s) ++ replicate (257 - n′) endNode
-      → Read t nodes′ n′ (s .next) (s .quoted)
-  turn zero done l w nodes′ n′ p q = absurd (omega arith)
-  turn (suc f) done l w nodes′ n′ p q =
+      → (out : List ℕ) (n′ : ℕ) → length (done ++ madeBy s) ≡ n′ → out ≡ encoded (done ++ madeBy s) ++ drop (6 * n′) before
+      → Read t before out n′ (s .next) (s .quoted)
+  turn zero done l w out n′ p q = absurd (omega arith)
+  turn (suc f) done l w out n′ p q =
       record {
         fuel = f;
         done = done ++ madeBy s;
@@ -61,13 +60,13 @@ module _ (t : List ℕ) (nodes : List Node) (n at : ℕ) (quoted : Bool) (s : St
         whole = rw (append-assoc, ← one t f at quoted s e h) w;
       }
 
-  pub kept : n < 257 → s .made ≡ true → Read t nodes n at quoted → Read t (set nodes n (s .node)) (n + 1) (s .next) (s .quoted)
-  kept l m r =
-      let left : 257 - n ≡ suc (257 - (n + 1)) = omega arith in
-      turn (r .fuel) (r .done) (r .enough) (r .whole) (set nodes n (s .node)) (n + 1)
-      (rw (m, length-append) (omega (arith, r .size)))
-      (rw (r .stored, left, set-at (r .done) endNode (replicate (257 - (n + 1)) endNode) (s .node) n (r .size), m, append-assoc))
+  module _ {after : List ℕ} (r : Read t before after n at quoted) where
+    pub kept : 6 * n + 6 ≤ length before → s .made ≡ true → Read t before (sets after (6 * n) (bytesOf (s .node))) (n + 1) (s .next) (s .quoted)
+    kept room m =
+        turn (r .fuel) (r .done) (r .enough) (r .whole) (sets after (6 * n) (bytesOf (s .node))) (n + 1)
+        (rw (m, length-append) (omega (arith, r .size)))
+        (rw (r .stored, m) (put-behind (r .done) before (s .node) n (r .size) room))
 
-  pub passed : s .made ≡ false → Read t nodes n at quoted → Read t nodes n (s .next) (s .quoted)
-  passed m r =
-      turn (r .fuel) (r .done) (r .enough) (r .whole) nodes n (rw (m, append-nil) (r .size)) (rw (m, append-nil) (r .stored))
+    pub passed : s .made ≡ false → Read t before after n (s .next) (s .quoted)
+    passed m =
+        turn (r .fuel) (r .done) (r .enough) (r .whole) after n (rw (m, append-nil) (r .size)) (rw (m, append-nil) (r .stored))

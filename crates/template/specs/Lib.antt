@@ -1,3 +1,4 @@
 -- What a template compiles to.
 pub mod Template
 pub mod Examples
+pub mod Bytes

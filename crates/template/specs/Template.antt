@@ -2,11 +2,11 @@
 use mathlib.Core.Path.{_≡_}
 use mathlib.Core.Bool.{Bool, true, false, not, _&&_}
 use mathlib.Core.List.{List, [], _∷_, _++_}
-use Prim.Native.Nat.{ℕ, zero, suc, _+_, _-_, _<_, _≤_}
+use Prim.Native.Nat.{ℕ, zero, suc, _+_, _<_, _≤_}
 use Prim.Native.Char.{code}
 use lib.Bits.{bitOr}
 use lib.Dec.{eqb, ltb}
-use lib.ListN.{length, replicate}
+use lib.ListN.{length}
 use Rattle.notation.specs.Choice.{if_then_else_}
 use Rattle.notation.specs.Text.{byteAt}
 use Rattle.chars.specs.Class.{isSeparator, isSpace}
@@ -17,7 +17,6 @@ use Rattle.patterns.specs.declared.Found.{Found}
 use Rattle.patterns.specs.declared.Found.the-variants.{Pattern, Nothing}
 use Rattle.template.specs.declared.Node.{Node}
 use Rattle.template.specs.declared.Step.{Step}
-use Rattle.template.specs.declared.Compiled.{Compiled}
 
 -- the kinds of a node
 abbrev pub end : ℕ
@@ -130,7 +129,3 @@ nodesFrom (suc fuel) t at quoted =
 -- the nodes of a template; each step takes a byte at least, so its length is enough fuel. Quotes may stay open at the end.
 unfoldable pub nodesOf : List ℕ → List Node
 nodesOf t = nodesFrom (length t) t 0 false
-
--- the nodes in an array of 257, END behind the last
-unfoldable pub compiledOf : List ℕ → Compiled
-compiledOf t = record { nodes = nodesOf t ++ replicate (257 - length (nodesOf t)) endNode; count = length (nodesOf t) }

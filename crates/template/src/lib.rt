@@ -1,11 +1,13 @@
 // The template compiler: parse_format of PostgreSQL's formatting.c for dates.
 ghost use mathlib.Core.Path.{_≡_};
-ghost use Prim.Native.Nat.{_+_, _<_, _≤_};
+ghost use Prim.Native.Nat.{_+_, _*_, _<_, _≤_};
 ghost use mathlib.Core.Bool.{true, false};
-ghost use lib.ListN.{length};
+ghost use lib.ListN.{length, getD};
+ghost use lib.Seq.{sets};
 ghost use Rattle.patterns.specs.Affixes.{affixLength};
 ghost use Rattle.patterns.specs.Search.{nameTable, indexTable};
-ghost use Rattle.template.specs.Template.{Placed, Stepped, actionAt, charAt, compiledOf, elementAt, kindOf, literalAt, plainAt, skip, stepAt};
+ghost use Rattle.template.specs.Template.{Placed, Stepped, actionAt, charAt, elementAt, endNode, kindOf, literalAt, nodesOf, plainAt, skip, stepAt};
+ghost use Rattle.template.specs.Bytes.{Parsed, bytesOf, nodesIn};
 use patterns::Found;
 
 // The kinds of a node.
@@ -29,11 +31,10 @@ pub struct Node {
     pub suffix: u8,
 }
 
-// The nodes of a template; the first `count` are its own, all others END.
-pub struct Compiled {
-    pub nodes: [Node; 257],
-    pub count: usize,
-}
+// The bytes of a node, and of the most nodes that a template of 256 bytes has.
+pub const NODE: usize = 6;
+
+pub const NODES: usize = 1536;
 
 // One step through a template: the node that it made, if any, where it ended, and whether it ended in quotes.
 pub struct Step {
@@ -191,34 +192,61 @@ fn step_at(index: &[i8; 128], names: &[u8; 560], t: &[u8], at: usize, quoted: bo
     plain_step(index, names, t, at)
 }
 
-pub fn parse_format(t: &[u8]) -> Compiled
-    requires { ⌜ length (now t) ≤ 256 ⌝ }
-    ensures { λ r. ⌜ r ≡ compiledOf (now (t .entry)) ⌝ }
+// Puts a node's bytes into the array of nodes.
+fn put_node(out: &mut [u8], i: usize, n: Node)
+    requires { ⌜ 6 * i + 6 ≤ length (now out) ⌝ }
+    ensures { λ r. ⌜ now (out .exit) ≡ sets (now (out .entry)) (6 * i) (bytesOf n) ⌝ }
 {
-    let index = patterns::dch_index();
-    let names = patterns::dch_names();
-    let end = Node {
+    let at = NODE * i;
+    out[at] = (n.start % 256) as u8;
+    out[at + 1] = (n.start / 256) as u8;
+    out[at + 2] = n.len;
+    out[at + 3] = n.kind;
+    out[at + 4] = n.pattern;
+    out[at + 5] = n.suffix;
+}
+
+// The node at a place of any bytes, END behind the last.
+pub fn node_at(c: &[u8], i: usize) -> Node
+    ensures { λ r. ⌜ r ≡ getD (nodesIn (now (c .entry))) i endNode ⌝ }
+{
+    if i < c.len() / NODE {
+        let at = NODE * i;
+        return Node {
+            start: c[at] as u16 + c[at + 1] as u16 * 256,
+            len: c[at + 2],
+            kind: c[at + 3],
+            pattern: c[at + 4],
+            suffix: c[at + 5],
+        };
+    }
+    Node {
         start: 0,
         len: 0,
         kind: FN_END,
         pattern: 0,
         suffix: 0,
-    };
-    let nodes = [end; 257];
-    let mut out = Compiled { nodes, count: 0 };
+    }
+}
+
+// Puts the bytes of a template's nodes into the buffer; the answer is how many nodes they are.
+pub fn parse_format(t: &[u8], out: &mut [u8]) -> usize
+    requires { ⌜ (length (now t) ≤ 256) × (1536 ≤ length (now out)) ⌝ }
+    ensures { λ r. ⌜ Parsed (nodesOf (now (t .entry))) (now (out .entry)) (now (out .exit)) r ⌝ }
+{
+    let index = patterns::dch_index();
+    let names = patterns::dch_names();
     let mut n: usize = 0;
     let mut at: usize = 0;
     let mut quoted = false;
     while at < t.len() {
         let s = step_at(&index, &names, t, at, quoted);
         if s.made {
-            let node = s.node;
-            out.nodes[n] = node;
+            put_node(out, n, s.node);
             n += 1;
         }
         at = s.next;
         quoted = s.quoted;
     }
-    out.count = n;
-    out
+    n
 }

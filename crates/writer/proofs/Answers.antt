@@ -1,5 +1,5 @@
 -- The cases of the writer's answer. Assumes nothing.
-use mathlib.Core.Path.{_≡_, _∙_, refl}
+use mathlib.Core.Path.{_≡_, _∙_, refl, ap}
 use mathlib.Core.Bool.{true, false}
 use mathlib.Core.List.{List}
 use Prim.Native.Nat.{ℕ, _<_, _≤_}
@@ -10,11 +10,13 @@ use lib.ListN.{length}
 use lib.Seq.{sets, sets-eq}
 use Rattle.writer.specs.declared.Unwritten.the-variants.{TooLong, NotUtf8, NotWritten, NoMoment, NoRoom}
 use Rattle.chars.specs.Utf8.{wellFormed}
+use Rattle.template.specs.Bytes.{nodesIn}
 use Rattle.template.specs.Template.{nodesOf}
 use Rattle.writer.specs.Moment.{isMoment}
-use Rattle.writer.specs.Text.{textOf}
-use Rattle.writer.specs.Writer.{Wrote, firstUnwritten, writtenTo}
+use Rattle.writer.specs.Text.{nodesText, textOf}
+use Rattle.writer.specs.Writer.{Wrote, WroteBy, bufferAfter, firstUnwritten, textIn, writtenIn, writtenTo}
 use Rattle.writer.specs.declared.Moment.{Moment}
+use Rattle.writer.specs.declared.Written.{Written}
 use Rattle.writer.specs.declared.Written.the-variants.{Length, Refused}
 
 module _ (t : List ℕ) (m : Moment) (out : List ℕ) where
@@ -22,34 +24,46 @@ module _ (t : List ℕ) (m : Moment) (out : List ℕ) where
   unfolding writtenTo
   too-long h = record { is = rw (lt-ltb 256 (length t) h); buffer = refl }
 
-  module _ (limit : length t ≤ 256) where
-    pub not-utf8 : wellFormed t ≡ false → Wrote t m out out (Refused NotUtf8)
-    unfolding writtenTo
-    not-utf8 e = record { is = rw (le-ltb 256 (length t) limit, e); buffer = refl }
+  pub not-utf8 : length t ≤ 256 → wellFormed t ≡ false → Wrote t m out out (Refused NotUtf8)
+  unfolding writtenTo
+  not-utf8 limit e = record { is = rw (le-ltb 256 (length t) limit, e); buffer = refl }
 
-    module _ (utf8 : wellFormed t ≡ true) (u : ℕ) (first : u ≡ firstUnwritten (nodesOf t)) where
-      pub not-written : u < 112 → Wrote t m out out (Refused (NotWritten u))
-      unfolding writtenTo
-      not-written h = record { is = rw (le-ltb 256 (length t) limit, utf8, ← first, lt-ltb u 112 h); buffer = refl }
+  -- by the bytes of its nodes
+  pub by-nodes : length t ≤ 256 → wellFormed t ≡ true → (c : List ℕ) → length c ≤ 1536 → nodesIn c ≡ nodesOf t → {after : List ℕ} {r : Written}
+      → WroteBy c t m out after r → Wrote t m out after r
+  unfolding writtenTo writtenIn textOf
+  by-nodes limit utf8 c few own {after} {r} w =
+      let text = ap (nodesText t m) own in
+      record {
+        is = rw (le-ltb 256 (length t) limit, utf8, ← own) (rw (le-ltb 1536 (length c) few) at (w .is));
+        buffer = w .buffer ∙ ap (λ (l : List ℕ). bufferAfter r l out) text;
+      }
 
-      module _ (none : 112 ≤ u) where
-        pub no-moment : isMoment m ≡ false → Wrote t m out out (Refused NoMoment)
-        unfolding writtenTo
-        no-moment e = record { is = rw (le-ltb 256 (length t) limit, utf8, ← first, le-ltb u 112 none, e); buffer = refl }
+module _ (c t : List ℕ) (m : Moment) (out : List ℕ) where
+  pub many : 1536 < length c → WroteBy c t m out out (Refused TooLong)
+  unfolding writtenIn
+  many h = record { is = rw (lt-ltb 1536 (length c) h); buffer = refl }
 
-        module _ (moment : isMoment m ≡ true) (n : ℕ) (needed : n ≡ length (textOf t m)) where
-          pub no-room : length out < n → Wrote t m out out (Refused (NoRoom n))
-          unfolding writtenTo
-          no-room h =
-              record {
-                is = rw (le-ltb 256 (length t) limit, utf8, ← first, le-ltb u 112 none, moment, ← needed, lt-ltb (length out) n h);
-                buffer = refl;
-              }
+  module _ (few : length c ≤ 1536) (u : ℕ) (first : u ≡ firstUnwritten (nodesIn c)) where
+    pub not-written : u < 112 → WroteBy c t m out out (Refused (NotWritten u))
+    unfolding writtenIn
+    not-written h = record { is = rw (le-ltb 1536 (length c) few, ← first, lt-ltb u 112 h); buffer = refl }
 
-          pub wrote : (after : List ℕ) → n ≤ length out → after ≡ sets out 0 (textOf t m) → Wrote t m out after (Length n)
-          unfolding writtenTo
-          wrote after h e =
-              record {
-                is = rw (le-ltb 256 (length t) limit, utf8, ← first, le-ltb u 112 none, moment, ← needed, le-ltb (length out) n h);
-                buffer = e ∙ sets-eq (textOf t m) out 0 (omega arith) ∙ rw (zero-add (length (textOf t m)), needed);
-              }
+    module _ (none : 112 ≤ u) where
+      pub no-moment : isMoment m ≡ false → WroteBy c t m out out (Refused NoMoment)
+      unfolding writtenIn
+      no-moment e = record { is = rw (le-ltb 1536 (length c) few, ← first, le-ltb u 112 none, e); buffer = refl }
+
+      module _ (moment : isMoment m ≡ true) (n : ℕ) (needed : n ≡ length (textIn c t m)) where
+        pub no-room : length out < n → WroteBy c t m out out (Refused (NoRoom n))
+        unfolding writtenIn
+        no-room h =
+            record { is = rw (le-ltb 1536 (length c) few, ← first, le-ltb u 112 none, moment, ← needed, lt-ltb (length out) n h); buffer = refl }
+
+        pub wrote : (after : List ℕ) → n ≤ length out → after ≡ sets out 0 (textIn c t m) → WroteBy c t m out after (Length n)
+        unfolding writtenIn
+        wrote after h e =
+            record {
+              is = rw (le-ltb 1536 (length c) few, ← first, le-ltb u 112 none, moment, ← needed, le-ltb (length out) n h);
+              buffer = e ∙ sets-eq (textIn c t m) out 0 (omega arith) ∙ rw (zero-add (length (textIn c t m)), needed);
+            }

@@ -2,7 +2,7 @@
 use mathlib.Core.Path.{_≡_, _∙_, refl, sym, ap}
 use mathlib.Core.Bool.{Bool, true, false}
 use mathlib.Core.List.{List, [], _∷_}
-use Prim.Native.Nat.{ℕ, _+_, _-_, _<_, _≤_}
+use Prim.Native.Nat.{ℕ, zero, suc, _+_, _-_, _<_, _≤_}
 use native.Mathlib.Omega.{arith}
 use borrow.Author.Tests.{eq-eqb, eqb-true, eqb-false, leb-true, ne-eqb}
 use lib.Dec.{eqb, leb}
@@ -10,12 +10,11 @@ use lib.ListN.{length, take, drop, length-append, length-drop, length-take, List
 use Rattle.notation.proofs.Table.{entry}
 use Rattle.strtol.specs.Decimal.{decimal}
 use Rattle.strtol.proofs.Decimals.{decimal-length}
-use Rattle.template.specs.Template.{action, nodesOf}
+use Rattle.template.specs.Template.{action}
 use Rattle.template.specs.declared.Node.{Node}
-use Rattle.template.proofs.Literals.{AllIn, all-within}
-use Rattle.writer.specs.Measure.{LiteralWithin, nodeLength, nodesLength, pieceLength}
+use Rattle.writer.specs.Measure.{nodeLength, nodesLength, pieceLength}
 use Rattle.writer.specs.Pieces.{marker, dottedMarker, isMorning, markerText, numberOf, pieceOf, pieceText}
-use Rattle.writer.specs.Text.{literalText, nodeText, nodesText, textOf}
+use Rattle.writer.specs.Text.{literalText, nodeText, nodesText}
 use Rattle.writer.specs.declared.Moment.{Moment}
 use Rattle.writer.proofs.PieceTable.{piece-range}
 
@@ -61,30 +60,46 @@ module _ (t : List ℕ) (m : Moment) (n : Node) where
   unfolding nodeText
   action-text e = rw (eq-eqb (n .kind) action e)
 
-  pub literal-part : (n .kind ≡ action → ⊥) → nodeText t m n ≡ take (n .start + n .len - n .start) (drop (n .start) t)
+  pub literal-text : (n .kind ≡ action → ⊥) → nodeText t m n ≡ literalText t n
   unfolding nodeText
-  literal-part e =
-      let s : n .start + n .len - n .start ≡ n .len = omega arith in
-      rw (ne-eqb (n .kind) action e, s)
+  literal-text e = rw (ne-eqb (n .kind) action e)
 
-module _ (t : List ℕ) (m : Moment) where
-  -- a literal's text is as long as the literal, which lies within the template
-  literal-size : (n : Node) → n .start + n .len ≤ length t → length (literalText t n) ≡ n .len
-  literal-size n h = length-take (n .len) (drop (n .start) t) ∙ rw (length-drop (n .start) t) (omega arith)
-
-  pub node-size : (n : Node) → LiteralWithin t n → length (nodeText t m n) ≡ nodeLength n
+  pub node-size : length (nodeText t m n) ≡ nodeLength t n
   unfolding nodeText nodeLength
-  node-size n h = split (eqb (n .kind) action) refl
+  node-size = split (eqb (n .kind) action) refl
     where
-      split : (b : Bool) → eqb (n .kind) action ≡ b → length (nodeText t m n) ≡ nodeLength n
+      split : (b : Bool) → eqb (n .kind) action ≡ b → length (nodeText t m n) ≡ nodeLength t n
       split true e = rw e (piece-size m (pieceOf (n .pattern)) (piece-range (n .pattern)))
-      split false e = rw e (literal-size n (h (eqb-false (n .kind) action e)))
+      split false e = rw e
 
-  nodes-size : (ns : List Node) → AllIn t ns → length (nodesText t m ns) ≡ nodesLength ns
-  unfolding nodesText nodesLength
-  nodes-size [] a = refl
-  nodes-size (n ∷ ns) a = length-append (nodeText t m n) (nodesText t m ns) ∙ rw (node-size n (a .0), nodes-size ns (a .1))
+module _ (t : List ℕ) (n : Node) where
+  pub literal-size : length (literalText t n) ≡ n .len - (n .len - (length t - n .start))
+  literal-size = length-take (n .len) (drop (n .start) t) ∙ rw (length-drop (n .start) t) (omega arith)
 
-  pub text-size : length (textOf t m) ≡ nodesLength (nodesOf t)
-  unfolding textOf
-  text-size = nodes-size (nodesOf t) (all-within t)
+-- as many bytes as were taken
+taken-again : (k : ℕ) (l : List ℕ) → take (length (take k l)) l ≡ take k l
+taken-again zero l = refl
+taken-again (suc k) [] = refl
+taken-again (suc k) (x ∷ l) = ap (λ (r : List ℕ). x ∷ r) (taken-again k l)
+
+-- a literal by the part of the template that it is
+pub literal-part : (t : List ℕ) (n : Node) (len : ℕ) → len ≡ length (literalText t n) → take (n .start + len - n .start) (drop (n .start) t) ≡ literalText t n
+literal-part t n len e =
+    let s : n .start + len - n .start ≡ len = omega arith in
+    rw (s, e) (taken-again (n .len) (drop (n .start) t))
+
+-- it ends within the template, unless there is nothing of it
+pub literal-end : (t : List ℕ) (n : Node) (len : ℕ) → len ≡ length (literalText t n) → (len ≡ 0 → ⊥) → n .start + len ≤ length t
+literal-end t n len e some = omega (arith, literal-size t n, e, some)
+
+pub no-literal : (t : List ℕ) (n : Node) (len : ℕ) → len ≡ length (literalText t n) → len ≡ 0 → literalText t n ≡ []
+no-literal t n len e z = empty (literalText t n) (sym e ∙ z)
+  where
+    empty : (l : List ℕ) → length l ≡ 0 → l ≡ []
+    empty [] h = refl
+    empty (x ∷ l) h = absurd (omega (arith, h))
+
+pub nodes-size : (t : List ℕ) (m : Moment) (ns : List Node) → length (nodesText t m ns) ≡ nodesLength t ns
+unfolding nodesText nodesLength
+nodes-size t m [] = refl
+nodes-size t m (n ∷ ns) = length-append (nodeText t m n) (nodesText t m ns) ∙ rw (node-size t m n, nodes-size t m ns)

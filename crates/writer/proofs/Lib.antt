@@ -5,5 +5,4 @@ pub mod Lengths
 pub mod Moments
 mod Held
 mod Turns
-mod Own
 mod Answers

@@ -15,6 +15,9 @@ use Rattle.writer.specs.Output.{Put}
 pub put-length : {before : List ℕ} {at : ℕ} {text after : List ℕ} {r : ℕ} → Put before at text after r → length after ≡ length before
 put-length {before} {at} {text} p = ap length (p .is) ∙ length-sets before at text
 
+pub put-nothing : (l : List ℕ) (at : ℕ) → Put l at [] l at
+put-nothing l at = record { is = refl; next = omega arith }
+
 -- a text put behind another: the two as one
 pub put-after : (l : List ℕ) (at : ℕ) (xs ys : List ℕ) → sets (sets l at xs) (at + length xs) ys ≡ sets l at (xs ++ ys)
 put-after l at [] ys = rw add-zero

@@ -2,13 +2,15 @@
 use mathlib.Core.Path.{_≡_, _∙_, ap}
 use mathlib.Core.Bool.{true, false}
 use mathlib.Core.List.{List, [], _∷_, _++_}
-use Prim.Native.Nat.{ℕ, _+_, _<_, _≤_}
+use Prim.Native.Nat.{ℕ, _+_, _/_, _<_, _≤_}
 use native.Mathlib.Numerals.{add-one}
 use native.Mathlib.Omega.{arith}
-use lib.ListN.{length, take, drop, getD, drop-of-length-le, length-append}
-use lib.Seq.{drop-cons, getD-take, length-take-le, sets}
+use lib.ListN.{length, drop, getD, drop-of-length-le, length-append}
+use lib.Seq.{drop-cons, sets}
+use Rattle.template.specs.Bytes.{nodesIn}
 use Rattle.template.specs.Template.{endNode}
 use Rattle.template.specs.declared.Node.{Node}
+use Rattle.template.proofs.Encoding.{nodes-length}
 use Rattle.writer.specs.Measure.{nodeLength, nodesLength}
 use Rattle.writer.specs.Output.{Put}
 use Rattle.writer.specs.Text.{nodeText, nodesText}
@@ -16,20 +18,28 @@ use Rattle.writer.specs.Writer.{firstUnwritten, isWritten}
 use Rattle.writer.specs.declared.Moment.{Moment}
 use Rattle.writer.proofs.Puts.{put-after}
 
-module _ (nodes : List Node) (count i : ℕ) (l : count ≤ length nodes) where
+-- as many nodes as the loops over their bytes count
+module _ (c : List ℕ) (i : ℕ) where
+  pub node-left : i < length c / 6 → i < length (nodesIn c)
+  node-left h = omega (arith, nodes-length c)
+
+  pub none-left : length c / 6 ≤ i → length (nodesIn c) ≤ i
+  none-left h = omega (arith, nodes-length c)
+
+module _ (nodes : List Node) (i : ℕ) where
   abbrev left : List Node
-  left = drop i (take count nodes)
+  left = drop i nodes
 
   abbrev here : Node
   here = getD nodes i endNode
 
   abbrev next : List Node
-  next = drop (i + 1) (take count nodes)
+  next = drop (i + 1) nodes
 
   -- a node is left
-  module _ (h : i < count) where
+  module _ (h : i < length nodes) where
     one : left ≡ here ∷ next
-    one = drop-cons (take count nodes) i endNode (rw (length-take-le count nodes l) h) ∙ rw (getD-take count nodes i endNode h, add-one i)
+    one = drop-cons nodes i endNode h ∙ rw (add-one i)
 
     pub unwritten-here : isWritten here ≡ false → firstUnwritten left ≡ here .pattern
     unfolding firstUnwritten
@@ -39,9 +49,9 @@ module _ (nodes : List Node) (count i : ℕ) (l : count ≤ length nodes) where
     unfolding firstUnwritten
     unwritten-next e = rw (one, e)
 
-    pub length-next : nodesLength left ≡ nodeLength here + nodesLength next
+    pub length-next : (t : List ℕ) → nodesLength t left ≡ nodeLength t here + nodesLength t next
     unfolding nodesLength
-    length-next = rw one
+    length-next t = rw one
 
     pub text-next : (t : List ℕ) (m : Moment) → nodesText t m left ≡ nodeText t m here ++ nodesText t m next
     unfolding nodesText
@@ -62,17 +72,17 @@ module _ (nodes : List Node) (count i : ℕ) (l : count ≤ length nodes) where
         (omega (arith, size-next t m, p .next), rw (p .is, p .next, text-next t m) (put-after out at (nodeText t m here) (nodesText t m next)))
 
   -- none is left
-  module _ (h : count ≤ i) where
+  module _ (h : length nodes ≤ i) where
     none : left ≡ []
-    none = drop-of-length-le (take count nodes) {i = i} (omega (arith, length-take-le count nodes l))
+    none = drop-of-length-le nodes {i = i} h
 
     pub unwritten-end : firstUnwritten left ≡ 112
     unfolding firstUnwritten
     unwritten-end = rw none
 
-    pub length-end : nodesLength left ≡ 0
+    pub length-end : (t : List ℕ) → nodesLength t left ≡ 0
     unfolding nodesLength
-    length-end = rw none
+    length-end t = rw none
 
     pub text-end : (t : List ℕ) (m : Moment) → nodesText t m left ≡ []
     unfolding nodesText

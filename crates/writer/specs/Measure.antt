@@ -1,30 +1,28 @@
--- How long the text of a template is; no moment is needed to tell.
+-- How long a text is; no moment is needed to tell.
 use mathlib.Core.Path.{_≡_, refl}
 use mathlib.Core.List.{List, [], _∷_}
-use Prim.Native.Nat.{ℕ, _+_, _≤_}
+use Prim.Native.Nat.{ℕ, _+_}
 use lib.Dec.{eqb}
 use lib.ListN.{getD, length}
 use Rattle.notation.specs.Choice.{if_then_else_}
+use Rattle.notation.specs.Text.{utf8}
 use Rattle.template.specs.Template.{action, character, literal, pattern}
 use Rattle.template.specs.declared.Node.{Node}
 use Rattle.writer.specs.Pieces.{pieceOf}
+use Rattle.writer.specs.Text.{literalText}
 
 -- the bytes of a piece: the digits of a number, two or four of a marker
 abbrev pub pieceLength : ℕ → ℕ
 pieceLength p = getD (0 ∷ 4 ∷ 2 ∷ 2 ∷ 3 ∷ 4 ∷ 2 ∷ 1 ∷ 2 ∷ 2 ∷ 2 ∷ 2 ∷ 5 ∷ 6 ∷ 2 ∷ 4 ∷ []) p 0
 
-unfoldable pub nodeLength : Node → ℕ
-nodeLength n = if eqb (n .kind) action then pieceLength (pieceOf (n .pattern)) else n .len
+unfoldable pub nodeLength : List ℕ → Node → ℕ
+nodeLength t n = if eqb (n .kind) action then pieceLength (pieceOf (n .pattern)) else length (literalText t n)
 
-unfoldable pub nodesLength : List Node → ℕ
-nodesLength [] = 0
-nodesLength (n ∷ ns) = nodeLength n + nodesLength ns
+unfoldable pub nodesLength : List ℕ → List Node → ℕ
+nodesLength t [] = 0
+nodesLength t (n ∷ ns) = nodeLength t n + nodesLength t ns
 
--- a literal lies within its template
-abbrev pub LiteralWithin : List ℕ → Node → Type 0
-LiteralWithin t n = (n .kind ≡ action → ⊥) → n .start + n .len ≤ length t
-
--- YYYY and a literal of two bytes
-pub worked : nodesLength (pattern 0 4 54 0 ∷ literal character 4 2 ∷ []) ≡ 6
+-- YYYY, a literal of two bytes, and one that the template cuts off behind the first
+pub worked : nodesLength (utf8 "YYYY. .") (pattern 0 4 54 0 ∷ literal character 4 2 ∷ literal character 6 2 ∷ []) ≡ 7
 unfolding nodesLength nodeLength pieceOf
 worked = refl

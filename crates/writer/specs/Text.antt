@@ -18,7 +18,7 @@ use Rattle.writer.specs.Moment.{moment}
 use Rattle.writer.specs.Pieces.{pieceOf, pieceText, numberOf}
 use Rattle.writer.specs.declared.Moment.{Moment}
 
--- the bytes of a literal node
+-- the bytes of a literal node, as far as the template has them
 abbrev pub literalText : List ℕ → Node → List ℕ
 literalText t n = take (n .len) (drop (n .start) t)
 

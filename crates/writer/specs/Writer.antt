@@ -8,11 +8,12 @@ use lib.ListN.{length, drop}
 use Rattle.notation.specs.Choice.{if_then_else_}
 use Rattle.chars.specs.Utf8.{wellFormed}
 use Rattle.parts.specs.Parts.{templateLimit}
+use Rattle.template.specs.Bytes.{nodesIn, nodesLimit}
 use Rattle.template.specs.Template.{action, nodesOf}
 use Rattle.template.specs.declared.Node.{Node}
 use Rattle.writer.specs.Moment.{isMoment}
 use Rattle.writer.specs.Pieces.{none, pieceOf}
-use Rattle.writer.specs.Text.{textOf}
+use Rattle.writer.specs.Text.{nodesText, textOf}
 use Rattle.writer.specs.declared.Moment.{Moment}
 use Rattle.writer.specs.declared.Unwritten.the-variants.{TooLong, NotUtf8, NotWritten, NoMoment, NoRoom}
 use Rattle.writer.specs.declared.Written.{Written}
@@ -27,17 +28,30 @@ unfoldable pub firstUnwritten : List Node → ℕ
 firstUnwritten [] = 112
 firstUnwritten (n ∷ ns) = if isWritten n then firstUnwritten ns else n .pattern
 
--- the answer for a buffer of a length
-unfoldable pub writtenTo : List ℕ → Moment → ℕ → Written
-writtenTo t m room =
-    let unwritten = firstUnwritten (nodesOf t) in
-    let needed = length (textOf t m) in
-    if ltb templateLimit (length t) then Refused TooLong
-    else if not (wellFormed t) then Refused NotUtf8
-    else if ltb unwritten 112 then Refused (NotWritten unwritten)
+-- the answer by the first pattern that is not written, for a text and a buffer of a length
+abbrev pub writtenBy : ℕ → Moment → List ℕ → ℕ → Written
+writtenBy unwritten m text room =
+    let needed = length text in
+    if ltb unwritten 112 then Refused (NotWritten unwritten)
     else if not (isMoment m) then Refused NoMoment
     else if ltb room needed then Refused (NoRoom needed)
     else Length needed
+
+-- by a template
+unfoldable pub writtenTo : List ℕ → Moment → ℕ → Written
+writtenTo t m room =
+    if ltb templateLimit (length t) then Refused TooLong
+    else if not (wellFormed t) then Refused NotUtf8
+    else writtenBy (firstUnwritten (nodesOf t)) m (textOf t m) room
+
+-- the text by the nodes that any bytes hold, whose literals stand in t
+abbrev pub textIn : List ℕ → List ℕ → Moment → List ℕ
+textIn c t m = nodesText t m (nodesIn c)
+
+-- and the answer; the nodes of a template are no more than 256
+unfoldable pub writtenIn : List ℕ → List ℕ → Moment → ℕ → Written
+writtenIn c t m room =
+    if ltb nodesLimit (length c) then Refused TooLong else writtenBy (firstUnwritten (nodesIn c)) m (textIn c t m) room
 
 -- the text in front and every byte behind it as it was; on refusal the buffer as it was
 abbrev pub bufferAfter : Written → List ℕ → List ℕ → List ℕ
@@ -48,3 +62,8 @@ bufferAfter (Refused why) text before = before
 pub record Wrote (t : List ℕ) (m : Moment) (before after : List ℕ) (r : Written) : Type 0 where
   pub is : r ≡ writtenTo t m (length before)
   pub buffer : after ≡ bufferAfter r (textOf t m) before
+
+-- the same by the nodes that the bytes c hold
+pub record WroteBy (c t : List ℕ) (m : Moment) (before after : List ℕ) (r : Written) : Type 0 where
+  pub is : r ≡ writtenIn c t m (length before)
+  pub buffer : after ≡ bufferAfter r (textIn c t m) before

@@ -6,20 +6,21 @@ mod pieces;
 ghost use mathlib.Core.Path.{_≡_};
 ghost use mathlib.Core.Bool.{true};
 ghost use Prim.Native.Nat.{_+_, _≤_};
-ghost use lib.ListN.{length, take};
+ghost use lib.ListN.{length};
 ghost use lib.Seq.{sets};
-ghost use Rattle.template.specs.Template.{compiledOf};
+ghost use Rattle.template.specs.Bytes.{nodesIn};
 ghost use Rattle.writer.specs.Moment.{isMoment};
-ghost use Rattle.writer.specs.Measure.{LiteralWithin, nodeLength, nodesLength};
+ghost use Rattle.writer.specs.Measure.{nodeLength, nodesLength};
 ghost use Rattle.writer.specs.Output.{Put};
 ghost use Rattle.writer.specs.Report.{unwrittenReport};
 ghost use Rattle.writer.specs.Tables.{pieceTable};
-ghost use Rattle.writer.specs.Text.{nodeText, textOf};
-ghost use Rattle.writer.specs.Writer.{Wrote, firstUnwritten, isWritten};
+ghost use Rattle.writer.specs.Text.{literalText, nodeText};
+ghost use Rattle.writer.specs.Writer.{Wrote, WroteBy, firstUnwritten, isWritten, textIn};
 use answers::NO_PATTERN;
 use answers::Report;
-use template::Compiled;
 use template::FN_ACTION;
+use template::NODE;
+use template::NODES;
 use template::Node;
 
 // A moment: seven numbers.
@@ -81,14 +82,14 @@ fn is_written(table: &[u8; 112], n: Node) -> bool
     n.suffix == 0
 }
 
-// The first pattern that is not written.
-fn first_unwritten(table: &[u8; 112], c: Compiled) -> u8
-    requires { ⌜ (now table ≡ pieceTable) × (c .count ≤ 257) × (c .count ≤ length (c .nodes)) ⌝ }
-    ensures { λ r. ⌜ r ≡ firstUnwritten (take (c .count) (c .nodes)) ⌝ }
+// The first pattern that is not written, of the nodes that the bytes hold.
+fn first_unwritten(table: &[u8; 112], c: &[u8]) -> u8
+    requires { ⌜ now table ≡ pieceTable ⌝ }
+    ensures { λ r. ⌜ r ≡ firstUnwritten (nodesIn (now (c .entry))) ⌝ }
 {
     let mut i = 0;
-    while i < c.count {
-        let n = c.nodes[i];
+    while i < c.len() / NODE {
+        let n = template::node_at(c, i);
         if !is_written(table, n) {
             return n.pattern;
         }
@@ -97,54 +98,97 @@ fn first_unwritten(table: &[u8; 112], c: Compiled) -> u8
     NO_PATTERN
 }
 
-fn node_length(table: &[u8; 112], n: Node) -> usize
+// The bytes of a literal that the template has.
+fn literal_length(t: &[u8], n: Node) -> usize
+    ensures { λ r. ⌜ (r ≡ length (literalText (now (t .entry)) n)) × (r ≤ 255) ⌝ }
+{
+    let start = n.start as usize;
+    let len = n.len as usize;
+    if t.len() <= start {
+        return 0;
+    }
+    if t.len() - start < len {
+        return t.len() - start;
+    }
+    len
+}
+
+fn node_length(table: &[u8; 112], t: &[u8], n: Node) -> usize
     requires { ⌜ now table ≡ pieceTable ⌝ }
-    ensures { λ r. ⌜ (r ≡ nodeLength n) × (r ≤ 255) ⌝ }
+    ensures { λ r. ⌜ (r ≡ nodeLength (now (t .entry)) n) × (r ≤ 255) ⌝ }
 {
     if n.kind == FN_ACTION {
         return pieces::piece_length(pieces::piece_of(table, n.pattern));
     }
-    n.len as usize
+    literal_length(t, n)
 }
 
 // The length of the text.
-fn text_length(table: &[u8; 112], c: Compiled) -> usize
-    requires { ⌜ (now table ≡ pieceTable) × (c .count ≤ 257) × (c .count ≤ length (c .nodes)) ⌝ }
-    ensures { λ r. ⌜ (r ≡ nodesLength (take (c .count) (c .nodes))) × (r ≤ 65535) ⌝ }
+fn text_length(table: &[u8; 112], c: &[u8], t: &[u8]) -> usize
+    requires { ⌜ (now table ≡ pieceTable) × (length (now c) ≤ 1536) ⌝ }
+    ensures { λ r. ⌜ (r ≡ nodesLength (now (t .entry)) (nodesIn (now (c .entry)))) × (r ≤ 65535) ⌝ }
 {
     let mut total = 0;
     let mut i = 0;
-    while i < c.count {
-        let n = c.nodes[i];
-        total += node_length(table, n);
+    while i < c.len() / NODE {
+        total += node_length(table, t, template::node_at(c, i));
         i += 1;
     }
     total
 }
 
 fn put_node(table: &[u8; 112], t: &[u8], n: Node, m: Moment, out: &mut [u8], at: usize) -> usize
-    requires { ⌜ (now table ≡ pieceTable) × (isMoment m ≡ true) × LiteralWithin (now t) n × (at + length (nodeText (now t) m n) ≤ length (now out)) ⌝ }
+    requires { ⌜ (now table ≡ pieceTable) × (isMoment m ≡ true) × (at + length (nodeText (now t) m n) ≤ length (now out)) ⌝ }
     ensures { λ r. ⌜ Put (now (out .entry)) at (nodeText (now (t .entry)) m n) (now (out .exit)) r ⌝ }
 {
     if n.kind == FN_ACTION {
         return pieces::put_piece(pieces::piece_of(table, n.pattern), m, out, at);
     }
+    let len = literal_length(t, n);
+    if len == 0 {
+        return at;
+    }
     let start = n.start as usize;
-    let end = start + n.len as usize;
+    let end = start + len;
     output::put_bytes(&t[start..end], out, at)
 }
 
-fn put_nodes(table: &[u8; 112], t: &[u8], c: Compiled, m: Moment, out: &mut [u8])
-    requires { ⌜ (now table ≡ pieceTable) × (length (now t) ≤ 256) × (c ≡ compiledOf (now t)) × (isMoment m ≡ true) × (length (textOf (now t) m) ≤ length (now out)) ⌝ }
-    ensures { λ r. ⌜ now (out .exit) ≡ sets (now (out .entry)) 0 (textOf (now (t .entry)) m) ⌝ }
+fn put_nodes(table: &[u8; 112], c: &[u8], t: &[u8], m: Moment, out: &mut [u8])
+    requires { ⌜ (now table ≡ pieceTable) × (isMoment m ≡ true) × (length (textIn (now c) (now t) m) ≤ length (now out)) ⌝ }
+    ensures { λ r. ⌜ now (out .exit) ≡ sets (now (out .entry)) 0 (textIn (now (c .entry)) (now (t .entry)) m) ⌝ }
 {
     let mut at = 0;
     let mut i = 0;
-    while i < c.count {
-        let n = c.nodes[i];
+    while i < c.len() / NODE {
+        let n = template::node_at(c, i);
         at = put_node(table, t, n, m, out, at);
         i += 1;
     }
+}
+
+// The same by the nodes that any bytes hold. t is the template that they were made from.
+pub fn write_by(c: &[u8], t: &[u8], m: Moment, out: &mut [u8]) -> Written
+    ensures { λ r. ⌜ WroteBy (now (c .entry)) (now (t .entry)) m (now (out .entry)) (now (out .exit)) r ⌝ }
+{
+    if NODES < c.len() {
+        return Written::Refused(Unwritten::TooLong);
+    }
+    let table = pieces::table();
+    let unwritten = first_unwritten(&table, c);
+    if unwritten < NO_PATTERN {
+        return Written::Refused(Unwritten::NotWritten { pattern: unwritten });
+    }
+    if !numbers::is_moment(m) {
+        return Written::Refused(Unwritten::NoMoment);
+    }
+    let needed = text_length(&table, c, t);
+    if out.len() < needed {
+        return Written::Refused(Unwritten::NoRoom {
+            needed: needed as u32,
+        });
+    }
+    put_nodes(&table, c, t, m, out);
+    Written::Length(needed)
 }
 
 // Writes the text of a moment into the buffer. What stands behind the text stays; on refusal the whole buffer does.
@@ -157,21 +201,7 @@ pub fn write(t: &[u8], m: Moment, out: &mut [u8]) -> Written
     if !chars::is_utf8(t) {
         return Written::Refused(Unwritten::NotUtf8);
     }
-    let c = template::parse_format(t);
-    let table = pieces::table();
-    let unwritten = first_unwritten(&table, c);
-    if unwritten < NO_PATTERN {
-        return Written::Refused(Unwritten::NotWritten { pattern: unwritten });
-    }
-    if !numbers::is_moment(m) {
-        return Written::Refused(Unwritten::NoMoment);
-    }
-    let needed = text_length(&table, c);
-    if out.len() < needed {
-        return Written::Refused(Unwritten::NoRoom {
-            needed: needed as u32,
-        });
-    }
-    put_nodes(&table, t, c, m, out);
-    Written::Length(needed)
+    let mut nodes = [0u8; NODES];
+    let end = NODE * template::parse_format(t, &mut nodes);
+    write_by(&nodes[..end], t, m, out)
 }

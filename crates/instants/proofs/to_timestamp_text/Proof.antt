@@ -1,18 +1,13 @@
 -- `instants::to_timestamp_text` meets its contract. Assumes nothing.
-use mathlib.Core.Path.{_∙_, sym}
+use mathlib.Core.Path.{_∙_, ap}
 use borrow.Author.Needs.{needs}
-use Rattle.instants.specs.Instant.{timestampOf}
+use Rattle.instants.specs.Instant.{instantBy, timestampOf}
 use Rattle.instants.proofs.to_timestamp_text.Statement.{statement}
 use Rattle.instants.proofs.to_timestamp_text.Tie as tie
 
 returns : tie.Need-returns
 unfolding timestampOf
-returns c = let p = c .before .before in rw (sym (p .before .before .to-timestamp-parts .ensures) ∙ p .p .given .1) (c .instant-of .ensures)
-
-returns-2 : tie.Need-returns-2
-unfolding timestampOf
-returns-2 c = let n = c .before in rw (sym (n .before .before .to-timestamp-parts .ensures) ∙ n .why .given .1)
+returns c = c .instant-from .ensures ∙ ap instantBy (c .before .to-timestamp-parts .ensures)
 
 pub to-timestamp-text-spec : {M : Type 1} → statement M
-to-timestamp-text-spec =
-    tie.close (tie.spec (λ c κs. search needs) (λ c. search needs) (λ c κs. search needs) (λ c. search needs) returns returns-2)
+to-timestamp-text-spec = tie.close (tie.spec (λ c κs. search needs) (λ c κs. search needs) returns)

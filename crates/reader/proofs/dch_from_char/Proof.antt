@@ -1,106 +1,113 @@
 -- `reader::dch_from_char` meets its contract. The invariant: what is left, read from where reading stands, gives the whole.
 -- Assumes nothing.
 use mathlib.Core.Path.{_≡_, _∙_, sym, ap}
-use Prim.Native.Nat.{ℕ, _+_, _-_, _≤_, _<_}
+use mathlib.Core.List.{List}
+use Prim.Native.Nat.{ℕ, _-_, _/_, _<_}
 use native.Mathlib.Omega.{arith}
 use borrow.Author.Needs.{needs}
 use denote.Ref.{now}
-use lib.ListN.{length, getD}
-use Rattle.template.specs.Template.{compiledOf, endNode, nodesOf}
-use Rattle.template.specs.declared.Compiled.{Compiled}
-use Rattle.template.proofs.Nodes.{count-within, count-is}
-use Rattle.reader.proofs.Turns.{Turned, begun, input-ends, template-ends, stops, goes-on, passes}
+use lib.ListN.{length}
+use Rattle.template.specs.Bytes.{nodesIn}
+use Rattle.template.specs.declared.Node.{Node}
+use Rattle.template.proofs.Encoding.{nodes-length}
+use Rattle.tasks.specs.Fields.{fieldsOf}
+use Rattle.reader.specs.Reader.{readAll}
+use Rattle.reader.specs.Turn.{Turned}
+use Rattle.reader.proofs.Turns.{begun, then-on, input-ends, template-ends, stops, goes-on}
+use Rattle.reader.proofs.Payable.{refused-none}
+use Rattle.reader.proofs.Verdicts.{read-is, refused-is}
 use Rattle.reader.proofs.dch_from_char.Statement.{statement}
 use Rattle.reader.proofs.dch_from_char.Tie as tie
 
 abbrev Inv-loop : tie.InvT-loop
-Inv-loop t s compiled tasks count f₀ p₀ i₀ f p i = Turned t s i f p
+Inv-loop c t s tasks values₀ p₀ i₀ values p i = Turned t s (nodesIn c) (readAll t s (nodesIn c)) i (fieldsOf values) p
 
 abbrev μ-loop : tie.MeasureT-loop
-μ-loop t s compiled tasks count f₀ p₀ i₀ f p i = count - i
-
--- the count of nodes
-counted : (c : tie.Start Inv-loop μ-loop) → c .args .t1 .count ≡ length (nodesOf (now (c .args .t)))
-counted c = ap (λ (x : Compiled). x .count) (c .pre .0) ∙ count-is (now (c .args .t))
-
-few : (c : tie.Start Inv-loop μ-loop) → c .args .t1 .count ≤ 256
-few c = omega (arith, counted c, count-within (now (c .args .t)), c .pre .1)
-
--- a node of the array
-node : (c : tie.Start Inv-loop μ-loop) (k : ℕ) → getD (c .args .t1 .nodes) k endNode ≡ getD (compiledOf (now (c .args .t)) .nodes) k endNode
-node c k = ap (λ (x : Compiled). getD (x .nodes) k endNode) (c .pre .0)
+μ-loop c t s tasks values₀ p₀ i₀ values p i = length c / 6 - i
 
 loop-holds : tie.Need-loop-holds Inv-loop μ-loop
-loop-holds c = begun _ _
+loop-holds c = begun _ _ _
+
+literals-read-requires : tie.Need-literals-read-requires Inv-loop μ-loop
+literals-read-requires c κs =
+    let v = c .before .loop .inv in
+    (v .within, v .none, v .payable, search needs)
+
+-- behind the literals
+module _ (q : tie.After-literals-read Inv-loop μ-loop) where
+  abbrev loop : tie.At-loop Inv-loop μ-loop
+  loop = q .before .before
+
+  abbrev start : tie.Start Inv-loop μ-loop
+  start = loop .before .before .before .before .before
+
+  abbrev nodes : List Node
+  nodes = nodesIn (now (start .args .c))
+
+  abbrev next : ℕ
+  next = q .literals-read .result .next
+
+  behind : Turned (now (start .args .t)) (now (start .args .s)) nodes (readAll (now (start .args .t)) (now (start .args .s)) nodes) next (fieldsOf (loop .loop .values)) (q .literals-read .result .place)
+  behind = then-on _ _ _ _ _ _ _ (loop .loop .inv) (q .literals-read .ensures)
+
+  many : length nodes ≡ length (now (start .args .c)) / 6
+  many = nodes-length (now (start .args .c))
+
+-- a pattern stands there
+module _ (c : tie.After-node-at Inv-loop μ-loop) where
+  abbrev read : tie.After-literals-read Inv-loop μ-loop
+  read = c .before .before .before .before .before
+
+  one-left : next read < length (nodes read)
+  one-left = omega (arith, many read, c .before .before .before .if1 .left)
+
+  input-left : read .literals-read .result .place .at < length (now (start read .args .s))
+  input-left = omega (arith, c .before .if2 .left)
+
+  pattern : c .node-at .result .kind ≡ 1
+  pattern = ap (λ (n : Node). n .kind) (c .node-at .ensures) ∙ read .literals-read .ensures .stops one-left input-left
 
 returns : tie.Need-returns Inv-loop μ-loop
 returns c =
-    let l = c .before .before .before in
-    c .read .ensures ∙ input-ends _ _ _ _ _ (l .loop .inv) (c .before .if1 .taken)
+    let q = c .before .before .before in
+    c .read .ensures ∙ template-ends _ _ _ _ _ _ _ (behind q) (omega (arith, c .before .if1 .taken, many q))
 
-mul-n : tie.Need-mul-n Inv-loop μ-loop
-mul-n c =
-    let h = few (c .before .before .before .before .before .before) in
-    search needs
-
-element-copy-out-n : tie.Need-element-copy-out-n Inv-loop μ-loop
-element-copy-out-n c =
-    let h = few (c .before .before .before .before .before .before) in
-    search needs
-
-mul-next : tie.Need-mul-next Inv-loop μ-loop
-mul-next c =
-    let h = few (c .before .before .before .before .before .before .before .before .before) in
-    search needs
-
-element-copy-out-next : tie.Need-element-copy-out-next Inv-loop μ-loop
-element-copy-out-next c =
-    let h = few (c .before .before .before .before .before .before .before .before .before) in
-    search needs
+returns-2 : tie.Need-returns-2 Inv-loop μ-loop
+returns-2 c = c .read2 .ensures ∙ input-ends _ _ _ _ _ _ _ (behind (c .before .before .before .before .before)) (c .before .if2 .taken)
 
 pattern-read-requires : tie.Need-pattern-read-requires Inv-loop μ-loop
 pattern-read-requires c κs =
-    let l = c .before .before .before .before .before .before .before in
-    (l .before .tasks .ensures, l .loop .inv .payable, search needs, search needs)
-
-returns-2 : tie.Need-returns-2 Inv-loop μ-loop
-returns-2 c =
-    let r = c .before .before in
-    let k = r .before .before .before in
-    let i = k .before .before .before in
-    let l = i .before .before in
-    let a = l .before .before .before .before in
-    stops (now (a .args .t)) (now (a .args .s)) (l .loop .i) (l .loop .f) (l .loop .p) (l .loop .inv) (omega (arith, counted a)) (omega arith)
-    _ _ (node a (l .loop .i)) (node a (l .loop .i + 1)) (k .if2 .taken) (r .pattern-read .result) (r .pattern-read .ensures) _ (c .enum-told .given .1)
-
-loop-again : tie.Need-loop-again Inv-loop μ-loop
-loop-again c =
-    let v = c .before .before in
-    let r = v .before .before in
-    let k = r .before .before .before in
-    let i = k .before .before .before in
-    let l = i .before .before in
-    let a = l .before .before .before .before in
-    goes-on (now (a .args .t)) (now (a .args .s)) (l .loop .i) (l .loop .f) (l .loop .p) (l .loop .inv) (omega (arith, counted a)) (omega arith)
-    _ _ (node a (l .loop .i)) (node a (l .loop .i + 1)) (k .if2 .taken) (r .pattern-read .result) (r .pattern-read .ensures) (v .enum-told2 .given .1)
-
-literal-read-requires : tie.Need-literal-read-requires Inv-loop μ-loop
-literal-read-requires c κs = (c .before .before .before .before .before .loop .inv .payable, search needs, search needs)
-
-loop-again-2 : tie.Need-loop-again-2 Inv-loop μ-loop
-loop-again-2 c =
-    let k = c .before in
-    let i = k .before .before .before in
-    let l = i .before .before in
-    let a = l .before .before .before .before in
-    passes (now (a .args .t)) (now (a .args .s)) (l .loop .i) (l .loop .f) (l .loop .p) (l .loop .inv) (omega (arith, counted a)) (omega arith)
-    _ _ (node a (l .loop .i)) (node a (l .loop .i + 1)) (k .if2 .left) (c .literal-read .result) (c .literal-read .ensures)
+    let n = c .before .before .before in
+    let q = read n in
+    (loop q .before .tasks .ensures, behind q .payable, omega (arith, input-left n), search needs)
 
 returns-3 : tie.Need-returns-3 Inv-loop μ-loop
 returns-3 c =
+    let r = c .before .before .before .before in
+    let n = r .before .before .before .before in
+    let q = read n in
+    let w = r .pattern-read .ensures in
+    c .refused .ensures
+    ∙ stops _ _ _ _ _ _ _ (behind q) (one-left n) (input-left n) _ _ (n .node-at .ensures) (r .before .before .before .node-at2 .ensures) (pattern n)
+    _ (refused-is w (refused-none _ _ _ _ _ _ (sym (w .verdict) ∙ c .before .enum-told .given .1))) _ (c .before .enum-told .given .1)
+
+loop-less : tie.Need-loop-less Inv-loop μ-loop
+loop-less c =
+    let n = c .before .before .before .before .before .before .before in
+    omega (arith, one-left n, many (read n), read n .literals-read .ensures .on)
+
+loop-again : tie.Need-loop-again Inv-loop μ-loop
+loop-again c =
+    let r = c .before .before .before in
+    let n = r .before .before .before .before in
+    let q = read n in
+    goes-on _ _ _ _ _ _ _ (behind q) (one-left n) (input-left n) _ _ (n .node-at .ensures) (r .before .before .before .node-at2 .ensures) (pattern n)
+    _ (read-is (r .pattern-read .ensures) (c .enum-told2 .given .1)) (c .enum-told2 .given .1)
+
+returns-4 : tie.Need-returns-4 Inv-loop μ-loop
+returns-4 c =
     let l = c .before .before in
-    let a = l .before .before .before .before in
-    c .read2 .ensures ∙ template-ends _ _ _ _ _ (l .loop .inv) (omega (arith, counted a))
+    c .read3 .ensures ∙ template-ends _ _ _ _ _ _ _ (l .loop .inv) (omega (arith, c .before .loop-test .left, nodes-length (now (l .before .before .before .before .before .args .c))))
 
 pub dch-from-char-spec : {M : Type 1} → statement M
 dch-from-char-spec =
@@ -110,21 +117,20 @@ dch-from-char-spec =
     μ-loop
     (λ c κs. search needs)
     loop-holds
+    literals-read-requires
     (λ c κs. search needs)
     returns
-    mul-n
-    element-copy-out-n
+    (λ c κs. search needs)
+    returns-2
+    (λ c κs. search needs)
     (λ c. search needs)
-    mul-next
-    element-copy-out-next
+    (λ c κs. search needs)
     pattern-read-requires
     (λ c. search needs)
-    returns-2
-    (λ c. search needs)
-    (λ c. search needs)
-    loop-again
-    literal-read-requires
-    (λ c. search needs)
-    loop-again-2
     (λ c κs. search needs)
-    returns-3)
+    returns-3
+    (λ c. search needs)
+    loop-less
+    loop-again
+    (λ c κs. search needs)
+    returns-4)

@@ -11,32 +11,38 @@ use Rattle.template.proofs.parse_format.Statement.{statement}
 use Rattle.template.proofs.parse_format.Tie as tie
 
 abbrev Inv-loop : tie.InvT-loop
-Inv-loop t index names out₀ n₀ at₀ quoted₀ out n at quoted = (n ≤ at) × (n ≤ 256) × (length (out .nodes) ≡ 257) × Read t (out .nodes) n at quoted
+Inv-loop t out₀ index names n₀ at₀ quoted₀ out n at quoted = (n ≤ at) × (n ≤ 256) × (length out ≡ length out₀) × Read t out₀ out n at quoted
 
 abbrev μ-loop : tie.MeasureT-loop
-μ-loop t index names out₀ n₀ at₀ quoted₀ out n at quoted = length t - at
+μ-loop t out₀ index names n₀ at₀ quoted₀ out n at quoted = length t - at
 
 loop-holds : tie.Need-loop-holds Inv-loop μ-loop
-loop-holds c = (search needs, search needs, refl, begun _)
+loop-holds c = (omega arith, omega arith, refl, begun _ _)
 
 step-at-requires : tie.Need-step-at-requires Inv-loop μ-loop
 step-at-requires c κs =
     let n = c .before .before .before .before in
     (n .before .dch-index .ensures, n .dch-names .ensures, search needs, search needs)
 
+put-node-requires : tie.Need-put-node-requires Inv-loop μ-loop
+put-node-requires c κs = omega arith
+
 loop-less : tie.Need-loop-less Inv-loop μ-loop
-loop-less c = omega (arith, c .before .before .step-at .ensures .on)
+loop-less c = omega (arith, c .before .before .before .before .before .step-at .ensures .on)
 
 loop-again : tie.Need-loop-again Inv-loop μ-loop
 loop-again c =
-    let s = c .before .before in
+    let put = c .before .before .put-node .ensures in
+    let k = c .before .before .before .before in
+    let s = k .before in
     let l = s .before .before .before .before in
-    let a = l .before .before .before .before .args in (
+    let a = l .before .before .before .before .before .args in (
       omega (arith, s .step-at .ensures .on),
       omega arith,
       search needs,
-      kept (now (a .t)) (l .loop .out .nodes) (l .loop .n) (l .loop .at) (l .loop .quoted) (s .step-at .result) (s .step-at .ensures .is) (search needs)
-          (s .step-at .ensures .on) (omega arith) (c .before .if1 .taken) (l .loop .inv .3),
+      rw put
+          (kept (now (a .t)) (now (a .out)) (l .loop .n) (l .loop .at) (l .loop .quoted) (s .step-at .result) (s .step-at .ensures .is) (search needs)
+          (s .step-at .ensures .on) (l .loop .inv .3) (omega arith) (k .if1 .taken)),
     )
 
 loop-less-2 : tie.Need-loop-less-2 Inv-loop μ-loop
@@ -46,19 +52,19 @@ loop-again-2 : tie.Need-loop-again-2 Inv-loop μ-loop
 loop-again-2 c =
     let s = c .before in
     let l = s .before .before .before .before in
-    let a = l .before .before .before .before .args in (
+    let a = l .before .before .before .before .before .args in (
       omega (arith, s .step-at .ensures .on),
       search needs,
       search needs,
-      passed (now (a .t)) (l .loop .out .nodes) (l .loop .n) (l .loop .at) (l .loop .quoted) (s .step-at .result) (s .step-at .ensures .is) (search needs)
-          (s .step-at .ensures .on) (c .if1 .left) (l .loop .inv .3),
+      passed (now (a .t)) (now (a .out)) (l .loop .n) (l .loop .at) (l .loop .quoted) (s .step-at .result) (s .step-at .ensures .is) (search needs)
+          (s .step-at .ensures .on) (l .loop .inv .3) (c .if1 .left),
     )
 
+same-length : tie.Need-same-length Inv-loop μ-loop
+same-length c = c .before .loop .inv .2
+
 returns : tie.Need-returns Inv-loop μ-loop
-returns c =
-    let l = c .before in
-    let e = ended (now (l .before .before .before .before .args .t)) _ _ _ _ (l .loop .inv .3) (search needs) in
-    λ i. record { nodes = e .0 i; count = e .1 i }
+returns c = let l = c .before in ended _ _ _ _ _ _ (l .loop .inv .3) (l .loop .inv .1) (search needs)
 
 pub parse-format-spec : {M : Type 1} → statement M
 parse-format-spec =
@@ -70,11 +76,11 @@ parse-format-spec =
     (λ c κs. search needs)
     loop-holds
     step-at-requires
-    (λ c. search needs)
-    (λ c. search needs)
+    put-node-requires
     (λ c. search needs)
     loop-less
     loop-again
     loop-less-2
     loop-again-2
+    same-length
     returns)

@@ -16,11 +16,11 @@ unfolding nodeLength
 returns c =
     let p = c .before in
     let e = rw (p .piece-of .ensures) at (c .piece-length .ensures) in
-    (rw (eq-eqb _ 1 (p .before .if1 .taken)) e, omega (arith, e, short-piece _ (piece-range (p .before .before .before .args .n .pattern))))
+    (rw (eq-eqb _ 1 (p .before .if1 .taken)) e, omega (arith, e, short-piece _ (piece-range (p .before .before .before .before .args .n .pattern))))
 
 returns-2 : tie.Need-returns-2
 unfolding nodeLength
-returns-2 c = (rw (ne-eqb _ 1 (c .before .if1 .left)), search needs)
+returns-2 c = (rw (ne-eqb _ 1 (c .before .if1 .left)) (c .literal-length .ensures .0), c .literal-length .ensures .1)
 
 pub node-length-spec : {M : Type 1} → statement M
 node-length-spec =
@@ -29,5 +29,5 @@ node-length-spec =
     (λ c κs. search needs)
     piece-length-requires
     returns
-    (λ c. search needs)
+    (λ c κs. search needs)
     returns-2)

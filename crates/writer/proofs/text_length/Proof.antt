@@ -1,34 +1,39 @@
 -- `writer::text_length` meets its contract: the length so far and that of the nodes left make the whole. Assumes nothing.
 use mathlib.Core.Path.{_≡_}
-use Prim.Native.Nat.{_+_, _*_, _-_, _≤_}
+use Prim.Native.Nat.{_+_, _*_, _/_, _-_, _≤_}
 use native.Mathlib.Omega.{arith}
 use borrow.Author.Needs.{needs}
-use lib.ListN.{take, drop}
+use denote.Ref.{now}
+use lib.ListN.{drop, length}
+use Rattle.template.specs.Bytes.{nodesIn}
 use Rattle.writer.specs.Measure.{nodesLength}
-use Rattle.writer.proofs.Turns.{length-next, length-end}
+use Rattle.writer.proofs.Turns.{node-left, none-left, length-next, length-end}
 use Rattle.writer.proofs.text_length.Statement.{statement}
 use Rattle.writer.proofs.text_length.Tie as tie
 
 abbrev Inv-loop : tie.InvT-loop
-Inv-loop table c total₀ i₀ total i =
-    (i ≤ c .count) × (total ≤ 255 * i) × (total + nodesLength (drop i (take (c .count) (c .nodes))) ≡ nodesLength (take (c .count) (c .nodes)))
+Inv-loop table c t total₀ i₀ total i =
+    (i ≤ length c / 6) × (total ≤ 255 * i) × (total + nodesLength t (drop i (nodesIn c)) ≡ nodesLength t (nodesIn c))
 
 abbrev μ-loop : tie.MeasureT-loop
-μ-loop table c total₀ i₀ total i = c .count - i
+μ-loop table c t total₀ i₀ total i = length c / 6 - i
 
 loop-again : tie.Need-loop-again Inv-loop μ-loop
 loop-again c =
-    let l = c .before .before .before in
-    let a = l .before in
-    let e = length-next (a .args .t2 .nodes) (a .args .t2 .count) (l .loop .i) (a .pre .2) (c .before .before .loop-test .taken) in
-    (omega arith, omega arith, omega (arith, e, c .node-length .ensures .0))
+    let n = c .before in
+    let l = n .before .before in
+    let a = l .before .before .before .args in
+    let e = length-next (nodesIn (now (a .c))) (l .loop .i) (node-left _ _ (n .before .loop-test .taken)) (now (a .t)) in
+    let here = rw (n .node-at .ensures) at (c .node-length .ensures .0) in
+    (omega (arith, n .before .loop-test .taken), omega (arith, c .node-length .ensures .1), omega (arith, e, here, l .loop .inv .2))
 
 returns : tie.Need-returns Inv-loop μ-loop
 returns c =
     let l = c .before in
-    let a = l .before in
-    let e = length-end (a .args .t2 .nodes) (a .args .t2 .count) (l .loop .i) (a .pre .2) (c .loop-test .left) in
-    (omega (arith, e), omega arith)
+    let s = l .before .before .before in
+    let a = s .args in
+    let e = length-end (nodesIn (now (a .c))) (l .loop .i) (none-left _ _ (c .loop-test .left)) (now (a .t)) in
+    (omega (arith, e, l .loop .inv .2), omega (arith, s .pre .1))
 
 pub text-length-spec : {M : Type 1} → statement M
 text-length-spec =
@@ -37,9 +42,8 @@ text-length-spec =
     Inv-loop
     μ-loop
     (λ c. (omega arith, omega arith, omega arith))
-    (λ c. search needs)
-    (λ c. search needs)
-    (λ c κs. c .before .before .before .pre .0)
+    (λ c κs. search needs)
+    (λ c κs. search needs)
     (λ c. search needs)
     (λ c. search needs)
     (λ c. search needs)

@@ -10,12 +10,21 @@ use Rattle.reader.proofs.actions.pattern_read.Tie as tie
 
 action-read-requires : tie.Need-action-read-requires
 action-read-requires c κs =
-    let a = c .before .before .before .before .before in
-    (c .before .before .task-at .ensures, rw (c .entered .ensures) (entered-within (now (a .args .s)) (a .args .p) (not (eqb (c .before .before .task-at .result .kind) 1)) (a .pre .2)), search needs)
+    let e = c .before in
+    let t = e .before .before in
+    let a = t .before .before .before in
+    (t .task-at .ensures, rw (e .entered .ensures) (entered-within (now (a .args .s)) (a .args .p) (not (eqb (t .task-at .result .kind) 1)) (a .pre .2)), search needs)
 
 returns : tie.Need-returns
 returns c =
-    rw (← c .before .before .before .task-at .ensures .is, ← c .before .entered .ensures) (c .action-read .ensures)
+    let e = c .before .before in
+    rw (← e .before .before .task-at .ensures .is, ← e .entered .ensures) (c .action-read .ensures)
 
 pub pattern-read-spec : {M : Type 1} → statement M
-pattern-read-spec = tie.close (tie.spec (λ c κs. search needs) (λ c κs. search needs) action-read-requires returns)
+pattern-read-spec =
+    tie.close
+    (tie.spec
+    (λ c κs. search needs)
+    (λ c κs. search needs)
+    action-read-requires
+    returns)

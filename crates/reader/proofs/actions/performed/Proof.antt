@@ -1,65 +1,73 @@
 -- `reader::actions::performed` meets its contract. Assumes nothing.
 use mathlib.Core.Path.{_≡_, _∙_, sym, ap}
+use mathlib.Core.Logic.{_⊎_, inl, inr}
 use Prim.Native.Nat.{ℕ}
 use borrow.Author.Needs.{needs}
 use borrow.Author.Tests.{ne-eqb}
 use denote.Ref.{now}
+use Rattle.tasks.specs.Fields.{fieldsOf}
+use Rattle.tasks.specs.Numbers.{readNumber}
 use Rattle.reader.specs.Reader.{byKind, performed}
 use Rattle.reader.proofs.actions.performed.Statement.{statement}
 use Rattle.reader.proofs.actions.performed.Tie as tie
 
 -- a task of a kind that is known
 of-kind : (c : tie.Start) (k : ℕ) → c .args .task .kind ≡ k →
-    byKind k (now (c .args .s)) (c .args .n) (c .args .free) (c .args .task) (c .args .f) (c .args .p)
-    ≡ performed (now (c .args .s)) (c .args .n) (c .args .free) (c .args .task) (c .args .f) (c .args .p)
+    byKind k (now (c .args .s)) (c .args .n) (c .args .free) (c .args .task) (fieldsOf (now (c .args .f))) (c .args .p)
+    ≡ performed (now (c .args .s)) (c .args .n) (c .args .free) (c .args .task) (fieldsOf (now (c .args .f))) (c .args .p)
 unfolding performed
-of-kind c k e = ap (λ (k : ℕ). byKind k (now (c .args .s)) (c .args .n) (c .args .free) (c .args .task) (c .args .f) (c .args .p)) (sym e)
+of-kind c k e =
+    ap (λ (k : ℕ). byKind k (now (c .args .s)) (c .args .n) (c .args .free) (c .args .task) (fieldsOf (now (c .args .f))) (c .args .p)) (sym e)
+
+-- a number, or a year with a comma
+of-number : (c : tie.Start) → (c .args .task .kind ≡ 2) ⊎ (c .args .task .kind ≡ 5) →
+    readNumber (now (c .args .s)) (c .args .n) (c .args .free) (c .args .task) (fieldsOf (now (c .args .f))) (c .args .p)
+    ≡ performed (now (c .args .s)) (c .args .n) (c .args .free) (c .args .task) (fieldsOf (now (c .args .f))) (c .args .p)
+of-number c (inl e) = of-kind c 2 e
+of-number c (inr e) = of-kind c 5 e
 
 returns : tie.Need-returns
-returns c = c .read-number .ensures ∙ of-kind (c .before .before .before) 2 (c .before .match .keys1)
+returns c = c .read-number .ensures ∙ of-number (c .before .before .before .before) (c .before .before .match .keys1)
 
 returns-2 : tie.Need-returns-2
-returns-2 c = c .read-word .ensures ∙ of-kind (c .before .before .before) 3 (c .before .match .keys2)
+returns-2 c = c .read-word .ensures ∙ of-kind (c .before .before .before .before) 3 (c .before .before .match .keys2)
 
 returns-3 : tie.Need-returns-3
-returns-3 c = rw (c .before .exact .ensures) at (c .read .ensures) ∙ of-kind (c .before .before .before .before) 1 (c .before .before .match .keys3)
+returns-3 c = rw (c .read .ensures, c .before .exact .ensures) (of-kind (c .before .before .before .before) 1 (c .before .before .match .keys3))
 
 returns-4 : tie.Need-returns-4
-returns-4 c = c .read-dropped .ensures ∙ of-kind (c .before .before .before) 4 (c .before .match .keys4)
+returns-4 c = c .read-dropped .ensures ∙ of-kind (c .before .before .before .before) 4 (c .before .before .match .keys4)
 
 returns-5 : tie.Need-returns-5
-returns-5 c = c .read-comma-year .ensures ∙ of-kind (c .before .before .before) 5 (c .before .match .keys5)
+returns-5 c = c .read-offset .ensures ∙ of-kind (c .before .before .before .before) 6 (c .before .before .match .keys5)
 
 returns-6 : tie.Need-returns-6
-returns-6 c = c .read-offset .ensures ∙ of-kind (c .before .before .before) 6 (c .before .match .keys6)
+returns-6 c = c .read-offset-minutes .ensures ∙ of-kind (c .before .before .before .before) 7 (c .before .before .match .keys6)
 
 returns-7 : tie.Need-returns-7
-returns-7 c = c .read-offset-minutes .ensures ∙ of-kind (c .before .before .before) 7 (c .before .match .keys7)
-
-returns-8 : tie.Need-returns-8
 unfolding performed
-returns-8 c =
+returns-7 c =
     let n7 = c .before .match .rest in
     let n6 = n7 .0 in
-    let n5 = n6 .0 in
-    let n4 = n5 .0 in
-    let n3 = n4 .0 in
+    let n4 = n6 .0 in
+    let n1 = n4 .0 in
+    let n3 = n1 .0 in
+    let n = n3 .0 .1 in
     rw (
-      ne-eqb _ _ (n3 .0 .0 .1),
-      ne-eqb _ _ (n3 .0 .1),
+      ne-eqb _ 2 (λ e. n (inl e)),
+      ne-eqb _ 5 (λ e. n (inr e)),
       ne-eqb _ _ (n3 .1),
+      ne-eqb _ _ (n1 .1),
       ne-eqb _ _ (n4 .1),
-      ne-eqb _ _ (n5 .1),
       ne-eqb _ _ (n6 .1),
       ne-eqb _ _ (n7 .1),
+      c .read2 .ensures,
     )
-    (c .read2 .ensures)
 
 pub performed-spec : {M : Type 1} → statement M
 performed-spec =
     tie.close
     (tie.spec
-    (λ c κs. search needs)
     (λ c κs. search needs)
     (λ c κs. search needs)
     (λ c κs. search needs)
@@ -74,5 +82,4 @@ performed-spec =
     returns-4
     returns-5
     returns-6
-    returns-7
-    returns-8)
+    returns-7)

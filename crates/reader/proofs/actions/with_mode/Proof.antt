@@ -8,18 +8,18 @@ use Rattle.reader.proofs.actions.with_mode.Statement.{statement}
 use Rattle.reader.proofs.actions.with_mode.Tie as tie
 
 returns : tie.Need-returns
-returns c = rw (c .if1 .taken)
+returns c =
+    let a = c .before .before .before in
+    rw (ne-eqb _ _ (c .before .before .if1 .taken)) (simp (toZ-pos w32 {n = a .args .new} (omega arith)) at (c .put .ensures))
 
 returns-2 : tie.Need-returns-2
-returns-2 c =
-    let a = c .before .before in
-    rw (ne-eqb _ _ (c .before .if1 .left)) (simp (toZ-pos w32 {n = a .args .new} (omega arith)) at (c .put .ensures))
+returns-2 c = rw (c .if1 .left)
 
 pub with-mode-spec : {M : Type 1} → statement M
 with-mode-spec =
     tie.close
     (tie.spec
-    returns
     (λ c. search needs)
     (λ c κs. search needs)
+    returns
     returns-2)

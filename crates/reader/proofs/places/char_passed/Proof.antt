@@ -2,14 +2,14 @@
 use mathlib.Core.Path.{ap}
 use Prim.Native.Nat.{ℕ, _+_}
 use borrow.Author.Needs.{needs}
-use Rattle.reader.specs.Reader.{place}
+use Rattle.tasks.specs.Fields.{atPlace}
 use Rattle.reader.proofs.places.char_passed.Statement.{statement}
 use Rattle.reader.proofs.places.char_passed.Tie as tie
 
 returns : tie.Need-returns
 returns c =
     let p = c .before .before .args .p in
-    ap (λ (n : ℕ). place (p .at + n) (p .extra) (p .fx)) (c .pg-mblen .ensures .is)
+    ap (λ (n : ℕ). atPlace p (p .at + n)) (c .pg-mblen .ensures .is)
 
 pub char-passed-spec : {M : Type 1} → statement M
 char-passed-spec = tie.close (tie.spec (λ c κs. search needs) (λ c. search needs) returns)

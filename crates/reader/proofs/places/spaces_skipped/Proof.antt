@@ -1,6 +1,5 @@
 -- `reader::places::spaces_skipped` meets its contract. Assumes nothing.
 use mathlib.Core.Path.{_≡_}
-use mathlib.Core.Bool.{false}
 use Prim.Native.Nat.{_+_, _-_}
 use native.Mathlib.Omega.{arith}
 use borrow.Author.Needs.{needs}
@@ -21,7 +20,7 @@ returns c =
     let p = c .before .before .before .args .p in
     let e = c .before .past-spaces .ensures in
     let more : p .extra + (c .before .past-spaces .result - p .at) ≡ p .extra + spaces (drop (p .at) (now (c .before .before .before .args .s))) = omega (arith, e) in
-    λ i. record { at = e i; extra = more i; fx = false }
+    λ i. record { at = e i; extra = more i; fx = 0 }
 
 pub spaces-skipped-spec : {M : Type 1} → statement M
 spaces-skipped-spec = tie.close (tie.spec (λ c κs. search needs) (λ c. search needs) add-extra returns)

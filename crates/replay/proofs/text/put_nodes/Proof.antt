@@ -8,10 +8,10 @@ use Rattle.replay.proofs.text.put_nodes.Statement.{statement}
 use Rattle.replay.proofs.text.put_nodes.Tie as tie
 
 abbrev Inv-loop : tie.InvT-loop
-Inv-loop out₀ at t c next₀ i₀ out next i = (i ≤ 257) × (length out ≡ length out₀) × (next ≤ max at (length out₀))
+Inv-loop out₀ at t nodes count next₀ i₀ out next i = (i ≤ count) × (length out ≡ length out₀) × (next ≤ max at (length out₀))
 
 abbrev μ-loop : tie.MeasureT-loop
-μ-loop out₀ at t c next₀ i₀ out next i = 257 - i
+μ-loop out₀ at t nodes count next₀ i₀ out next i = count - i
 
 pub put-nodes-spec : {M : Type 1} → statement M
 put-nodes-spec =
@@ -19,15 +19,14 @@ put-nodes-spec =
     (tie.spec
     Inv-loop
     μ-loop
+    (λ c. search needs)
     (λ c κs. search needs)
     (λ c. (omega arith, search needs, omega arith))
-    (λ c. omega arith)
-    (λ c. omega arith)
-    (λ c. search needs)
     (λ c. search needs)
     (λ c κs. search needs)
-    (λ c. omega arith)
-    (λ c. omega arith)
+    (λ c κs. search needs)
+    (λ c. search needs)
+    (λ c. search needs)
     (λ c. (omega arith, search needs, search needs))
     (λ c. search needs)
     (λ c. search needs))

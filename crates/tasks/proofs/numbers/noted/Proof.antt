@@ -1,4 +1,4 @@
--- `reader::numbers::noted` meets its contract. Assumes nothing.
+-- `tasks::numbers::noted` meets its contract. Assumes nothing.
 use native.Mathlib.Omega.{arith}
 use borrow.Author.Needs.{needs}
 use borrow.Author.Tests.{ne-eqb}
@@ -10,23 +10,23 @@ use Rattle.tasks.proofs.numbers.noted.Tie as tie
 
 returns : tie.Need-returns
 unfolding noted
-returns c = simp (c .before .match .keys1) (c .put .ensures)
+returns c = simp (c .before .before .match .keys1) (c .put .ensures)
 
 returns-2 : tie.Need-returns-2
 unfolding noted
-returns-2 c = simp (c .before .match .keys2) (c .put2 .ensures)
+returns-2 c = simp (c .before .before .match .keys2) (c .put2 .ensures)
 
 returns-3 : tie.Need-returns-3
 unfolding noted
 returns-3 c =
-    let w = toZ-pos w32 {n = c .before .before .args .width} (omega arith) in
-    simp (c .before .match .keys3) (simp w at (c .put3 .ensures))
+    let w = toZ-pos w32 {n = c .before .before .before .args .width} (omega arith) in
+    simp (c .before .before .match .keys3) (simp w at (c .put3 .ensures))
 
 returns-4 : tie.Need-returns-4
 unfolding noted
 returns-4 c =
-    let w = toZ-pos w32 {n = c .before .before .args .width} (omega arith) in
-    simp (c .before .match .keys4) (simp w at (c .put4 .ensures))
+    let w = toZ-pos w32 {n = c .before .before .before .args .width} (omega arith) in
+    simp (c .before .before .match .keys4) (simp w at (c .put4 .ensures))
 
 returns-5 : tie.Need-returns-5
 unfolding noted

@@ -1,4 +1,4 @@
--- `reader::numbers::read_dropped` meets its contract. Assumes nothing.
+-- `tasks::numbers::read_dropped` meets its contract. Assumes nothing.
 use borrow.Author.Needs.{needs}
 use Rattle.tasks.specs.Numbers.{droppedNumber}
 use Rattle.tasks.proofs.numbers.read_dropped.Statement.{statement}
@@ -8,7 +8,7 @@ returns : tie.Need-returns
 unfolding droppedNumber
 returns c =
     let w = c .before .before in
-    rw (← w .before .before .parse-int-len .ensures .is, w .why .given .1) (c .refuse .ensures)
+    rw (← w .before .before .parse-int-len .ensures .is, w .why .given .1, c .refuse .ensures)
 
 returns-2 : tie.Need-returns-2
 unfolding droppedNumber

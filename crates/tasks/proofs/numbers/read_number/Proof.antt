@@ -1,10 +1,10 @@
--- `reader::numbers::read_number` meets its contract. Assumes nothing.
+-- `tasks::numbers::read_number` meets its contract. Assumes nothing.
 use borrow.Author.Needs.{needs}
 use Rattle.tasks.proofs.numbers.read_number.Statement.{statement}
 use Rattle.tasks.proofs.numbers.read_number.Tie as tie
 
 returns : tie.Need-returns
-returns c = rw (← c .before .parse-int-len .ensures .is) (c .stored-number .ensures)
+returns c = rw (← c .before .before .number-at .ensures .is) (c .stored-number .ensures)
 
 pub read-number-spec : {M : Type 1} → statement M
 read-number-spec = tie.close (tie.spec (λ c κs. search needs) (λ c κs. search needs) returns)

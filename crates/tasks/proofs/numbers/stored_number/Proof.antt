@@ -1,18 +1,15 @@
--- `reader::numbers::stored_number` meets its contract. Assumes nothing.
+-- `tasks::numbers::stored_number` meets its contract. Assumes nothing.
 use mathlib.Core.Path.{_≡_, _∙_, sym}
 use Prim.Native.Nat.{_<_}
 use native.Mathlib.Omega.{arith}
 use borrow.Author.Needs.{needs}
-use lib.ListN.{length}
 use denote.Ref.{now}
 use mir.Facts.{toZ-ofZ}
 use mir.Syntax.{w32}
 use mir.Val.{SFits}
 use Rattle.wrapping.proofs.Fits.{returned}
-use Rattle.fields.specs.Number.{Inside}
 use Rattle.fields.specs.Setting.{conflicts}
-use Rattle.fields.specs.declared.Number.the-variants.{Read}
-use Rattle.tasks.specs.Fields.{get}
+use Rattle.tasks.specs.Fields.{fieldsOf, get}
 use Rattle.tasks.specs.Numbers.{storedNumber}
 use Rattle.tasks.proofs.numbers.stored_number.Statement.{statement}
 use Rattle.tasks.proofs.numbers.stored_number.Tie as tie
@@ -28,37 +25,40 @@ moved c =
 
 -- the test
 tested : (c : tie.After-from-char-set-int) →
-    let a = c .before .before .before .before .before .before .args in
-    c .from-char-set-int .result ≡ conflicts (get (a .f) (a .task .field)) (c .before .before .before .number2 .given .0 .0)
+    let k = c .before .before .before in
+    let a = k .before .before .before .before .args in
+    c .from-char-set-int .result ≡ conflicts (get (fieldsOf (now (a .f))) (a .task .field)) (k .before .number2 .given .0 .0)
 tested c =
     let g = c .before .get in
-    simp (returned (g .ok) (g .ensures), toZ-ofZ (value-fits (c .before .before))) at (c .from-char-set-int .ensures)
+    simp (returned (g .ok) (g .ensures), toZ-ofZ (value-fits (c .before .before .before))) at (c .from-char-set-int .ensures)
 
 returns : tie.Need-returns
 unfolding storedNumber
 returns c =
     let t = c .before .before in
-    rw (t .before .before .before .number2 .given .1, sym (tested t) ∙ c .before .if1 .taken) (c .refuse2 .ensures)
+    rw (t .before .before .before .before .number2 .given .1, sym (tested t) ∙ c .before .if1 .taken, c .refuse2 .ensures)
 
 returns-2 : tie.Need-returns-2
 unfolding storedNumber
-returns-2 c = rw (c .before .before .number .given .1) (c .refuse .ensures)
+returns-2 c = rw (c .before .before .number .given .1, c .refuse .ensures)
 
 returns-3 : tie.Need-returns-3
 unfolding storedNumber
 returns-3 c =
-    let l = c .before .before in
-    let w = l .before .before in
+    let l = c .before in
+    let o = l .before .before in
+    let w = o .before .before in
     let k = w .before in
-    let t = k .before .before .before in
-    let v = t .before .before in
+    let e = k .before .before .before in
+    let t = e .before in
+    let v = t .before .before .before in
     simp (
       v .before .number2 .given .1,
-      sym (tested t) ∙ k .before .before .if1 .left,
+      sym (tested t) ∙ e .if1 .left,
       c .read .ensures,
-      c .before .noted .ensures,
       l .at-place .ensures,
       l .before .skip-th .ensures .is,
+      o .noted .ensures,
       w .put .ensures,
       returned (k .kept .ok) (k .kept .ensures),
       toZ-ofZ (value-fits v),
@@ -75,7 +75,7 @@ stored-number-spec =
     (λ c κs. search needs)
     (λ c κs. search needs)
     returns
-    (λ c. let h = moved (c .before .before .before .before) in omega arith)
+    (λ c. let h = moved (c .before .before .before .before .before .before) in omega arith)
     (λ c κs. search needs)
     (λ c κs. search needs)
     (λ c κs. search needs)

@@ -1,11 +1,11 @@
--- `reader::words::noted_word` meets its contract. Assumes nothing.
+-- `tasks::words::noted_word` meets its contract. Assumes nothing.
 use borrow.Author.Needs.{needs}
 use borrow.Author.Tests.{ne-eqb}
 use Rattle.tasks.proofs.words.noted_word.Statement.{statement}
 use Rattle.tasks.proofs.words.noted_word.Tie as tie
 
 returns : tie.Need-returns
-returns c = rw (c .before .if1 .taken) (c .put .ensures)
+returns c = rw (c .before .before .if1 .taken) (c .put .ensures)
 
 returns-2 : tie.Need-returns-2
 returns-2 c = rw (ne-eqb _ _ (c .if1 .left))

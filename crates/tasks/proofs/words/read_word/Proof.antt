@@ -1,12 +1,12 @@
--- `reader::words::read_word` meets its contract. Assumes nothing.
+-- `tasks::words::read_word` meets its contract. Assumes nothing.
 use mathlib.Core.Path.{_≡_, _∙_, sym}
-use Prim.Native.Nat.{ℕ, _+_, _≤_}
+use Prim.Native.Nat.{_≤_}
 use native.Mathlib.Omega.{arith}
 use borrow.Author.Needs.{needs}
 use denote.Ref.{now}
 use Rattle.fields.specs.Word.{Inside}
 use Rattle.fields.specs.declared.Word.the-variants.{At}
-use Rattle.tasks.specs.Words.{meant, storedWord}
+use Rattle.tasks.specs.Words.{storedWord}
 use Rattle.tasks.proofs.words.read_word.Statement.{statement}
 use Rattle.tasks.proofs.words.read_word.Tie as tie
 
@@ -20,14 +20,15 @@ returns : tie.Need-returns
 unfolding storedWord
 returns c =
     let w = c .before .before .before in
-    rw (← w .before .list-of .ensures, ← w .seq-search-ascii .ensures .is, c .before .enum-told .given .1) (c .refuse .ensures)
+    rw (← w .before .list-of .ensures, ← w .seq-search-ascii .ensures .is, c .before .enum-told .given .1, c .refuse .ensures)
 
 returns-2 : tie.Need-returns-2
 unfolding storedWord
 returns-2 c =
-    let i = c .before .before .before in
+    let m = c .before .before in
+    let i = m .before .before in
     let w = i .before .before in
-    rw (← w .before .list-of .ensures, ← w .seq-search-ascii .ensures .is, i .index .given .1, ← c .before .meant .ensures .0) (c .word-stored .ensures)
+    rw (← w .before .list-of .ensures, ← w .seq-search-ascii .ensures .is, i .index .given .1, ← m .meant .ensures .0) (c .word-stored .ensures)
 
 pub read-word-spec : {M : Type 1} → statement M
 read-word-spec =

@@ -1,4 +1,4 @@
--- `reader::zones::colon_minutes` meets its contract: the colon stands within the input. Assumes nothing.
+-- `tasks::zones::colon_minutes` meets its contract: the colon stands within the input. Assumes nothing.
 use mathlib.Core.Path.{_≡_, _∙_, sym}
 use Prim.Native.Nat.{_<_}
 use native.Mathlib.Omega.{arith}
@@ -27,19 +27,20 @@ inside c =
 
 returns : tie.Need-returns
 unfolding colonMinutes
-returns c = rw (c .before .if1 .taken) (c .read .ensures)
+returns c = rw (c .before .if1 .taken, c .read .ensures)
 
 returns-2 : tie.Need-returns-2
 unfolding colonMinutes
 returns-2 c =
     let b = c .before .before in
-    rw (ne-eqb _ _ (b .before .if1 .left), ne-eqb _ _ (λ e. c .before .if2 .taken (b .byte-at .ensures ∙ e))) (c .read2 .ensures)
+    rw (ne-eqb _ _ (b .before .if1 .left), ne-eqb _ _ (λ e. c .before .if2 .taken (b .byte-at .ensures ∙ e)), c .read2 .ensures)
 
 returns-3 : tie.Need-returns-3
 unfolding colonMinutes
 returns-3 c =
-    let i = c .before .before in
-    rw (ne-eqb _ _ (i .before .before .if1 .left), colon i, ← c .before .parse-int-len .ensures .is) (c .stored-offset .ensures)
+    let n = c .before .before in
+    let i = n .before in
+    rw (ne-eqb _ _ (i .before .before .if1 .left), colon i, ← n .strtol-number .ensures .is) (c .stored-offset .ensures)
 
 pub colon-minutes-spec : {M : Type 1} → statement M
 colon-minutes-spec =

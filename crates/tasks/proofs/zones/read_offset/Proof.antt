@@ -1,4 +1,4 @@
--- `reader::zones::read_offset` meets its contract. Assumes nothing.
+-- `tasks::zones::read_offset` meets its contract. Assumes nothing.
 use mathlib.Core.Path.{_≡_, _∙_, sym}
 use mathlib.Core.Bool.{_&&_}
 use borrow.Author.Needs.{needs}
@@ -7,8 +7,10 @@ use lib.Dec.{eqb}
 use Rattle.notation.specs.Text.{byteAt}
 use Rattle.chars.specs.Class.{isLetter}
 use Rattle.wrapping.proofs.Fits.{returned}
+use Rattle.tasks.specs.Fields.{fieldsOf, put, readInto, tzh, tzsign}
 use Rattle.tasks.specs.Tasks.{noLetter}
-use Rattle.tasks.specs.Zones.{readOffset}
+use Rattle.tasks.specs.Zones.{readOffset, thenMinutes, signOf, storedOffset, pastSign}
+use Rattle.fields.specs.Number.{numberAt}
 use Rattle.tasks.proofs.zones.read_offset.Statement.{statement}
 use Rattle.tasks.proofs.zones.read_offset.Tie as tie
 
@@ -20,20 +22,39 @@ tested c = rw (c .before .byte-at .ensures) at (c .is-zone-letter .ensures)
 
 returns : tie.Need-returns
 unfolding readOffset
-returns c = rw (sym (tested (c .before .before)) ∙ c .before .if1 .taken) (c .refuse .ensures)
+returns c = rw (sym (tested (c .before .before)) ∙ c .before .if1 .taken, c .refuse .ensures)
 
-returns-2 : tie.Need-returns-2
-unfolding readOffset
-returns-2 c =
-    let o = c .before in
-    let n = o .before in
+-- the hours: a sign that is stored, and a number
+hours : (c : tie.After-stored-offset) →
+    let a = c .before .before .before .before .before .before .before .before .before .before .before .args in
+    readInto (c .stored-offset .result) (c .stored-offset .last .1 .1 .1 .0)
+    ≡ storedOffset (a .n) tzh (numberAt (now (a .s)) (pastSign (now (a .s)) (a .p .at)) 2 (a .n .pattern) (a .free)) (put (fieldsOf (now (a .f))) tzsign (signOf (now (a .s)) (a .p))) (a .p)
+hours c =
+    let n = c .before .before in
     let p = n .before in
     let w = p .before in
     let g = w .before in
-    let i = g .before in
     let signed = rw (returned (g .sign-of .ok) (g .sign-of .ensures)) at (w .put .ensures) in
-    rw (sym (tested (i .before)) ∙ i .if1 .left, ← p .past-sign .ensures .is, ← n .parse-int-len .ensures .is, ← signed, ← o .stored-offset .ensures)
-    (c .then-minutes .ensures)
+    rw (← p .past-sign .ensures .is, ← n .strtol-number .ensures .is, ← signed) (c .stored-offset .ensures)
+
+-- the place of the test behind them
+abbrev test : tie.After-stored-offset → tie.Else1
+test c = c .before .before .before .before .before .before .before
+
+returns-2 : tie.Need-returns-2
+unfolding readOffset thenMinutes
+returns-2 c =
+    let o = c .before .before in
+    let e = test o in
+    rw (sym (tested (e .before)) ∙ e .if1 .left, ← hours o, c .enum-told .given .1)
+
+returns-3 : tie.Need-returns-3
+unfolding readOffset thenMinutes
+returns-3 c =
+    let v = c .before .before .before in
+    let o = v .before .before in
+    let e = test o in
+    rw (sym (tested (e .before)) ∙ e .if1 .left, ← hours o, v .enum-told2 .given .1) (c .colon-minutes .ensures)
 
 pub read-offset-spec : {M : Type 1} → statement M
 read-offset-spec =
@@ -48,5 +69,8 @@ read-offset-spec =
     (λ c κs. search needs)
     (λ c κs. c .past-sign .ensures .within)
     (λ c κs. search needs)
+    (λ c. search needs)
+    (λ c. search needs)
     (λ c κs. search needs)
-    returns-2)
+    returns-2
+    returns-3)

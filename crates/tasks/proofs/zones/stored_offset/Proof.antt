@@ -1,12 +1,13 @@
--- `reader::zones::stored_offset` meets its contract. Assumes nothing.
+-- `tasks::zones::stored_offset` meets its contract. Assumes nothing.
 use mathlib.Core.Path.{_≡_, _∙_, sym}
 use borrow.Author.Needs.{needs}
+use denote.Ref.{now}
 use mir.Facts.{toZ-ofZ}
 use mir.Syntax.{w32}
 use mir.Val.{SFits}
 use Rattle.wrapping.proofs.Fits.{returned}
 use Rattle.fields.specs.Setting.{conflicts}
-use Rattle.tasks.specs.Fields.{get}
+use Rattle.tasks.specs.Fields.{fieldsOf, get}
 use Rattle.tasks.specs.Zones.{storedOffset}
 use Rattle.tasks.proofs.zones.stored_offset.Statement.{statement}
 use Rattle.tasks.proofs.zones.stored_offset.Tie as tie
@@ -17,31 +18,33 @@ value-fits c = search needs
 
 -- the test
 tested : (c : tie.After-from-char-set-int) →
-    let a = c .before .before .before .before .before .args in
-    c .from-char-set-int .result ≡ conflicts (get (a .f) (a .k)) (c .before .before .before .number2 .given .0 .0)
+    let k = c .before .before .before in
+    let a = k .before .before .before .args in
+    c .from-char-set-int .result ≡ conflicts (get (fieldsOf (now (a .f))) (a .k)) (k .before .number2 .given .0 .0)
 tested c =
     let g = c .before .get in
-    simp (returned (g .ok) (g .ensures), toZ-ofZ (value-fits (c .before .before))) at (c .from-char-set-int .ensures)
+    simp (returned (g .ok) (g .ensures), toZ-ofZ (value-fits (c .before .before .before))) at (c .from-char-set-int .ensures)
 
 returns : tie.Need-returns
 unfolding storedOffset
 returns c =
     let t = c .before .before in
-    rw (t .before .before .before .number2 .given .1, sym (tested t) ∙ c .before .if1 .taken) (c .refuse2 .ensures)
+    rw (t .before .before .before .before .number2 .given .1, sym (tested t) ∙ c .before .if1 .taken, c .refuse2 .ensures)
 
 returns-2 : tie.Need-returns-2
 unfolding storedOffset
-returns-2 c = rw (c .before .before .number .given .1) (c .refuse .ensures)
+returns-2 c = rw (c .before .before .number .given .1, c .refuse .ensures)
 
 returns-3 : tie.Need-returns-3
 unfolding storedOffset
 returns-3 c =
     let w = c .before .before in
-    let t = w .before .before in
-    let v = t .before .before in
+    let e = w .before .before in
+    let t = e .before in
+    let v = t .before .before .before in
     simp (
       v .before .number2 .given .1,
-      sym (tested t) ∙ w .before .if1 .left,
+      sym (tested t) ∙ e .if1 .left,
       c .read .ensures,
       c .before .at-place .ensures,
       w .put .ensures,
