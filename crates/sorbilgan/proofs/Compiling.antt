@@ -1,0 +1,36 @@
+-- What compiling answers, by its tests. Assumes nothing.
+use mathlib.Core.Path.{_≡_, refl}
+use mathlib.Core.Bool.{true, false}
+use mathlib.Core.List.{List}
+use Prim.Native.Nat.{ℕ, _*_, _<_, _≤_}
+use native.Mathlib.Omega.{arith}
+use borrow.Author.Tests.{lt-ltb, le-ltb}
+use lib.IntN.{negsuc}
+use lib.ListN.{length}
+use mir.Facts.{toZ-pos}
+use mir.Syntax.{w64}
+use mir.Val.{toZ}
+use Rattle.chars.specs.Utf8.{wellFormed}
+use Rattle.template.proofs.Encoding.{encoded-length}
+use Rattle.template.specs.Bytes.{Parsed}
+use Rattle.template.specs.Template.{nodesOf}
+use Rattle.sorbilgan.specs.Compiled.{CompiledTo, compiledTo}
+
+module _ (t before : List ℕ) where
+  pub long : 256 < length t → CompiledTo t before before (negsuc 0)
+  unfolding compiledTo
+  long h = record { is = rw (lt-ltb 256 (length t) h); buffer = refl }
+
+  module _ (short : length t ≤ 256) where
+    pub ill-formed : wellFormed t ≡ false → CompiledTo t before before (negsuc 1)
+    unfolding compiledTo
+    ill-formed e = record { is = rw (le-ltb 256 (length t) short, e); buffer = refl }
+
+    pub parsed : wellFormed t ≡ true → {after : List ℕ} {r : ℕ} → Parsed (nodesOf t) before after r → CompiledTo t before after (toZ w64 (6 * r))
+    unfolding compiledTo
+    parsed e {after} {r} p =
+        rw (toZ-pos w64 {n = 6 * r} (omega (arith, p .few)))
+        (record {
+          is = rw (le-ltb 256 (length t) short, e, encoded-length (nodesOf t), p .count);
+          buffer = rw (p .count) (p .is);
+        })

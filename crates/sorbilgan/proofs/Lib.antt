@@ -1,0 +1,3 @@
+mod Compiling
+mod Room
+mod Stored

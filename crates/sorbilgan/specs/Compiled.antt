@@ -1,0 +1,48 @@
+-- Compiling a template into a lent buffer: the answer, and the buffer after it.
+use mathlib.Core.Path.{_≡_, refl}
+use mathlib.Core.Bool.{not}
+use mathlib.Core.List.{List, [], _∷_, _++_}
+use Prim.Native.Nat.{ℕ}
+use lib.Dec.{ltb}
+use lib.IntN.{ℤ, pos, negsuc}
+use lib.ListN.{length, drop}
+use Rattle.notation.specs.Choice.{if_then_else_}
+use Rattle.notation.specs.Text.{utf8}
+use Rattle.chars.specs.Character.{charLength, lead}
+use Rattle.chars.specs.Class.{classOf}
+use Rattle.chars.specs.Utf8.{sequence, wellFormed, wellFormedAfter}
+use Rattle.parts.specs.Parts.{templateLimit}
+use Rattle.patterns.specs.Affixes.{bitAt}
+use Rattle.patterns.specs.Search.{patternAt}
+use Rattle.template.specs.Bytes.{encoded}
+use Rattle.template.specs.Template.{action, charPlace, kindOf, literalAt, nodesFrom, nodesOf, plainAt, stepAt}
+
+-- the bytes of a template's nodes
+abbrev pub compiled : List ℕ → List ℕ
+compiled t = encoded (nodesOf t)
+
+-- how many they are; -1 for a template over its limit, -2 for one that is not UTF-8
+unfoldable pub compiledTo : List ℕ → ℤ
+compiledTo t =
+    if ltb templateLimit (length t) then negsuc 0
+    else if not (wellFormed t) then negsuc 1
+    else pos (length (compiled t))
+
+-- the bytes in front and every byte behind them as it was; refused: the buffer as it was
+abbrev pub nodesAfter : ℤ → List ℕ → List ℕ → List ℕ
+nodesAfter (pos n) nodes before = nodes ++ drop n before
+nodesAfter (negsuc n) nodes before = before
+
+-- r is the answer, and `after` the buffer
+pub record CompiledTo (t before after : List ℕ) (r : ℤ) : Type 0 where
+  pub is : r ≡ compiledTo t
+  pub buffer : after ≡ nodesAfter r (compiled t) before
+
+-- DD is one node of six bytes, and an empty template has none; 0xff is no UTF-8
+pub worked
+    : (compiled (utf8 "DD") ≡ 0 ∷ 0 ∷ 2 ∷ action ∷ 9 ∷ 0 ∷ [])
+    × (compiledTo (utf8 "DD") ≡ pos 6)
+    × (compiledTo [] ≡ pos 0)
+    × (compiledTo (0xff ∷ []) ≡ negsuc 1)
+unfolding compiledTo encoded nodesOf nodesFrom stepAt plainAt charPlace literalAt patternAt bitAt charLength lead kindOf classOf wellFormedAfter sequence
+worked = (refl, refl, refl, refl)
