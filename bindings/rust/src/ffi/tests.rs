@@ -1,0 +1,94 @@
+//! Any bytes are safe as nodes, whatever text they are lent with.
+
+use super::*;
+use crate::{Parts, TEMPLATE_LIMIT};
+
+#[allow(dead_code)]
+#[path = "../../../../compare/src/random.rs"]
+mod random;
+
+use random::{all_bytes, Random};
+
+/// Bytes that are often small, as those of a template's nodes are.
+fn nodes(random: &mut Random, most: usize) -> Vec<u8> {
+    if random.once_in(2) {
+        return random.bytes(&all_bytes(), most);
+    }
+    random.bytes(&[0, 0, 1, 1, 1, 2, 3, 4, 5, 16, 40, 54, 99, 111], most)
+}
+
+fn in_range(parts: &Parts) -> bool {
+    (1..=12).contains(&parts.month)
+        && (1..=31).contains(&parts.day)
+        && (0..24).contains(&parts.hour)
+        && (0..60).contains(&parts.minute)
+        && (0..60).contains(&parts.second)
+        && (0..1_000_000).contains(&parts.micros)
+        && parts.offset.is_none_or(|seconds| seconds.abs() <= 57_540)
+}
+
+#[test]
+fn any_nodes_are_read() {
+    let mut random = Random::new(1970);
+    let (mut accepted, mut refused) = (0, 0);
+    for _ in 0..20_000 {
+        let nodes = nodes(&mut random, 60);
+        let text = random.bytes(b"YMD-\"\xc3\xa0", 40);
+        let input = random.bytes(b"0123456789 -+:.AM", 40);
+        match PARTS.by_nodes(&nodes, &text, &input).map(Parts::from) {
+            Ok(parts) => {
+                assert!(in_range(&parts), "{parts:?}");
+                accepted += 1;
+            }
+            Err(refusal) => {
+                assert!(refusal.number() <= 16, "{refusal:?}");
+                refused += 1;
+            }
+        }
+        let instant = INSTANT.by_nodes(&nodes, &text, &input).err();
+        assert!(instant.is_none_or(|refusal| refusal.number() <= 17));
+        let day = DATE.by_nodes(&nodes, &text, &input).err();
+        assert!(day.is_none_or(|refusal| refusal.number() <= 16 || refusal.number() == 18));
+    }
+    assert!(accepted > 1000 && refused > 1000, "{accepted} accepted, {refused} refused");
+}
+
+#[test]
+fn any_nodes_are_written() {
+    let mut random = Random::new(1970);
+    let (mut accepted, mut refused) = (0, 0);
+    for _ in 0..20_000 {
+        let nodes = nodes(&mut random, 30);
+        let text = random.bytes(&all_bytes(), TEMPLATE_LIMIT);
+        let before = random.bytes(&all_bytes(), 600);
+        let mut buffer = before.clone();
+        match write_by(&nodes, &text, &Moment::midnight(2024, 2, 29), &mut buffer) {
+            Ok(length) => {
+                assert_eq!(buffer[length as usize..], before[length as usize..]);
+                accepted += 1;
+            }
+            Err(refusal) => {
+                assert_eq!(buffer, before, "{refusal:?}");
+                refused += 1;
+            }
+        }
+    }
+    assert!(accepted > 1000 && refused > 1000, "{accepted} accepted, {refused} refused");
+}
+
+#[test]
+fn more_nodes_than_a_template_has() {
+    let moment = Moment::midnight(2024, 2, 29);
+    assert_eq!(write_by(&[0; NODES], b"", &moment, &mut []), Ok(0));
+    assert_eq!(write_by(&[0; NODES + 1], b"", &moment, &mut []), Err(Refusal::alone(Cause::TooLong)));
+    assert!(PARTS.by_nodes(&[0; NODES + 1], b"", b"").is_ok());
+}
+
+/// The table ends where a report has no pattern; no place behind it has a name.
+#[test]
+fn names_of_patterns() {
+    let names: Vec<String> = (0..PATTERNS).map(pattern).collect();
+    assert!(names.iter().all(|name| (1..=NAME).contains(&name.len())));
+    assert_eq!(names.iter().collect::<std::collections::HashSet<_>>().len(), usize::from(PATTERNS));
+    assert!((PATTERNS..=u8::MAX).all(|place| pattern(place).is_empty()));
+}

@@ -1,0 +1,71 @@
+use crate::ffi::Words;
+use crate::Moment;
+
+/// What is read: the parts of a moment.
+///
+/// A part that the template does not name, or names and finds to be 0, has the value that it would have at the start of year 0: month and day 1, all
+/// others 0. The ranges are proved: month 1 to 12, day 1 to 31, hour 0 to 23, minute and second 0 to 59, microseconds 0 to 999,999; and where
+/// year, month and day are all read, the month has that day.
+///
+/// ```
+/// use sorbilgan::{read, Parts};
+///
+/// let parts: Parts = read("YYYY-MM-DD HH24:MI:SS.FF3 TZH:TZM", "2024-02-29 21:05:00.5 +05:30")?;
+/// assert_eq!((parts.year, parts.month, parts.day), (2024, 2, 29));
+/// assert_eq!((parts.hour, parts.minute, parts.second, parts.micros), (21, 5, 0, 500_000));
+/// assert_eq!(parts.precision, 3);
+/// assert_eq!(parts.offset, Some(19_800));
+/// # Ok::<(), sorbilgan::Refusal>(())
+/// ```
+#[derive(Debug, Clone, Copy, PartialEq, Eq, Hash)]
+pub struct Parts {
+    /// The year; negative before year 0, which is 1 BC.
+    pub year: i32,
+    /// The month, from 1.
+    pub month: i32,
+    /// The day of the month, from 1.
+    pub day: i32,
+    /// The hour.
+    pub hour: i32,
+    /// The minute.
+    pub minute: i32,
+    /// The second.
+    pub second: i32,
+    /// The microsecond.
+    pub micros: i32,
+    /// The digits that `FF1` to `FF6` ask for; 0 without them. An instant is rounded to them, the microsecond here is not.
+    pub precision: i32,
+    /// The offset in seconds east, where there is one.
+    pub offset: Option<i32>,
+}
+
+impl From<Words> for Parts {
+    fn from(words: Words) -> Parts {
+        Parts {
+            year: words.year as i32,
+            month: words.month as i32,
+            day: words.day as i32,
+            hour: words.hour as i32,
+            minute: words.minute as i32,
+            second: words.second as i32,
+            micros: words.micros as i32,
+            precision: words.precision as i32,
+            offset: (words.zoned != 0).then_some(words.offset as i32),
+        }
+    }
+}
+
+/// The parts as which a moment is read back: without offset and precision.
+///
+/// ```
+/// use sorbilgan::{Moment, Parts};
+///
+/// let parts = Parts::from(Moment::midnight(2024, 2, 29));
+/// assert_eq!((parts.year, parts.precision, parts.offset), (2024, 0, None));
+/// ```
+impl From<Moment> for Parts {
+    fn from(moment: Moment) -> Parts {
+        let Moment { year, month, day, hour, minute, second, micros } = moment;
+        Parts { year, month, day, hour, minute, second, micros, precision: 0, offset: None }
+    }
+}

@@ -1,0 +1,196 @@
+use crate::{ffi, once, Cause, Moment, Parts, Refusal};
+use std::fmt;
+use std::str::{self, FromStr};
+
+/// A template, compiled: it reads and writes any number of texts.
+///
+/// It has its text and nodes on the heap, each as long as it is; reading and writing allocate nothing and copy neither. Threads may share it.
+///
+/// ```
+/// use sorbilgan::Template;
+///
+/// let template = Template::compile("DD Month YYYY")?;
+/// let marked: Vec<bool> = ["29 February 2024", "29 Feb 2024", "30 February 2024"]
+///     .iter()
+///     .map(|line| template.read(line).is_ok())
+///     .collect();
+/// assert_eq!(marked, [true, false, false]);
+/// # Ok::<(), sorbilgan::Refusal>(())
+/// ```
+#[derive(Clone, PartialEq, Eq, Hash)]
+pub struct Template {
+    text: Box<str>,
+    nodes: Box<[u8]>,
+}
+
+impl Template {
+    /// Compiles a template. Any text of at most [`TEMPLATE_LIMIT`](crate::TEMPLATE_LIMIT) bytes is one: what is no pattern is a literal.
+    ///
+    /// # Errors
+    ///
+    /// [`Cause::TooLong`] and [`Cause::NotUtf8`].
+    ///
+    /// ```
+    /// use sorbilgan::{Cause, Template};
+    ///
+    /// assert!(Template::compile("YYYY-MM-DD").is_ok());
+    /// assert_eq!(Template::compile(b"YYYY\xff").unwrap_err().cause(), Cause::NotUtf8);
+    /// ```
+    pub fn compile(template: impl AsRef<[u8]>) -> Result<Template, Refusal> {
+        let template = template.as_ref();
+        let nodes = ffi::compile(template)?;
+        let text = str::from_utf8(template).map_err(|_| Refusal::alone(Cause::NotUtf8))?;
+        Ok(Template { text: text.into(), nodes })
+    }
+
+    /// The text that it was compiled from.
+    ///
+    /// ```
+    /// use sorbilgan::Template;
+    ///
+    /// assert_eq!(Template::compile("YYYY-MM-DD")?.as_str(), "YYYY-MM-DD");
+    /// # Ok::<(), sorbilgan::Refusal>(())
+    /// ```
+    pub fn as_str(&self) -> &str {
+        &self.text
+    }
+
+    /// Reads the parts of an input.
+    ///
+    /// # Errors
+    ///
+    /// The causes 1 to 16.
+    ///
+    /// ```
+    /// use sorbilgan::{Cause, Template};
+    ///
+    /// let template = Template::compile("HH24:MI")?;
+    /// assert_eq!(template.read("21:05")?.hour, 21);
+    /// assert_eq!(template.read("25:05").unwrap_err().cause(), Cause::FieldOverflow);
+    /// assert_eq!(template.read(b"21\xff05").unwrap_err().cause(), Cause::NotUtf8);
+    /// # Ok::<(), sorbilgan::Refusal>(())
+    /// ```
+    pub fn read(&self, input: impl AsRef<[u8]>) -> Result<Parts, Refusal> {
+        self.answer(&ffi::PARTS, input.as_ref()).map(Parts::from)
+    }
+
+    /// Reads the instant of an input: microseconds since 1970-01-01 UTC. An input without an offset is read as UTC.
+    ///
+    /// # Errors
+    ///
+    /// The causes 1 to 17.
+    ///
+    /// ```
+    /// use sorbilgan::Template;
+    /// use std::time::{Duration, UNIX_EPOCH};
+    ///
+    /// let template = Template::compile("YYYY-MM-DD HH24:MI TZH")?;
+    /// let micros = template.instant("2024-02-29 21:05 +07")?;
+    /// assert_eq!(micros, 1_709_215_500_000_000);
+    ///
+    /// let time = UNIX_EPOCH + Duration::from_micros(micros.unsigned_abs());
+    /// # assert_eq!(time.duration_since(UNIX_EPOCH).unwrap().as_secs(), 1_709_215_500);
+    /// # Ok::<(), sorbilgan::Refusal>(())
+    /// ```
+    pub fn instant(&self, input: impl AsRef<[u8]>) -> Result<i64, Refusal> {
+        self.answer(&ffi::INSTANT, input.as_ref())
+    }
+
+    /// Reads the date of an input: days since 1970-01-01.
+    ///
+    /// # Errors
+    ///
+    /// The causes 1 to 16, and 18.
+    ///
+    /// ```
+    /// use sorbilgan::Template;
+    ///
+    /// let template = Template::compile("IYYY-IW-ID")?;
+    /// assert_eq!(template.date("2024-09-4")?, 19_782);
+    /// # Ok::<(), sorbilgan::Refusal>(())
+    /// ```
+    pub fn date(&self, input: impl AsRef<[u8]>) -> Result<i32, Refusal> {
+        self.answer(&ffi::DATE, input.as_ref()).map(|days| days as i32)
+    }
+
+    fn answer<Answer: Default>(&self, reader: &ffi::Reader<Answer>, input: &[u8]) -> Result<Answer, Refusal> {
+        reader.by_nodes(&self.nodes, self.text.as_bytes(), input)
+    }
+
+    /// Writes a moment to the front of a buffer and answers the length of the text. The bytes behind it stay as they were.
+    ///
+    /// # Errors
+    ///
+    /// The causes 19 to 21, in this order; the buffer then stays as it was as a whole.
+    ///
+    /// ```
+    /// use sorbilgan::{Moment, Template};
+    ///
+    /// let template = Template::compile("YYYY-MM-DD")?;
+    /// let mut buffer = [b'.'; 12];
+    /// let length = template.write(&Moment::midnight(2024, 2, 29), &mut buffer)?;
+    /// assert_eq!((length, &buffer), (10, b"2024-02-29.."));
+    ///
+    /// let refusal = template.write(&Moment::midnight(2024, 2, 29), &mut [0; 9]).unwrap_err();
+    /// assert_eq!(refusal.to_string(), "the text needs 10 bytes");
+    /// # Ok::<(), sorbilgan::Refusal>(())
+    /// ```
+    pub fn write(&self, moment: &Moment, text: &mut [u8]) -> Result<usize, Refusal> {
+        ffi::write_by(&self.nodes, self.text.as_bytes(), moment, text).map(|length| length as usize)
+    }
+
+    /// The text of a moment. One over [`INPUT_LIMIT`](crate::INPUT_LIMIT) bytes, which could not be read back, is refused; [`Template::write`] has no such limit.
+    ///
+    /// # Errors
+    ///
+    /// The causes 19 to 21, in this order.
+    ///
+    /// ```
+    /// use sorbilgan::{Moment, Template};
+    ///
+    /// let moment = Moment::midnight(2024, 2, 29);
+    /// assert_eq!(Template::compile("DD/MM/YYYY")?.format(&moment)?, "29/02/2024");
+    ///
+    /// let refusal = Template::compile("DD Month YYYY")?.format(&moment).unwrap_err();
+    /// assert_eq!(refusal.pattern(), Some("Month"));
+    /// # Ok::<(), sorbilgan::Refusal>(())
+    /// ```
+    pub fn format(&self, moment: &Moment) -> Result<String, Refusal> {
+        once::text_of(|text| self.write(moment, text))
+    }
+}
+
+/// As [`Template::compile`].
+///
+/// ```
+/// use sorbilgan::Template;
+///
+/// let template: Template = "YYYY-MM-DD".parse()?;
+/// assert_eq!(template.as_str(), "YYYY-MM-DD");
+/// # Ok::<(), sorbilgan::Refusal>(())
+/// ```
+impl FromStr for Template {
+    type Err = Refusal;
+
+    fn from_str(template: &str) -> Result<Template, Refusal> {
+        Template::compile(template)
+    }
+}
+
+/// The text that it was compiled from.
+///
+/// ```
+/// assert_eq!(sorbilgan::Template::compile("HH24:MI")?.to_string(), "HH24:MI");
+/// # Ok::<(), sorbilgan::Refusal>(())
+/// ```
+impl fmt::Display for Template {
+    fn fmt(&self, f: &mut fmt::Formatter<'_>) -> fmt::Result {
+        self.text.fmt(f)
+    }
+}
+
+impl fmt::Debug for Template {
+    fn fmt(&self, f: &mut fmt::Formatter<'_>) -> fmt::Result {
+        f.debug_tuple("Template").field(&self.text).finish()
+    }
+}

@@ -1,0 +1,80 @@
+//! What the line program answers to a line, asked of the crate.
+
+use sorbilgan::{date, format, instant, read, Moment, Parts, Refusal, Template};
+use std::fmt::Display;
+use std::path::Path;
+use std::{fs, str};
+
+/// The bytes of a file of the repository.
+pub fn file(path: &str) -> Vec<u8> {
+    let path = Path::new(env!("CARGO_MANIFEST_DIR")).join("../..").join(path);
+    fs::read(&path).unwrap_or_else(|why| panic!("{}: {why}", path.display()))
+}
+
+/// The template and what stands behind the first TAB. A line that is longer than both may be is left whole, and is then too long as a template.
+pub fn cut(line: &[u8]) -> (&[u8], &[u8]) {
+    match line.iter().position(|byte| *byte == b'\t') {
+        Some(at) if line.len() <= 769 => (&line[..at], &line[at + 1..]),
+        _ => (line, b""),
+    }
+}
+
+/// The answer, by a template that is used once; by one that is compiled first it must be the same.
+pub fn answer(mode: &str, line: &[u8]) -> String {
+    let (template, rest) = cut(line);
+    let once = match mode {
+        "parts" => shown(read(template, rest).map(words)),
+        "instants" => shown(instant(template, rest)),
+        "days" => shown(date(template, rest)),
+        "write" => shown(format(template, &moment(rest))),
+        _ => panic!("no such mode: {mode}"),
+    };
+    match Template::compile(template) {
+        Ok(template) => assert_eq!(compiled(&template, mode, rest), once, "{mode} {template}"),
+        Err(refusal) => assert!(refusal.number() <= 2 && once.ends_with(" - 0 0"), "{refusal}, and once: {once}"),
+    }
+    once
+}
+
+fn compiled(template: &Template, mode: &str, rest: &[u8]) -> String {
+    match mode {
+        "parts" => shown(template.read(rest).map(words)),
+        "instants" => shown(template.instant(rest)),
+        "days" => shown(template.date(rest)),
+        _ => shown(template.format(&moment(rest))),
+    }
+}
+
+/// The answer as the line program prints it.
+fn shown(answer: Result<impl Display, Refusal>) -> String {
+    match answer {
+        Ok(value) => format!("0 {value}"),
+        Err(refusal) => {
+            let [first, second] = refusal.figures();
+            format!("{} {} {first} {second}", refusal.number(), refusal.pattern().unwrap_or("-"))
+        }
+    }
+}
+
+fn words(p: Parts) -> String {
+    let offset = p.offset.map_or("none".to_string(), |seconds| seconds.to_string());
+    let numbers = [p.year, p.month, p.day, p.hour, p.minute, p.second, p.micros, p.precision];
+    format!("{} {offset}", numbers.map(|number| number.to_string()).join(" "))
+}
+
+/// Seven numbers with a space between two; anything else is no moment.
+pub fn moment(words: &[u8]) -> Moment {
+    let numbers: Option<Vec<i32>> = words.split(|byte| *byte == b' ').map(number).collect();
+    match numbers.as_deref() {
+        Some(&[year, month, day, hour, minute, second, micros]) => {
+            Moment { year, month, day, hour, minute, second, micros }
+        }
+        _ => Moment::midnight(0, 0, 0),
+    }
+}
+
+/// Behind the spaces of C, of which only a vertical tab is none of Rust's.
+fn number(word: &[u8]) -> Option<i32> {
+    let spaces = word.iter().take_while(|byte| byte.is_ascii_whitespace() || **byte == 0x0b).count();
+    str::from_utf8(&word[spaces..]).ok()?.parse().ok()
+}

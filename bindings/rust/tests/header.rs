@@ -1,0 +1,79 @@
+//! include/sorbilgan.h says what this crate says: the numbers of the refusals, and the functions that `src/ffi.rs` declares, which other tests call.
+
+use sorbilgan::Cause;
+use std::collections::BTreeMap;
+
+const HEADER: &str = include_str!("../../../include/sorbilgan.h");
+const DECLARATIONS: &str = include_str!("../src/ffi.rs");
+
+/// `NotUtf8` is `SORBILGAN_NOT_UTF8`, under the same number.
+#[test]
+fn the_same_causes() {
+    let named = |line: &str| {
+        let (name, number) = line.trim_start().strip_prefix("SORBILGAN_")?.split_once(" = ")?;
+        let number: String = number.chars().take_while(char::is_ascii_digit).collect();
+        Some((name.replace('_', ""), number))
+    };
+    let found: Vec<_> = HEADER.lines().filter_map(named).collect();
+    let wanted = Cause::ALL.map(|cause| (format!("{cause:?}").to_uppercase(), cause.number().to_string()));
+    assert_eq!(found, wanted);
+}
+
+/// A type of Rust and its name in C; in an argument it stands around the argument's name.
+const TYPES: [(&str, &str); 11] = [
+    ("*const u8", "const char *"),
+    ("*const u8", "const uint8_t *"),
+    ("*mut u8", "char *"),
+    ("usize", "size_t"),
+    ("u8", "uint8_t"),
+    ("i32", "int32_t"),
+    ("i64", "int64_t"),
+    ("&mut Record<Words>", "struct sorbilgan_parts_answer *"),
+    ("&mut Record<i64>", "struct sorbilgan_value_answer *"),
+    ("&mut [u8; NODES]", "uint8_t [SORBILGAN_NODES]"),
+    ("&mut [u8; NAME]", "char [SORBILGAN_NAME]"),
+];
+
+fn in_rust(c: &str) -> &'static str {
+    TYPES.iter().find(|(_, name)| *name == c).unwrap_or_else(|| panic!("no type of Rust: {c}")).0
+}
+
+/// The C type of an argument: its declaration without its name.
+fn c_type(argument: &str) -> String {
+    let (declared, room) = argument.split_at(argument.find('[').unwrap_or(argument.len()));
+    declared.trim_end_matches(|c: char| c.is_alphanumeric() || c == '_').trim_end_matches(' ').to_string()
+        + if room.is_empty() { "" } else { " " }
+        + room
+}
+
+/// Each function's arguments, and behind them its answer.
+type Functions = BTreeMap<String, Vec<String>>;
+
+fn of_header() -> Functions {
+    let declared = HEADER.split("\n\n").filter_map(|part| {
+        let part = part.rsplit("*/").next()?.trim();
+        let (head, arguments) = part.strip_suffix(");")?.split_once('(')?;
+        let (answer, name) = head.split_once(' ')?;
+        let arguments = arguments.split(',').map(|argument| in_rust(&c_type(argument.trim())));
+        Some((name.to_string(), arguments.chain([in_rust(answer)]).map(str::to_string).collect()))
+    });
+    declared.collect()
+}
+
+fn of_crate() -> Functions {
+    let declared = DECLARATIONS.split("fn sorbilgan_").skip(1).map(|part| {
+        let (name, rest) = part.split_once('(').unwrap();
+        let (arguments, rest) = rest.split_once(')').unwrap();
+        let answer = rest.trim_start_matches(" -> ").split(';').next().unwrap();
+        let arguments = arguments.split(',').filter_map(|argument| Some(argument.split_once(": ")?.1));
+        (format!("sorbilgan_{name}"), arguments.chain([answer]).map(str::to_string).collect())
+    });
+    declared.collect()
+}
+
+#[test]
+fn the_same_functions() {
+    let (header, rust) = (of_header(), of_crate());
+    assert_eq!(header, rust);
+    assert_eq!(header.len(), 10);
+}

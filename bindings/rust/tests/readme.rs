@@ -1,0 +1,35 @@
+//! The lines that README.md shows with their answers, and its table of refusals.
+
+mod common;
+
+use sorbilgan::Cause;
+
+fn readme() -> String {
+    String::from_utf8(common::file("README.md")).unwrap()
+}
+
+/// `$ printf 'LINES' | ./run MODE`, and the answers below it.
+#[test]
+fn lines() {
+    let readme = readme();
+    let mut shown = readme.lines();
+    let mut count = 0;
+    while let Some(line) = shown.next() {
+        let Some(command) = line.trim_start().strip_prefix("$ printf '") else { continue };
+        let Some((printed, mode)) = command.split_once("' | ./run") else { continue };
+        let mode = if mode.is_empty() { "parts" } else { mode.trim() };
+        for asked in printed.replace("\\t", "\t").trim_end_matches("\\n").split("\\n") {
+            let wanted = shown.next().unwrap().trim_start();
+            assert_eq!(common::answer(mode, asked.as_bytes()), wanted, "{mode}: {asked}");
+            count += 1;
+        }
+    }
+    assert_eq!(count, 14);
+}
+
+#[test]
+fn every_refusal_has_its_row() {
+    let readme = readme();
+    let numbers = readme.lines().filter_map(|line| line.strip_prefix("| ")?.split_once(" |")?.0.parse::<u8>().ok());
+    assert!(numbers.eq(Cause::ALL.map(Cause::number)));
+}

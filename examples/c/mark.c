@@ -1,0 +1,50 @@
+/* Marks lines by a template that is compiled once, then writes a moment by it. examples/c/run builds and runs this. */
+#include <inttypes.h>
+#include <stdio.h>
+#include <string.h>
+
+#include "sorbilgan.h"
+
+static const char template_text[] = "\"ngày \"DD\" tháng \"MM\" năm \"YYYY";
+static const size_t template_length = sizeof template_text - 1;
+
+static void mark(const uint8_t *nodes, size_t nodes_length, const char *line) {
+    struct sorbilgan_parts_answer answer;
+    char name[SORBILGAN_NAME + 1] = "";
+
+    sorbilgan_parts_by(nodes, nodes_length, template_text, template_length, line, strlen(line), &answer);
+    if (answer.number == 0) {
+        printf("%s: %04" PRId64 "-%02" PRId64 "-%02" PRId64 "\n", line, answer.year, answer.month, answer.day);
+    } else if (sorbilgan_pattern((uint8_t)answer.pattern, name) > 0) {
+        printf("%s: refusal %" PRId64 " at %s\n", line, answer.number, name);
+    } else {
+        printf("%s: refusal %" PRId64 "\n", line, answer.number);
+    }
+}
+
+static void print_leap_day(const uint8_t *nodes, size_t nodes_length) {
+    struct sorbilgan_value_answer answer;
+    char text[SORBILGAN_INPUT_LIMIT];
+
+    sorbilgan_write_by(nodes, nodes_length, template_text, template_length, 2024, 2, 29, 0, 0, 0, 0, text, sizeof text, &answer);
+    if (answer.number == 0) {
+        printf("%.*s\n", (int)answer.value, text);
+    } else {
+        printf("refusal %" PRId64 "\n", answer.number);
+    }
+}
+
+int main(void) {
+    uint8_t nodes[SORBILGAN_NODES];
+    const int64_t nodes_length = sorbilgan_compile(template_text, template_length, nodes);
+
+    if (nodes_length < 0) {
+        printf("the template is refused by %" PRId64 "\n", -nodes_length);
+        return 1;
+    }
+    mark(nodes, (size_t)nodes_length, "ngày 29 tháng 02 năm 2024");
+    mark(nodes, (size_t)nodes_length, "ngày 29 tháng 02 năm 2023");
+    mark(nodes, (size_t)nodes_length, "ngày hai mươi");
+    print_leap_day(nodes, (size_t)nodes_length);
+    return 0;
+}

@@ -1,0 +1,138 @@
+/*
+ * The functions of libsorbilgan.a: text read by a template of PostgreSQL's to_timestamp patterns, and moments written by one.
+ *
+ * A text is lent for the call alone, as a pointer and a length in bytes; it needs no final 0. Any bytes and any numbers are safe. No pointer
+ * may be NULL (an empty text is "" and 0), and what a function fills may not overlap what it is lent. Nothing is allocated or kept between
+ * calls, so every function may be called from several threads at once.
+ */
+#ifndef SORBILGAN_H
+#define SORBILGAN_H
+
+#include <assert.h>
+#include <stddef.h>
+#include <stdint.h>
+
+#ifdef __cplusplus
+extern "C" {
+#endif
+
+/* The limits of a template and of an input, in bytes. */
+#define SORBILGAN_TEMPLATE_LIMIT 256
+#define SORBILGAN_INPUT_LIMIT 512
+
+/* The room for a compiled template, in bytes. */
+#define SORBILGAN_NODES 1536
+
+/* An answer's pattern where it names none; one that is named is below it. */
+#define SORBILGAN_NO_PATTERN 112
+
+/* The room for a pattern's name, in bytes. */
+#define SORBILGAN_NAME 5
+
+/* The numbers of the refusals. Behind each, what the answer holds of it: its pattern, and its first and second figure. */
+enum sorbilgan_refusal {
+    SORBILGAN_TOO_LONG = 1,           /* template over 256 bytes or input over 512 */
+    SORBILGAN_NOT_UTF8 = 2,           /* either is not UTF-8 */
+    SORBILGAN_MIXED_DATES = 3,        /* Gregorian and ISO patterns mixed: pattern */
+    SORBILGAN_CONFLICT = 4,           /* field set before to another value: pattern */
+    SORBILGAN_SHORT = 5,              /* fixed width, input shorter: pattern, width, bytes remaining */
+    SORBILGAN_NARROW = 6,             /* fixed width, fewer bytes parsed: pattern, width, bytes parsed */
+    SORBILGAN_NOT_INTEGER = 7,        /* no integer: pattern */
+    SORBILGAN_OUT_OF_RANGE = 8,       /* outside signed 32 bits: pattern */
+    SORBILGAN_NO_WORD = 9,            /* none of the listed words: pattern */
+    SORBILGAN_NOT_TWO_NUMBERS = 10,   /* Y,YYY without both numbers: pattern */
+    SORBILGAN_YEAR_OUT_OF_RANGE = 11, /* Y,YYY outside 32 bits: pattern */
+    SORBILGAN_ZONE_LETTER = 12,       /* a letter at TZ or tz: pattern */
+    SORBILGAN_HOUR_OF_TWELVE = 13,    /* 12-hour clock, hour outside 1 to 12: the hour */
+    SORBILGAN_NO_YEAR = 14,           /* day of the year, and no year */
+    SORBILGAN_FIELD_OVERFLOW = 15,    /* field value overflow */
+    SORBILGAN_OFFSET_RANGE = 16,      /* offset hours outside 0 to 15 or minutes outside 0 to 59 */
+    SORBILGAN_INSTANT_RANGE = 17,     /* instants: outside 64 bits, or at one of their ends */
+    SORBILGAN_DATE_RANGE = 18,        /* dates: outside 32 bits, or at one of their ends */
+    SORBILGAN_NOT_WRITTEN = 19,       /* write: a pattern that is not written, or one with a prefix or suffix: pattern */
+    SORBILGAN_NO_MOMENT = 20,         /* write: no moment of the years 1 to 9999 */
+    SORBILGAN_NO_ROOM = 21            /* write: a text longer than its buffer: the length needed */
+};
+
+/* The parts of a moment. A refusal leaves all behind the second figure 0; an accepted text is number 0, without pattern and figures. */
+struct sorbilgan_parts_answer {
+    int64_t number;
+    int64_t pattern;
+    int64_t first_figure;
+    int64_t second_figure;
+    int64_t year;
+    int64_t month;
+    int64_t day;
+    int64_t hour;
+    int64_t minute;
+    int64_t second;
+    int64_t micros;
+    int64_t precision; /* of FF1 to FF6: 1 to 6, else 0 */
+    int64_t zoned;     /* 1 where the text has an offset, else 0 */
+    int64_t offset;    /* in seconds east */
+};
+
+/* A single value: what it counts is said at the functions. A refusal leaves it 0. */
+struct sorbilgan_value_answer {
+    int64_t number;
+    int64_t pattern;
+    int64_t first_figure;
+    int64_t second_figure;
+    int64_t value;
+};
+
+#if (defined(__cplusplus) && __cplusplus >= 201103L) || (defined(__STDC_VERSION__) && __STDC_VERSION__ >= 201112L)
+static_assert(sizeof(struct sorbilgan_parts_answer) == 14 * sizeof(int64_t), "the answer is 14 words");
+static_assert(sizeof(struct sorbilgan_value_answer) == 5 * sizeof(int64_t), "the answer is 5 words");
+#endif
+
+/* Reading and writing fill the whole answer and return its number: 0, or the refusal's. */
+
+/* The parts of the input. */
+uint8_t sorbilgan_parts(const char *template_text, size_t template_length, const char *input, size_t input_length,
+                        struct sorbilgan_parts_answer *answer);
+
+/* The instant of the input: microseconds since 1970-01-01 UTC. An input without an offset is read as UTC. */
+uint8_t sorbilgan_instant(const char *template_text, size_t template_length, const char *input, size_t input_length,
+                          struct sorbilgan_value_answer *answer);
+
+/* The date of the input: days since 1970-01-01. */
+uint8_t sorbilgan_date(const char *template_text, size_t template_length, const char *input, size_t input_length,
+                       struct sorbilgan_value_answer *answer);
+
+/*
+ * Writes a moment into a buffer of `room` bytes; the value is the length of the text, which has no final 0. The bytes behind the text stay
+ * as they were, and on refusal all of them do.
+ */
+uint8_t sorbilgan_write(const char *template_text, size_t template_length, int32_t year, int32_t month, int32_t day,
+                        int32_t hour, int32_t minute, int32_t second, int32_t micros, char *text, size_t room,
+                        struct sorbilgan_value_answer *answer);
+
+/*
+ * Compiles a template that is used many times. The answer is how many bytes of `nodes` it takes; or -1 where the template is over 256 bytes
+ * and -2 where it is not UTF-8, which are refusals 1 and 2 and leave the nodes as they were.
+ */
+int64_t sorbilgan_compile(const char *template_text, size_t template_length, uint8_t nodes[SORBILGAN_NODES]);
+
+/* The same answers by a compiled template. It is lent together with the text that it was compiled from. */
+uint8_t sorbilgan_parts_by(const uint8_t *nodes, size_t nodes_length, const char *template_text, size_t template_length,
+                           const char *input, size_t input_length, struct sorbilgan_parts_answer *answer);
+
+uint8_t sorbilgan_instant_by(const uint8_t *nodes, size_t nodes_length, const char *template_text, size_t template_length,
+                             const char *input, size_t input_length, struct sorbilgan_value_answer *answer);
+
+uint8_t sorbilgan_date_by(const uint8_t *nodes, size_t nodes_length, const char *template_text, size_t template_length,
+                          const char *input, size_t input_length, struct sorbilgan_value_answer *answer);
+
+uint8_t sorbilgan_write_by(const uint8_t *nodes, size_t nodes_length, const char *template_text, size_t template_length,
+                           int32_t year, int32_t month, int32_t day, int32_t hour, int32_t minute, int32_t second,
+                           int32_t micros, char *text, size_t room, struct sorbilgan_value_answer *answer);
+
+/* The name of an answer's pattern, filled up with 0, and its length from 1 to 5; no name and 0 for any number that is no pattern's. */
+size_t sorbilgan_pattern(uint8_t pattern, char name[SORBILGAN_NAME]);
+
+#ifdef __cplusplus
+}
+#endif
+
+#endif
