@@ -1,22 +1,7 @@
-//! The ported module, answering the questions that the port answers.
+//! The oracle: questions, lines, and the ported module's answers to them.
 
-#[cfg(test)]
-mod cases;
-mod hex;
-mod known;
-mod moments;
-mod pairs;
-mod questions;
-mod random;
-mod readings;
-mod standins;
-
-use formatting::answers;
-use random::Random;
-use standins::*;
+use oracle::{answers, lines, questions};
 use std::io::{self, BufRead, Write};
-
-include!(concat!(env!("OUT_DIR"), "/modules.rs"));
 
 const USAGE: &str = "usage: oracle questions SEED | answers | lines parts|instants|days|moments SEED COUNT
     | pairs SEED COUNT | readings SEED COUNT | moments SEED COUNT | parts | instants | days | written | back | fields";
@@ -38,69 +23,27 @@ fn main() -> io::Result<()> {
             }
         }
         ["lines", list, seed, count] => {
-            let (known, random) = lists(list);
-            joined(&mut out, known.into_iter().chain(lines(random, number(seed), number(count))))?;
+            let (known, generator) = lines::list(list).expect(USAGE);
+            let random = lines::random(generator, number(seed), number(count));
+            lines::joined(&mut out, known.into_iter().chain(random))?;
         }
         [random @ ("pairs" | "readings" | "moments"), seed, count] => {
-            for line in lines(generator(random), number(seed), number(count)) {
+            let generator = lines::generator(random).expect(USAGE);
+            for line in lines::random(generator, number(seed), number(count)) {
                 out.write_all(&line)?;
                 writeln!(out)?;
             }
         }
-        ["parts"] => each_line(&mut out, |line| answers::line(line, answers::parts))?,
-        ["instants"] => each_line(&mut out, |line| answers::line(line, answers::instant))?,
-        ["days"] => each_line(&mut out, |line| answers::line(line, answers::date))?,
-        ["written"] => each_line(&mut out, |line| answers::line(line, answers::written))?,
-        ["back"] => each_line(&mut out, answers::back)?,
-        ["fields"] => each_line(&mut out, answers::fields)?,
+        ["parts"] => lines::each(&mut out, |line| answers::line(line, answers::parts))?,
+        ["instants"] => lines::each(&mut out, |line| answers::line(line, answers::instant))?,
+        ["days"] => lines::each(&mut out, |line| answers::line(line, answers::date))?,
+        ["written"] => lines::each(&mut out, |line| answers::line(line, answers::written))?,
+        ["back"] => lines::each(&mut out, answers::back)?,
+        ["fields"] => lines::each(&mut out, answers::fields)?,
         _ => {
             eprintln!("{USAGE}");
             std::process::exit(2);
         }
     }
     out.flush()
-}
-
-type Generator = fn(&mut Random) -> Vec<u8>;
-
-fn generator(name: &str) -> Generator {
-    match name {
-        "pairs" => pairs::line,
-        "readings" => readings::line,
-        "moments" => moments::line,
-        _ => panic!("{USAGE}"),
-    }
-}
-
-/// The known lines of a stored list, and what makes the random ones behind them.
-fn lists(name: &str) -> (Vec<Vec<u8>>, Generator) {
-    let first = |known: Vec<(Vec<u8>, &str)>| known.into_iter().map(|(line, _)| line).collect();
-    match name {
-        "parts" => (first(known::lines()), pairs::line),
-        "instants" | "days" => (known::readings::lines().into_iter().map(|(line, ..)| line).collect(), readings::line),
-        "moments" => (first(known::moments::lines()), moments::line),
-        _ => panic!("{USAGE}"),
-    }
-}
-
-fn lines(generator: Generator, seed: u64, count: u64) -> impl Iterator<Item = Vec<u8>> {
-    let mut random = Random::new(seed);
-    (0..count).map(move |_| generator(&mut random))
-}
-
-/// An answer for each line of standard input, also for a last one without a newline.
-fn each_line(out: &mut impl Write, answer: impl Fn(&[u8]) -> String) -> io::Result<()> {
-    for line in io::stdin().lock().split(b'\n') {
-        writeln!(out, "{}", answer(&line?))?;
-    }
-    Ok(())
-}
-
-/// Lines with newlines between them, none after the last.
-fn joined(out: &mut impl Write, lines: impl Iterator<Item = Vec<u8>>) -> io::Result<()> {
-    for (number, line) in lines.enumerate() {
-        out.write_all(if number == 0 { b"" } else { b"\n" })?;
-        out.write_all(&line)?;
-    }
-    Ok(())
 }

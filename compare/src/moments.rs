@@ -85,7 +85,7 @@ fn literal(random: &mut Random, sparse: usize) -> &'static str {
     if random.below(4) < sparse { "" } else { random.pick(kind) }
 }
 
-fn moment(random: &mut Random) -> [i32; 7] {
+pub fn moment(random: &mut Random) -> [i32; 7] {
     let [year, month, day] = date(random);
     let edge = random.between(0, 59);
     let [hour, minute, second] = match random.below(8) {

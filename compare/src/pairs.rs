@@ -54,9 +54,6 @@ const EXTREME: [&str; 14] = [
 pub fn line(random: &mut Random) -> Vec<u8> {
     let mut template = template(random);
     let mut input = input(random, &template);
-    if random.once_in(4) {
-        spoil(random, &mut input);
-    }
     if random.once_in(100) {
         stretch(random, &mut template, 256);
         stretch(random, &mut input, 512);
@@ -66,7 +63,7 @@ pub fn line(random: &mut Random) -> Vec<u8> {
     line
 }
 
-fn template(random: &mut Random) -> Vec<u8> {
+pub fn template(random: &mut Random) -> Vec<u8> {
     let usual = random.pick(&USUAL).as_bytes();
     if random.once_in(2) {
         return usual.to_vec();
@@ -87,9 +84,14 @@ fn template(random: &mut Random) -> Vec<u8> {
     pieces.concat()
 }
 
-fn input(random: &mut Random, template: &[u8]) -> Vec<u8> {
+/// An input made to suit a template, now and then spoilt.
+pub fn input(random: &mut Random, template: &[u8]) -> Vec<u8> {
     let nodes = parse_format(template, true, &mut NumDesc).expect("no date template is refused");
-    nodes.iter().flat_map(|node| text(random, node)).collect()
+    let mut input = nodes.iter().flat_map(|node| text(random, node)).collect();
+    if random.once_in(4) {
+        spoil(random, &mut input);
+    }
+    input
 }
 
 fn text(random: &mut Random, node: &FmtNode) -> Vec<u8> {

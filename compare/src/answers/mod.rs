@@ -6,14 +6,16 @@ use std::fmt::Debug;
 use std::str::FromStr;
 
 mod fields;
+pub mod measured;
 mod reading;
+pub mod records;
 mod writing;
 
 pub use fields::fields;
 pub use reading::{cut, date, instant, line, parts};
 #[cfg(test)]
 pub use writing::patterns;
-pub use writing::{back, written};
+pub use writing::{Moment, back, micros, numbers_of, written};
 
 pub fn answer(question: &str) -> String {
     let words: Vec<&str> = question.split(' ').collect();

@@ -21,44 +21,46 @@ pub fn cut(line: &[u8]) -> (&[u8], &[u8]) {
     tab.map_or((line, &[]), |at| (&line[..at], &line[at + 1..]))
 }
 
+/// What was asked for, or why there is none.
+pub type Answer<T> = std::result::Result<T, Refusal>;
+
 /// 0, then year, month, day, hour, minute, second, microseconds, precision, offset or `none`; or a refusal.
 pub fn parts(template: &[u8], input: &[u8]) -> String {
-    read(template, input, to_timestamp_parts, |parts| {
+    shown(read(template, input, to_timestamp_parts), |parts| {
         let TimestampParts { tm, fsec, fprec, tz_east } = parts;
         let date = format!("{} {} {}", tm.year, tm.mon, tm.mday);
         let time = format!("{} {} {} {fsec}", tm.hour, tm.min, tm.sec);
         let offset = tz_east.map_or("none".to_string(), |east| east.to_string());
-        format!("0 {date} {time} {fprec} {offset}")
+        format!("{date} {time} {fprec} {offset}")
     })
 }
 
 /// 0, then microseconds since 1970-01-01, a text without an offset read as UTC; or a refusal.
 pub fn instant(template: &[u8], input: &[u8]) -> String {
-    let by = |input: &str, template: &str| to_timestamp_text(input, template, &ZoneRef::Fixed(0), &mut Meter);
-    read(template, input, by, |micros| format!("0 {micros}"))
+    shown(read(template, input, to_instant), |micros| micros.to_string())
 }
 
 /// 0, then days since 1970-01-01; or a refusal.
 pub fn date(template: &[u8], input: &[u8]) -> String {
-    read(template, input, to_date_text, |days| format!("0 {days}"))
+    shown(read(template, input, to_date_text), |days| days.to_string())
 }
 
-fn read<T>(
-    template: &[u8],
-    input: &[u8],
-    by: impl Fn(&str, &str) -> Result<T>,
-    accepted: impl Fn(T) -> String,
-) -> String {
+pub fn to_instant(input: &str, template: &str) -> Result<i64> {
+    to_timestamp_text(input, template, &ZoneRef::Fixed(0), &mut Meter)
+}
+
+pub fn shown<T>(answer: Answer<T>, accepted: impl Fn(T) -> String) -> String {
+    answer.map_or_else(|refusal| refusal.to_string(), |value| format!("0 {}", accepted(value)))
+}
+
+pub fn read<T>(template: &[u8], input: &[u8], by: impl Fn(&str, &str) -> Result<T>) -> Answer<T> {
     if template.len() > TEMPLATE_LIMIT || input.len() > INPUT_LIMIT {
-        return Refusal::plain(1).to_string();
+        return Err(Refusal::plain(1));
     }
     let (Ok(template), Ok(input)) = (std::str::from_utf8(template), std::str::from_utf8(input)) else {
-        return Refusal::plain(2).to_string();
+        return Err(Refusal::plain(2));
     };
-    match by(input, template) {
-        Ok(value) => accepted(value),
-        Err(error) => refusal(&error, template, input).to_string(),
-    }
+    by(input, template).map_err(|error| refusal(&error, template, input))
 }
 
 /// A refusal: its number, the pattern as the template spells it, two figures.

@@ -1,11 +1,11 @@
 //! The answers to a template and a moment: the text that the module writes, or a refusal by the writer's own rules.
 
-use super::reading::{INPUT_LIMIT, Refusal, TEMPLATE_LIMIT};
+use super::reading::{Answer, INPUT_LIMIT, Refusal, TEMPLATE_LIMIT, shown};
 use super::*;
 use crate::timestamp::{days_from_civil, month_lengths};
 
 /// Year, month, day, hour, minute, second, microsecond.
-type Moment = [i32; 7];
+pub type Moment = [i32; 7];
 
 /// The patterns that the writer knows, in capitals.
 const WRITTEN: [&str; 18] = [
@@ -19,17 +19,14 @@ const TIMES: [&[&str]; 3] = [&["HH24", "MI", "SS"], &["HH12", "MI", "SS", "AM"],
 
 /// 0 and the text of a moment; or a refusal.
 pub fn written(template: &[u8], moment: &[u8]) -> String {
-    match attempt(template, moment) {
-        Ok(text) => format!("0 {text}"),
-        Err(refusal) => refusal.to_string(),
-    }
+    shown(attempt(template, numbers_of(moment), INPUT_LIMIT), |text| text)
 }
 
 /// What the written text must be read as, where a line's template is full: the moment, then its microseconds and days since 1970-01-01. Else `-`.
 pub fn back(line: &[u8]) -> String {
     let (template, moment) = cut(line);
     let accepted = reading::line(line, written).starts_with("0 ");
-    match moment_of(moment) {
+    match numbers_of(moment) {
         Some(moment) if accepted && is_full(template) => {
             format!("{} {} {}", moment.map(|number| number.to_string()).join(" "), micros(&moment), days(&moment))
         }
@@ -37,7 +34,8 @@ pub fn back(line: &[u8]) -> String {
     }
 }
 
-fn attempt(template: &[u8], moment: &[u8]) -> std::result::Result<String, Refusal> {
+/// The text of a moment for a buffer of `room` bytes. What are not seven numbers is no moment.
+pub fn attempt(template: &[u8], numbers: Option<Moment>, room: usize) -> Answer<String> {
     if template.len() > TEMPLATE_LIMIT {
         return Err(Refusal::plain(1));
     }
@@ -45,9 +43,9 @@ fn attempt(template: &[u8], moment: &[u8]) -> std::result::Result<String, Refusa
     if let Some(node) = parse(template.as_bytes()).iter().find(|node| !is_written(node)) {
         return Err(Refusal { pattern: Some(node.key().name.to_string()), ..Refusal::plain(19) });
     }
-    let moment = moment_of(moment).ok_or(Refusal::plain(20))?;
+    let moment = numbers.filter(is_moment).ok_or(Refusal::plain(20))?;
     let text = text(template, micros(&moment));
-    if text.len() > INPUT_LIMIT {
+    if text.len() > room {
         return Err(Refusal { figures: [text.len() as i64, 0], ..Refusal::plain(21) });
     }
     Ok(text)
@@ -58,10 +56,10 @@ fn is_written(node: &FmtNode) -> bool {
     node.key.is_none_or(|key| known(key) && node.suffix == 0)
 }
 
-/// Seven numbers of 32 bits with a space between two, each as strtol reads it, that are a moment.
-fn moment_of(words: &[u8]) -> Option<Moment> {
+/// Seven numbers of 32 bits with a space between two, each as strtol reads it.
+pub fn numbers_of(words: &[u8]) -> Option<Moment> {
     let numbers: Option<Vec<i32>> = words.split(|byte| *byte == b' ').map(number_of).collect();
-    numbers?.try_into().ok().filter(is_moment)
+    numbers?.try_into().ok()
 }
 
 fn number_of(word: &[u8]) -> Option<i32> {
@@ -81,7 +79,7 @@ fn days(moment: &Moment) -> i64 {
     days_from_civil(year, month, day)
 }
 
-fn micros(moment: &Moment) -> i64 {
+pub fn micros(moment: &Moment) -> i64 {
     let [_, _, _, hour, minute, second, micros] = moment.map(i64::from);
     (days(moment) * 86_400 + hour * 3600 + minute * 60 + second) * 1_000_000 + micros
 }

@@ -1,0 +1,142 @@
+//! A target of libFuzzer: a mode, then texts with TABs between them. A difference, or an answer that is none, stops it.
+//!
+//! | mode | texts | what is done |
+//! |---|---|---|
+//! | `w` | template, moment | written by it, here and by the ported module |
+//! | `n` | template, bytes, input | read and written by nodes of which some bytes are changed |
+//! | `x` | template, another, input | read and written by the nodes of the other template |
+//! | any other | template, input | read by it, here and by the ported module |
+#![no_main]
+
+use exports::agreement::{self, Template};
+use exports::archive::{self, NODES};
+use exports::guarded::Guarded;
+use oracle::answers::{Moment, cut, numbers_of};
+use oracle::questions::templates;
+use oracle::random::Random;
+use oracle::{moments, pairs};
+use std::cell::RefCell;
+use std::ffi::{c_int, c_uint};
+
+const MODES: &[u8] = b"rrwnx";
+const UNSET: i64 = i64::MIN;
+const FILLER: u8 = 0xa5;
+const NONE: i64 = 112;
+const LAST_REFUSAL: i64 = 21;
+
+thread_local! {
+    static GUARDED: RefCell<[Guarded; 4]> = RefCell::default();
+}
+
+unsafe extern "C" {
+    fn LLVMFuzzerMutate(data: *mut u8, size: usize, most: usize) -> usize;
+}
+
+#[unsafe(no_mangle)]
+pub extern "C" fn LLVMFuzzerTestOneInput(data: *const u8, size: usize) -> c_int {
+    let bytes = unsafe { std::slice::from_raw_parts(data, size) };
+    let Some((mode, texts)) = bytes.split_first() else { return 0 };
+    let (template, rest) = cut(texts);
+    GUARDED.with_borrow_mut(|[of_template, of_input, of_nodes, of_text]| {
+        let template = of_template.lend(template);
+        match mode {
+            b'n' | b'x' => {
+                let (second, input) = cut(rest);
+                let nodes = if *mode == b'n' { changed(template, second) } else { nodes_of(second) };
+                by_any_nodes(of_nodes.lend(&nodes), template, of_input.lend(input), of_text);
+            }
+            b'w' => agreed(|| agreement::write(&Template::compiled(template)?, &moment(rest), 512)),
+            _ => agreed(|| agreement::read(&Template::compiled(template)?, of_input.lend(rest))),
+        }
+    });
+    0
+}
+
+fn agreed<T>(check: impl FnOnce() -> agreement::Agreement<T>) {
+    if let Err(difference) = check() {
+        panic!("{difference}");
+    }
+}
+
+/// Seven numbers as text, or else as they stand in the bytes.
+fn moment(bytes: &[u8]) -> Moment {
+    let word = |at: usize| {
+        let mut word = [0; 4];
+        word.iter_mut().zip(bytes.iter().skip(4 * at)).for_each(|(to, from)| *to = *from);
+        i32::from_le_bytes(word)
+    };
+    numbers_of(bytes).unwrap_or_else(|| std::array::from_fn(word))
+}
+
+/// The nodes of a template; bytes that have none are nodes themselves.
+fn nodes_of(template: &[u8]) -> Vec<u8> {
+    let mut nodes = [0; NODES];
+    let length = archive::compile(template, &mut nodes);
+    if length < 0 { template.to_vec() } else { nodes[..length as usize].to_vec() }
+}
+
+/// The nodes of a template, changed at places by three bytes each: the place and the byte that is put there.
+fn changed(template: &[u8], changes: &[u8]) -> Vec<u8> {
+    let mut nodes = nodes_of(template);
+    let length = nodes.len().max(1);
+    for change in changes.chunks_exact(3) {
+        let place = usize::from(u16::from_le_bytes([change[0], change[1]])) % length;
+        nodes[place..].iter_mut().take(1).for_each(|byte| *byte = change[2]);
+    }
+    nodes
+}
+
+/// Whatever the nodes are, the answer is a record, and of the buffer only the text is written.
+fn by_any_nodes(nodes: &[u8], template: &[u8], input: &[u8], of_text: &mut Guarded) {
+    record(|out: &mut archive::Parts| archive::parts_by(nodes, template, input, out));
+    record(|out: &mut archive::Value| archive::instant_by(nodes, template, input, out));
+    record(|out: &mut archive::Value| archive::date_by(nodes, template, input, out));
+    let text = of_text.lend(&vec![FILLER; input.len()]);
+    let [number, .., length] =
+        record(|out: &mut archive::Value| archive::write_by(nodes, template, &moment(input), text, out));
+    assert!(number == 0 || length == 0);
+    assert!(text[length as usize..].iter().all(|byte| *byte == FILLER), "a byte behind the text is written");
+}
+
+fn record<const WORDS: usize>(export: impl FnOnce(&mut [i64; WORDS]) -> u8) -> [i64; WORDS] {
+    let mut words = [UNSET; WORDS];
+    let number = i64::from(export(&mut words));
+    assert!(words[0] == number && !words.contains(&UNSET), "no record: {number} {words:?}");
+    let refused = (1..=LAST_REFUSAL).contains(&number) && words[4..].iter().all(|value| *value == 0);
+    assert!(refused || words[..4] == [0, NONE, 0, 0], "neither accepted nor refused: {words:?}");
+    words
+}
+
+/// Half of the changes are libFuzzer's own; the others put in what templates and inputs are made of.
+#[unsafe(no_mangle)]
+pub extern "C" fn LLVMFuzzerCustomMutator(data: *mut u8, size: usize, most: usize, seed: c_uint) -> usize {
+    let mut random = Random::new(seed.into());
+    if random.once_in(2) {
+        return unsafe { LLVMFuzzerMutate(data, size, most) };
+    }
+    let mut bytes = unsafe { std::slice::from_raw_parts(data, size) }.to_vec();
+    change(&mut random, &mut bytes);
+    bytes.truncate(most);
+    unsafe { data.copy_from(bytes.as_ptr(), bytes.len()) };
+    bytes.len()
+}
+
+fn change(random: &mut Random, bytes: &mut Vec<u8>) {
+    let (template, _) = cut(bytes.get(1..).unwrap_or_default());
+    match random.below(8) {
+        0 => *bytes = [b"r".to_vec(), pairs::line(random)].concat(),
+        1 => *bytes = [b"w".to_vec(), moments::line(random)].concat(),
+        2 => {
+            let other = [vec![random.pick(MODES)], pairs::template(random), b"\t".to_vec(), pairs::line(random)];
+            *bytes = other.concat();
+        }
+        3 => {
+            let input = pairs::input(random, template);
+            *bytes = [b"r", template, b"\t", &input].concat();
+        }
+        _ => {
+            let at = random.below(bytes.len() + 1);
+            bytes.splice(at..at, templates::piece(random));
+        }
+    }
+}

@@ -1,0 +1,62 @@
+//! The same answers as records of 64-bit words, as the library's exports fill them.
+
+use super::reading::{Answer, read, to_instant};
+use super::writing::{Moment, attempt};
+use super::*;
+
+/// Number, pattern, first and second figure; then the values, which are 0 where the answer is a refusal.
+fn record<const WORDS: usize>(answer: Answer<Vec<i64>>) -> [i64; WORDS] {
+    let mut words = [0; WORDS];
+    let place = |name: String| DCH_KEYWORDS.iter().position(|key| key.name == name).expect("a pattern of the table");
+    match answer {
+        Ok(values) => {
+            words[1] = DCH_KEYWORDS.len() as i64;
+            words[4..].copy_from_slice(&values);
+        }
+        Err(refusal) => {
+            words[0] = refusal.number.into();
+            words[1] = refusal.pattern.map_or(DCH_KEYWORDS.len(), place) as i64;
+            words[2..4].copy_from_slice(&refusal.figures);
+        }
+    }
+    words
+}
+
+/// The values are the nine parts, with a flag before the offset.
+pub fn parts(template: &[u8], input: &[u8]) -> [i64; 14] {
+    record(read(template, input, to_timestamp_parts).map(|TimestampParts { tm, fsec, fprec, tz_east }| {
+        let numbers = [tm.year, tm.mon, tm.mday, tm.hour, tm.min, tm.sec, fsec, fprec, tz_east.is_some().into()];
+        numbers.into_iter().map(i64::from).chain([tz_east.unwrap_or(0)]).collect()
+    }))
+}
+
+pub fn instant(template: &[u8], input: &[u8]) -> [i64; 5] {
+    record(read(template, input, to_instant).map(|micros| vec![micros]))
+}
+
+pub fn date(template: &[u8], input: &[u8]) -> [i64; 5] {
+    record(read(template, input, to_date_text).map(|days| vec![days.into()]))
+}
+
+/// The value is the length of the text, which comes with it: empty where the answer is a refusal.
+pub fn written(template: &[u8], moment: &Moment, room: usize) -> ([i64; 5], String) {
+    let answer = attempt(template, Some(*moment), room);
+    let text = answer.as_ref().cloned().unwrap_or_default();
+    (record(answer.map(|text| vec![text.len() as i64])), text)
+}
+
+/// The number of nodes of a template; -1 over its limit, -2 where it is not UTF-8.
+pub fn compiled(template: &[u8]) -> i64 {
+    if template.len() > reading::TEMPLATE_LIMIT {
+        -1
+    } else if std::str::from_utf8(template).is_err() {
+        -2
+    } else {
+        parse(template).len() as i64 - 1
+    }
+}
+
+/// The name of the pattern at a place of the table; empty behind the last.
+pub fn pattern(place: u8) -> &'static str {
+    DCH_KEYWORDS.get(usize::from(place)).map_or("", |key| key.name)
+}

@@ -1,0 +1,18 @@
+//! The ported module, answering the questions that the port answers.
+
+#[cfg(test)]
+mod cases;
+pub mod hex;
+pub mod known;
+pub mod lines;
+pub mod moments;
+pub mod pairs;
+pub mod questions;
+pub mod random;
+pub mod readings;
+mod standins;
+
+pub use formatting::answers;
+use standins::*;
+
+include!(concat!(env!("OUT_DIR"), "/modules.rs"));
