@@ -86,7 +86,9 @@ def document(program, archive):
     print(f"## The line program\n\nThe program with SHA-256 {checksum(program)}.., ", end="")
     lines_a_second = lines.show(BENCH, program)
     print("## Targets\n\nHow many times as fast, on the input where it is least so.\n")
-    print("\n".join(targets(measured, lines_a_second)))
+    print("\n".join(targets(measured, lines_a_second)), end="\n\n")
+    with open("bench/reasons.md") as reasons:
+        print(reasons.read(), end="")
 
 
 def main():
