@@ -1,3 +1,3 @@
 -- Laws of the parts answer.
 pub mod Ranges
-mod Limits
+pub mod Limits

@@ -1,3 +1,4 @@
+pub mod Once
 mod Compiling
 mod Room
 mod Stored

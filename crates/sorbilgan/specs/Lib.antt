@@ -3,3 +3,4 @@ pub mod Compiled
 pub mod Name
 pub mod Words
 pub mod Writing
+pub mod Once

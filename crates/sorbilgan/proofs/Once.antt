@@ -1,0 +1,39 @@
+-- What is read and written by a compiled template is what the template gives. Assumes nothing.
+use mathlib.Core.Path.{_≡_, _∙_, ap}
+use mathlib.Core.List.{List}
+use Prim.Native.Nat.{ℕ, _≤_}
+use native.Mathlib.Omega.{arith}
+use borrow.Author.Tests.{le-ltb}
+use lib.ListN.{length}
+use Rattle.instants.specs.Instant.{dateOf, dayBy, instantBy, timestampOf}
+use Rattle.parts.specs.Parts.{partsBy, partsOf}
+use Rattle.parts.proofs.Limits.{by-nodes}
+use Rattle.template.specs.Bytes.{nodesIn}
+use Rattle.template.specs.Template.{nodesOf}
+use Rattle.template.specs.declared.Node.{Node}
+use Rattle.template.proofs.Encoding.{encoded-length, nodes-back}
+use Rattle.template.proofs.Nodes.{count-within}
+use Rattle.writer.specs.Text.{textOf}
+use Rattle.writer.specs.Writer.{writtenIn, writtenTo}
+use Rattle.sorbilgan.specs.Compiled.{compiled}
+use Rattle.sorbilgan.specs.Once.{CompileOnce}
+
+-- the nodes are those that were put
+back : (t : List ℕ) → nodesIn (compiled t) ≡ nodesOf t
+back t = nodes-back (nodesOf t)
+
+few : (t : List ℕ) → length t ≤ 256 → length (compiled t) ≤ 1536
+few t h = omega (arith, encoded-length (nodesOf t), count-within t)
+
+pub compile-once : CompileOnce
+unfolding timestampOf dateOf writtenIn writtenTo textOf
+compile-once t short utf8 =
+    let same : (s : List ℕ) → partsBy (nodesIn (compiled t)) t s ≡ partsOf t s =
+    λ s. ap (λ (ns : List Node). partsBy ns t s) (back t) ∙ by-nodes t s short utf8 in
+    record {
+      parts = same;
+      instant = λ s. ap instantBy (same s);
+      day = λ s. ap dayBy (same s);
+      written = λ m room. rw (le-ltb 1536 (length (compiled t)) (few t short), le-ltb 256 (length t) short, utf8, back t);
+      text = λ m. rw (back t);
+    }
