@@ -76,3 +76,11 @@ module _ (s : List ℕ) (n : Node) (p : Place) where
     pub paid : (k : ℕ) → p .extra ≡ suc k → place (p .at) k false ≡ literalPassed s n p
     unfolding literalPassed
     paid k z = rw (e, ne-eqb _ _ no3, ne-eqb _ _ no4, z, lt-ltb 0 (suc k) (omega arith))
+
+-- a plain character behind the first node, for which no skipped space can pay: with FX and without it one of the input
+pub plain-char : (s : List ℕ) (n : Node) (p : Place) → n .kind ≡ 2 → p .extra ≡ 0 → charPassed s p ≡ literalPassed s n (enteredBy s false p)
+plain-char s n p k z = split (isExact p) refl
+  where
+    split : (b : Bool) → isExact p ≡ b → charPassed s p ≡ literalPassed s n (enteredBy s false p)
+    split true e = rw e (with-exact s n p e)
+    split false e = rw e (as-char s n p e (λ h. omega (arith, k, h)) (λ h. omega (arith, k, h)) z)

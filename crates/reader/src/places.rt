@@ -138,10 +138,17 @@ pub fn entered(s: &[u8], skip: bool, p: Place) -> Place
     p
 }
 
-// A literal, with the spaces before it.
+// A literal, with the spaces before it. Most are plain characters for which no skipped space can pay.
 pub fn literal_read(s: &[u8], n: Node, first: bool, p: Place) -> Place
     requires { ⌜ Payable (now s) p × (p .at ≤ length (now s)) × (length (now s) ≤ 512) ⌝ }
     ensures { λ r. ⌜ r ≡ literalPassed (now (s .entry)) n (enteredBy (now (s .entry)) first p) ⌝ }
 {
+    if !first {
+        if n.kind == template::FN_CHAR {
+            if p.extra == 0 {
+                return char_passed(s, p);
+            }
+        }
+    }
     literal_passed(s, n, entered(s, first, p))
 }
