@@ -1,15 +1,18 @@
 -- The compiler's loop: the nodes stored so far, before those of what is left of the template, are the template's.
 -- Assumes nothing.
 use mathlib.Core.Path.{_≡_, _∙_, refl, sym, ap}
-use mathlib.Core.Bool.{Bool, true, false}
+use mathlib.Core.Bool.{Bool, true, false, not, false≢true}
 use mathlib.Core.List.{List, [], _∷_, _++_, append-assoc, append-nil}
 use Prim.Native.Nat.{ℕ, zero, suc, _+_, _*_, _<_, _≤_}
 use native.Mathlib.Omega.{arith}
-use borrow.Author.Tests.{lt-ltb, le-ltb}
+use borrow.Author.Tests.{lt-ltb, le-ltb, not-true}
+use lib.Dec.{eqb}
 use lib.ListN.{length, drop, length-append}
 use lib.Seq.{sets}
+use Rattle.notation.specs.Text.{byteAt}
+use Rattle.notation.proofs.Cases.{both}
 use Rattle.template.specs.Bytes.{Parsed, bytesOf, encoded}
-use Rattle.template.specs.Template.{stepAt, madeBy, nodesFrom, nodesOf}
+use Rattle.template.specs.Template.{character, charAt, charPlace, isQuotedChar, literalAt, stepAt, madeBy, nodesFrom, nodesOf}
 use Rattle.template.specs.declared.Node.{Node}
 use Rattle.template.specs.declared.Step.{Step}
 use Rattle.template.proofs.Encoding.{put-behind}
@@ -38,6 +41,18 @@ ended t before after n at quoted r few h =
     let all : r .done ≡ nodesOf t = rw (after-end t (r .fuel) at quoted h, append-nil) at (r .whole) in
     let count : n ≡ length (nodesOf t) = sym (r .size) ∙ ap (λ (l : List Node). length l) all in
     record { is = r .stored ∙ rw (all, count); count = count; few = few }
+
+-- a character in quotes is a step
+pub plain-step : (t : List ℕ) (at : ℕ) (quoted : Bool) → isQuotedChar t at quoted ≡ true → charAt t at character true ≡ stepAt t at quoted
+unfolding stepAt literalAt charPlace
+plain-step t at true e =
+    let both-are = both (not (eqb (byteAt t at) 34)) _ e in
+    rw (not-true (eqb (byteAt t at) 34) (both-are .0), not-true (eqb (byteAt t at) 92) (both-are .1))
+plain-step t at false e = absurd (false≢true e)
+
+pub in-quotes : (t : List ℕ) (at : ℕ) (quoted : Bool) → isQuotedChar t at quoted ≡ true → true ≡ quoted
+in-quotes t at true e = refl
+in-quotes t at false e = absurd (false≢true e)
 
 -- a step
 one : (t : List ℕ) (fuel at : ℕ) (quoted : Bool) (s : Step) → s ≡ stepAt t at quoted → at < length t

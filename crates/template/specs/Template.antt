@@ -71,6 +71,10 @@ charAt t at kind quoted = make (literal kind at (charLength t at)) (at + charLen
 abbrev pub escapes : List ℕ → ℕ → Bool → Bool
 escapes t at quoted = eqb (byteAt t at) backslash && (if quoted then ltb (at + 1) (length t) else eqb (byteAt t (at + 1)) quote)
 
+-- a character in quotes that neither ends them nor makes the next one plain
+abbrev pub isQuotedChar : List ℕ → ℕ → Bool → Bool
+isQuotedChar t at quoted = quoted && (not (eqb (byteAt t at) quote) && not (eqb (byteAt t at) backslash))
+
 -- where the literal character stands
 unfoldable pub charPlace : List ℕ → ℕ → Bool → ℕ
 charPlace t at quoted = if escapes t at quoted then at + 1 else at

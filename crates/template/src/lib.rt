@@ -6,7 +6,7 @@ ghost use lib.ListN.{length, getD};
 ghost use lib.Seq.{sets};
 ghost use Rattle.patterns.specs.Affixes.{affixLength};
 ghost use Rattle.patterns.specs.Search.{nameTable, indexTable};
-ghost use Rattle.template.specs.Template.{Placed, Stepped, actionAt, charAt, elementAt, endNode, kindOf, literalAt, nodesOf, plainAt, skip, stepAt};
+ghost use Rattle.template.specs.Template.{Placed, Stepped, actionAt, charAt, elementAt, endNode, isQuotedChar, kindOf, literalAt, nodesOf, plainAt, skip, stepAt};
 ghost use Rattle.template.specs.Bytes.{Parsed, bytesOf, nodesIn};
 use patterns::Found;
 
@@ -192,6 +192,20 @@ fn step_at(index: &[i8; 128], names: &[u8; 560], t: &[u8], at: usize, quoted: bo
     plain_step(index, names, t, at)
 }
 
+// Whether a character in quotes is just that: neither the end of them nor a backslash.
+fn is_quoted_char(t: &[u8], at: usize, quoted: bool) -> bool
+    requires { ⌜ at < length (now t) ⌝ }
+    ensures { λ r. ⌜ r ≡ isQuotedChar (now (t .entry)) at quoted ⌝ }
+{
+    if !quoted {
+        return false;
+    }
+    if t[at] == b'"' {
+        return false;
+    }
+    t[at] != b'\\'
+}
+
 // Puts a node's bytes into the array of nodes.
 fn put_node(out: &mut [u8], i: usize, n: Node)
     requires { ⌜ 6 * i + 6 ≤ length (now out) ⌝ }
@@ -240,13 +254,20 @@ pub fn parse_format(t: &[u8], out: &mut [u8]) -> usize
     let mut at: usize = 0;
     let mut quoted = false;
     while at < t.len() {
-        let s = step_at(&index, &names, t, at, quoted);
-        if s.made {
+        if is_quoted_char(t, at, quoted) {
+            let s = char_at(t, at, FN_CHAR, true);
             put_node(out, n, s.node);
             n += 1;
+            at = s.next;
+        } else {
+            let s = step_at(&index, &names, t, at, quoted);
+            if s.made {
+                put_node(out, n, s.node);
+                n += 1;
+            }
+            at = s.next;
+            quoted = s.quoted;
         }
-        at = s.next;
-        quoted = s.quoted;
     }
     n
 }
