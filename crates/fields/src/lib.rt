@@ -9,6 +9,8 @@ ghost use Rattle.fields.specs.Setting.{conflicts};
 ghost use Rattle.fields.specs.Suffix.{endsNumber, isFree, Skipped};
 ghost use Rattle.fields.specs.Word.{folded as foldedByte, spelledLength, wordAt, wordIn, Found as Spelled};
 ghost use Rattle.fields.specs.Year.{commaYearAt, joined as joinedYear, near2020, scanned};
+ghost use Rattle.patterns.specs.Words.{wordTable};
+ghost use Rattle.patterns.specs.declared.tables.WordList.{WordList};
 use answers::Refusal;
 use patterns::WordList;
 use strtol::Strtol;
@@ -196,23 +198,35 @@ fn spelled(table: &[u8; 108], k: usize, s: &[u8], at: usize) -> usize
     9
 }
 
-// The first word of a list that stands at a place, in either case.
-pub fn seq_search_ascii(s: &[u8], at: usize, list: WordList) -> Word
-    ensures { λ r. ⌜ Spelled (now (s .entry)) at (wordAt list (now (s .entry)) at) r ⌝ }
+// The first word of a list's table that stands at a place, in either case.
+fn first_word(table: &[u8; 108], s: &[u8], at: usize) -> Word
+    requires { ⌜ length (now table) ≡ 108 ⌝ }
+    ensures { λ r. ⌜ ((list : WordList) → now (table .entry) ≡ wordTable list → Spelled (now (s .entry)) at (wordAt list (now (s .entry)) at) r) ⌝ }
 {
     if s.len() <= at {
         return Word::Nothing;
     }
-    let table = patterns::words(list);
     let mut k: usize = 0;
     while k < 12 {
-        let n = spelled(&table, k, s, at);
+        let n = spelled(table, k, s, at);
         if n > 0 {
             return Word::At { index: k, len: n };
         }
         k += 1;
     }
     Word::Nothing
+}
+
+// The first word of a list that stands at a place, in either case.
+pub fn seq_search_ascii(s: &[u8], at: usize, list: WordList) -> Word
+    ensures { λ r. ⌜ Spelled (now (s .entry)) at (wordAt list (now (s .entry)) at) r ⌝ }
+{
+    if let WordList::MonthsFull = list {
+        let months = patterns::months_full();
+        return first_word(&months, s, at);
+    }
+    let table = patterns::words(list);
+    first_word(&table, s, at)
 }
 
 // Past two characters, if the pattern has an ordinal suffix.
