@@ -4,5 +4,6 @@ pub mod Decimals
 pub mod Digits
 pub mod Negated
 pub mod Places
+pub mod FewDigits
 pub mod Signs
 pub mod Unsigned

@@ -2,7 +2,7 @@
 use mathlib.Core.Path.{_≡_, refl}
 use mathlib.Core.Bool.{Bool, true, false, _||_}
 use mathlib.Core.List.{List, []}
-use Prim.Native.Nat.{ℕ, _+_, _-_, _^_, _<_, min}
+use Prim.Native.Nat.{ℕ, _+_, _-_, _^_, min}
 use Prim.Native.Char.{code}
 use lib.Dec.{eqb, ltb}
 use lib.IntN.{ℤ, pos, negsuc, negℤ}
@@ -56,10 +56,11 @@ strtol s start =
     if eqb (digits (unsigned t)) 0 then answer (pos 0) start false
     else answer (signed neg (run .value)) (run .end) (run .over)
 
--- r is what is read where that needs neither spaces nor a sign and is below 1,000,000,000; with its end at the place it says nothing
-pub record ShortRead (s : List ℕ) (at : ℕ) (r : Short) : Type 0 where
-  pub small : r .value < 1000000000
-  pub is : (r .end ≡ at → ⊥) → strtol s at ≡ answer (pos (r .value)) (r .end) false
+-- the digits right at a place, where their number is below 1,000,000,000; otherwise none
+unfoldable pub shortAt : List ℕ → ℕ → Short
+shortAt s at =
+    let t = drop at s in
+    if ltb (number t) 1000000000 then record { value = number t; end = at + digits t } else record { value = 0; end = at }
 
 -- spaces and a sign are skipped, what follows the digits is left
 pub plain : strtol (utf8 "x  -12x") 1 ≡ answer (negsuc 11) 6 false
@@ -72,6 +73,15 @@ pub missing
     × (strtol [] 0 ≡ answer (pos 0) 0 false) × (strtol (utf8 "12") 7 ≡ answer (pos 0) 7 false)
 unfolding strtol leading numberFrom classOf
 missing = (refl, refl, refl, refl)
+
+-- nine digits and ten, also behind zeros; a space is no digit
+pub short
+    : (shortAt (utf8 "x999999999.") 1 ≡ record { value = 999999999; end = 10 })
+    × (shortAt (utf8 "1000000000") 0 ≡ record { value = 0; end = 0 })
+    × (shortAt (utf8 "0000000000012") 0 ≡ record { value = 12; end = 13 })
+    × (shortAt (utf8 " 1") 0 ≡ record { value = 0; end = 0 })
+unfolding shortAt leading numberFrom classOf
+short = (refl, refl, refl, refl)
 
 -- the numbers of 64 bits end at 2 ^ 63 - 1 and at -2 ^ 63
 pub ends

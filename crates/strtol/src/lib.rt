@@ -3,7 +3,7 @@ ghost use mathlib.Core.Path.{_≡_};
 ghost use Prim.Native.Nat.{_+_, _≤_};
 ghost use lib.ListN.{drop};
 ghost use Rattle.strtol.specs.Runs.{spaces};
-ghost use Rattle.strtol.specs.Strtol.{minus, signs, limit, signed, digitsRead, strtol, ShortRead};
+ghost use Rattle.strtol.specs.Strtol.{minus, signs, limit, signed, digitsRead, strtol, shortAt};
 
 // What is read: the number, the place after it, and whether it was past 64 bits.
 pub struct Strtol {
@@ -109,7 +109,7 @@ pub struct Short {
 
 // The number at a place where nothing but digits makes it and it is below 1,000,000,000; otherwise the place stays.
 pub fn short_number(s: &[u8], at: usize) -> Short
-    ensures { λ r. ⌜ ShortRead (now (s .entry)) at r ⌝ }
+    ensures { λ r. ⌜ r ≡ shortAt (now (s .entry)) at ⌝ }
 {
     let mut value: u32 = 0;
     let mut i = at;

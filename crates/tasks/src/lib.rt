@@ -32,7 +32,7 @@ pub struct Outcome {
     pub place: Place,
 }
 
-// The fields with one pattern more, and the place behind it. A refusal leaves both as they were.
+// The verdict, the fields and the place together.
 pub struct Reading {
     pub verdict: Verdict,
     pub fields: Fields,

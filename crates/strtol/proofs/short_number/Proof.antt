@@ -12,7 +12,7 @@ use Rattle.chars.specs.Class.{isDigit}
 use Rattle.chars.proofs.Classes.{digit-bounds}
 use Rattle.strtol.specs.Strtol.{limit}
 use Rattle.strtol.proofs.Digits.{Reading, begun, stopped, ended, more}
-use Rattle.strtol.proofs.Unsigned.{strtol-digits}
+use Rattle.strtol.proofs.FewDigits.{short-not, short-read}
 use Rattle.strtol.proofs.short_number.Statement.{statement}
 use Rattle.strtol.proofs.short_number.Tie as tie
 
@@ -36,10 +36,12 @@ returns : tie.Need-returns Inv-loop μ-loop
 returns c =
     let k = c .before .before .before .before in
     let e = sym (c .before .is-digit-c .ensures) ∙ not-true _ (c .if1 .taken) in
-    record {
-      small = k .loop .inv .0;
-      is = strtol-digits _ _ (stopped (limit false) _ _ _ _ _ (k .loop .inv .1) _ refl (omega arith) e);
-    }
+    short-read _ _ (stopped (limit false) _ _ _ _ _ (k .loop .inv .1) _ refl (omega arith) e) (k .loop .inv .0)
+
+returns-2 : tie.Need-returns-2 Inv-loop μ-loop
+returns-2 c =
+    let e = c .before in
+    short-not _ _ (l e .loop .inv .1) (c .if2 .taken) (omega arith) (digit e)
 
 loop-again : tie.Need-loop-again Inv-loop μ-loop
 loop-again c =
@@ -51,10 +53,7 @@ loop-again c =
 returns-3 : tie.Need-returns-3 Inv-loop μ-loop
 returns-3 c =
     let k = c .before in
-    record {
-      small = k .loop .inv .0;
-      is = strtol-digits _ _ (ended (limit false) _ _ _ _ _ (k .loop .inv .1) _ refl (omega arith));
-    }
+    short-read _ _ (ended (limit false) _ _ _ _ _ (k .loop .inv .1) _ refl (omega arith)) (k .loop .inv .0)
 
 pub short-number-spec : {M : Type 1} → statement M
 short-number-spec =
@@ -66,7 +65,7 @@ short-number-spec =
     (λ c. omega arith)
     (λ c κs. search needs)
     returns
-    (λ c. record { small = omega arith; is = λ moved. absurd (moved refl) })
+    returns-2
     (λ c. omega arith)
     (λ c. omega arith)
     (λ c. omega (arith, digit-bounds _ (digit (c .before))))
