@@ -10,10 +10,10 @@ use Rattle.notation.specs.Choice.{if_then_else_}
 use Rattle.chars.specs.Utf8.{wellFormed}
 use Rattle.parts.specs.Parts.{templateLimit}
 use Rattle.template.specs.Template.{nodesOf}
-use Rattle.writer.specs.Moment.{isMoment}
+use Rattle.pieces.specs.Moment.{isMoment}
 use Rattle.writer.specs.Text.{textOf}
 use Rattle.writer.specs.Writer.{Wrote, firstUnwritten, writtenTo}
-use Rattle.writer.specs.declared.Moment.{Moment}
+use Rattle.pieces.specs.declared.Moment.{Moment}
 use Rattle.writer.specs.declared.Unwritten.the-variants.{TooLong, NotUtf8, NotWritten, NoMoment, NoRoom}
 use Rattle.writer.specs.declared.Written.{Written}
 use Rattle.writer.specs.declared.Written.the-variants.{Length, Refused}

@@ -5,7 +5,7 @@ use crate::output::put_accepted;
 use crate::output::put_report;
 use crate::output::put_word;
 use lines::Int;
-use writer::Moment;
+use pieces::Moment;
 use writer::Written;
 
 // The longest text that can be read back.

@@ -16,7 +16,7 @@ use Rattle.clock.specs.Time.{timeInRange}
 use Rattle.parts.specs.declared.Answer.the-variants.{Moment}
 use Rattle.tasks.specs.Fields as F
 use Rattle.tasks.specs.declared.Fields.{Fields}
-use Rattle.writer.specs.Moment.{IsMoment}
+use Rattle.pieces.specs.Moment.{IsMoment}
 use Rattle.groups.specs.Values.{DateGroup, TimeGroup, dateValues, timeValues, fieldsOf, Same}
 use Rattle.groups.proofs.Dates.{DateRead, date-read}
 use Rattle.groups.proofs.Steps.{micros-read, no-offset}

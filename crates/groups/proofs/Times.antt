@@ -12,7 +12,7 @@ use Rattle.values.specs.declared.Value.{Value}
 use Rattle.values.specs.declared.Value.the-variants.{Is}
 use Rattle.tasks.specs.Fields as F
 use Rattle.tasks.specs.declared.Fields.{Fields}
-use Rattle.writer.specs.Pieces.{of12}
+use Rattle.pieces.specs.Pieces.{of12}
 use Rattle.groups.specs.Values.{TimeGroup, of-24, of-12, by-second, timeValues, DateValues, fieldsOf, Same}
 
 -- the fields make the time

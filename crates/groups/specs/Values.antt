@@ -10,7 +10,7 @@ use Rattle.gregorian.specs.IsoWeek.{isoMonday, isoWeek, isoWeekday, isoYear}
 use Rattle.patterns.specs.Patterns as P
 use Rattle.tasks.specs.Fields.{get}
 use Rattle.tasks.specs.declared.Fields.{Fields}
-use Rattle.writer.specs.Pieces.{of12}
+use Rattle.pieces.specs.Pieces.{of12}
 
 -- YYYY MM DD, YYYY DDD, and IYYY IW ID
 pub data DateGroup : Type 0 where

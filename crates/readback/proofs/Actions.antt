@@ -25,9 +25,9 @@ use Rattle.strtol.specs.Decimal.{decimal}
 use Rattle.strtol.specs.Runs.{digits, spaces}
 use Rattle.template.specs.Template.{action}
 use Rattle.template.specs.declared.Node.{Node}
-use Rattle.writer.specs.Moment.{moment, IsMoment}
-use Rattle.writer.specs.Pieces.{widthOf, numberOf, isMorning, pieceOf, pieceText}
-use Rattle.writer.specs.declared.Moment.{Moment}
+use Rattle.pieces.specs.Moment.{moment, IsMoment}
+use Rattle.pieces.specs.Pieces.{widthOf, numberOf, isMorning, pieceOf, pieceText}
+use Rattle.pieces.specs.declared.Moment.{Moment}
 use Rattle.readback.specs.Settings.{settings, filledBy}
 use Rattle.readback.proofs.Ahead.{ink-spaces}
 use Rattle.readback.proofs.Known.{taskFor, modeFor, sizeFor}

@@ -14,7 +14,7 @@ use Rattle.notation.proofs.Table.{allFrom, entry}
 use Rattle.tasks.specs.Fields.{mode, get, noFields}
 use Rattle.reader.specs.Reader.{mixes}
 use Rattle.writer.specs.Full.{times}
-use Rattle.writer.specs.declared.Moment.{Moment}
+use Rattle.pieces.specs.declared.Moment.{Moment}
 use Rattle.readback.specs.Settings.{Kept, always, own, Setting, settings, valueOf, filledBy, expected}
 use Rattle.readback.proofs.Filled.{has, among, inPairs, other, held, one-more}
 use Rattle.readback.proofs.Known.{taskFor, modeFor}

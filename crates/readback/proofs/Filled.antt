@@ -14,7 +14,7 @@ use Rattle.notation.proofs.Table.{allFrom}
 use Rattle.tasks.specs.Fields.{get, put}
 use Rattle.tasks.specs.declared.Fields.{Fields}
 use Rattle.writer.specs.Full.{times}
-use Rattle.writer.specs.declared.Moment.{Moment}
+use Rattle.pieces.specs.declared.Moment.{Moment}
 use Rattle.readback.specs.Settings.{Kept, always, own, Setting, valueOf, filledBy}
 
 abbrev pub has : List ℕ → ℕ → Bool

@@ -12,8 +12,8 @@ use Rattle.gregorian.proofs.Dates.{Each, each}
 use Rattle.patterns.specs.Search.{countFrom}
 use Rattle.template.specs.declared.Node.{Node}
 use Rattle.writer.specs.Full.{pieces, dateGroups, timeGroups, times, sameFrom, same, anyOf, areFull}
-use Rattle.writer.specs.Pieces.{micros, pieceOf}
-use Rattle.writer.specs.declared.Moment.{Moment}
+use Rattle.pieces.specs.Pieces.{micros, pieceOf}
+use Rattle.pieces.specs.declared.Moment.{Moment}
 use Rattle.readback.specs.Settings.{expected}
 use Rattle.readback.proofs.Filled.{order-free}
 use Rattle.readback.proofs.Sound.{Sound, a-literal, a-pattern, AllSound, pieces-literal, pieces-pattern}

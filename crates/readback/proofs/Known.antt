@@ -13,7 +13,7 @@ use Rattle.patterns.specs.Patterns.{patternOf, nameOf}
 use Rattle.tasks.specs.Fields as F
 use Rattle.tasks.specs.Tasks.{task, nothing, number, word, plain, hour12, micros, isoDay, wholeYear, oddHour12, taskOf}
 use Rattle.tasks.specs.declared.Task.{Task}
-use Rattle.writer.specs.Pieces as P
+use Rattle.pieces.specs.Pieces as P
 
 -- the task and the date mode of a piece's patterns
 abbrev pub taskFor : ℕ → Task

@@ -11,7 +11,7 @@ use Rattle.notation.specs.Text.{byteAt}
 use Rattle.fields.specs.Word.{wordAt}
 use Rattle.fields.specs.declared.Word.the-variants.{At}
 use Rattle.patterns.specs.declared.tables.WordList.the-variants.{AmPm, AmPmLong}
-use Rattle.writer.specs.Pieces.{markerText}
+use Rattle.pieces.specs.Pieces.{markerText}
 
 module _ (s u : List ℕ) (at : ℕ) where
   -- a byte of what stands at a place

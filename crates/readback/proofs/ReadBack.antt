@@ -16,13 +16,13 @@ use Rattle.parts.specs.declared.Answer.{Answer}
 use Rattle.parts.specs.declared.Answer.the-variants.{Moment as Accepted, Refused}
 use Rattle.tasks.specs.declared.Reading.{Reading}
 use Rattle.writer.specs.Full.{times, isFull}
-use Rattle.writer.specs.Moment.{moment, isMoment, IsMoment}
-use Rattle.writer.specs.Pieces.{numberOf}
+use Rattle.pieces.specs.Moment.{moment, isMoment, IsMoment}
+use Rattle.pieces.specs.Pieces.{numberOf}
 use Rattle.writer.specs.Text.{textOf}
 use Rattle.writer.specs.Writer.{writtenTo}
-use Rattle.writer.specs.declared.Moment.{Moment}
+use Rattle.pieces.specs.declared.Moment.{Moment}
 use Rattle.writer.specs.declared.Written.the-variants.{Length}
-use Rattle.writer.proofs.Moments.{Numbers, numbers}
+use Rattle.pieces.proofs.Moments.{Numbers, numbers}
 use Rattle.readback.specs.ReadBack.{ReadAs, Back, EveryBack}
 use Rattle.readback.specs.Settings.{ownOf, filledBy, expected}
 use Rattle.readback.proofs.Groups.{EachFull}

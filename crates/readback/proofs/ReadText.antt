@@ -16,11 +16,11 @@ use Rattle.reader.specs.Reader.{readAll}
 use Rattle.tasks.specs.declared.Fields.{Fields}
 use Rattle.template.specs.Template.{nodesOf}
 use Rattle.writer.specs.Full.{pieces, times, areFull, isFull}
-use Rattle.writer.specs.Moment.{moment, IsMoment}
-use Rattle.writer.specs.Pieces.{micros}
+use Rattle.pieces.specs.Moment.{moment, IsMoment}
+use Rattle.pieces.specs.Pieces.{micros}
 use Rattle.writer.specs.Text.{nodesText, textOf}
 use Rattle.writer.specs.Writer.{firstUnwritten}
-use Rattle.writer.specs.declared.Moment.{Moment}
+use Rattle.pieces.specs.declared.Moment.{Moment}
 use Rattle.readback.specs.Settings.{filledBy, expected}
 use Rattle.readback.proofs.Compatible.{together}
 use Rattle.readback.proofs.Groups.{EachFull, Grouped, grouped, pieces-below, expected-same}

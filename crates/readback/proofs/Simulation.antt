@@ -19,10 +19,10 @@ use Rattle.strtol.specs.Runs.{spaces}
 use Rattle.template.specs.Template.{action}
 use Rattle.template.specs.declared.Node.{Node}
 use Rattle.writer.specs.Full.{pieces, times}
-use Rattle.writer.specs.Moment.{moment, IsMoment}
-use Rattle.writer.specs.Pieces.{pieceOf, pieceText}
+use Rattle.pieces.specs.Moment.{moment, IsMoment}
+use Rattle.pieces.specs.Pieces.{pieceOf, pieceText}
 use Rattle.writer.specs.Text.{nodeText, nodesText}
-use Rattle.writer.specs.declared.Moment.{Moment}
+use Rattle.pieces.specs.declared.Moment.{Moment}
 use Rattle.readback.specs.Settings.{expected}
 use Rattle.readback.proofs.Actions.{pattern-step}
 use Rattle.readback.proofs.Ahead.{Ahead, ahead-within, ahead-spaces, ahead-skip, ink-ahead}

@@ -21,10 +21,10 @@ use Rattle.strtol.specs.Runs.{leading, digits}
 use Rattle.template.specs.Template.{action}
 use Rattle.template.specs.declared.Node.{Node}
 use Rattle.writer.specs.Full.{pieces, times}
-use Rattle.writer.specs.Pieces.{micros, pieceOf, pieceText}
+use Rattle.pieces.specs.Pieces.{micros, pieceOf, pieceText}
 use Rattle.writer.specs.Text.{nodeText, nodesText, literalText}
 use Rattle.writer.specs.Writer.{isWritten, firstUnwritten}
-use Rattle.writer.specs.declared.Moment.{Moment}
+use Rattle.pieces.specs.declared.Moment.{Moment}
 use Rattle.readback.proofs.Ahead.{Ahead, ink-ahead, ink-some, ahead-all}
 use Rattle.readback.proofs.Known.{Reads, known, sizeFor, excess}
 use Rattle.readback.proofs.Nodes.{Literal, Good, is-literal, is-named, AllGood, lengths}

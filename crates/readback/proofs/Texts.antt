@@ -19,8 +19,8 @@ use Rattle.gregorian.proofs.Dates.{each}
 use Rattle.strtol.specs.Decimal.{decimal}
 use Rattle.strtol.specs.Runs.{leading, digits}
 use Rattle.strtol.proofs.Decimals.{AllDigits, decimal-length, decimal-digits}
-use Rattle.writer.specs.Pieces.{marker, dottedMarker, widthOf, numberOf, markerText, isMorning, pieceText}
-use Rattle.writer.specs.declared.Moment.{Moment}
+use Rattle.pieces.specs.Pieces.{marker, dottedMarker, widthOf, numberOf, markerText, isMorning, pieceText}
+use Rattle.pieces.specs.declared.Moment.{Moment}
 use Rattle.readback.proofs.Ahead.{inked}
 use Rattle.readback.proofs.Known.{sizeFor}
 

@@ -19,9 +19,9 @@ use Rattle.tasks.specs.declared.Fields.{Fields}
 use Rattle.wrapping.specs.Wrap.{wrap32}
 use Rattle.wrapping.proofs.Small.{wrap-pos}
 use Rattle.writer.specs.Full.{times}
-use Rattle.writer.specs.Moment.{moment, IsMoment}
-use Rattle.writer.specs.Pieces.{widthOf, numberOf, isMorning}
-use Rattle.writer.specs.declared.Moment.{Moment}
+use Rattle.pieces.specs.Moment.{moment, IsMoment}
+use Rattle.pieces.specs.Pieces.{widthOf, numberOf, isMorning}
+use Rattle.pieces.specs.declared.Moment.{Moment}
 use Rattle.readback.specs.Settings.{settings, ownOf, filledBy}
 use Rattle.readback.proofs.Known.{taskFor, modeFor}
 

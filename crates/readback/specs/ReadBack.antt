@@ -14,10 +14,10 @@ use Rattle.parts.specs.declared.Answer.the-variants.{Moment as Accepted}
 use Rattle.clock.specs.declared.Offset.the-variants.{Absent}
 use Rattle.parts.specs.declared.Parts.{Parts}
 use Rattle.writer.specs.Full.{isFull}
-use Rattle.writer.specs.Moment.{isMoment}
+use Rattle.pieces.specs.Moment.{isMoment}
 use Rattle.writer.specs.Text.{textOf}
 use Rattle.writer.specs.Writer.{writtenTo, bufferAfter}
-use Rattle.writer.specs.declared.Moment.{Moment}
+use Rattle.pieces.specs.declared.Moment.{Moment}
 use Rattle.writer.specs.declared.Written.{Written}
 use Rattle.writer.specs.declared.Written.the-variants.{Length, Refused}
 use Rattle.readback.specs.declared.Again.{Again}

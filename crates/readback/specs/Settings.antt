@@ -12,9 +12,9 @@ use Rattle.patterns.specs.Patterns as P
 use Rattle.tasks.specs.Fields as F
 use Rattle.tasks.specs.declared.Fields.{Fields}
 use Rattle.writer.specs.Full.{times}
-use Rattle.writer.specs.Moment.{moment}
-use Rattle.writer.specs.Pieces.{year, month, day, yearDay, weekYear, week, weekday, hour24, hour12, minute, second, daySecond, micros, marker, dottedMarker, numberOf, isMorning}
-use Rattle.writer.specs.declared.Moment.{Moment}
+use Rattle.pieces.specs.Moment.{moment}
+use Rattle.pieces.specs.Pieces.{year, month, day, yearDay, weekYear, week, weekday, hour24, hour12, minute, second, daySecond, micros, marker, dottedMarker, numberOf, isMorning}
+use Rattle.pieces.specs.declared.Moment.{Moment}
 
 -- what goes into a field: a number whatever the moment is, or the piece's own
 pub data Kept : Type 0 where

@@ -6,7 +6,7 @@ ghost use Rattle.readback.specs.ReadBack.{WroteAndRead, readAgain};
 use instants::Day;
 use instants::Instant;
 use parts::Answer;
-use writer::Moment;
+use pieces::Moment;
 use writer::Unwritten;
 use writer::Written;
 

@@ -10,7 +10,7 @@ use Rattle.parts.specs.Parts.{partsBy, partsOf, templateLimit}
 use Rattle.template.specs.Bytes.{nodesIn}
 use Rattle.writer.specs.Text.{textOf}
 use Rattle.writer.specs.Writer.{textIn, writtenIn, writtenTo}
-use Rattle.writer.specs.declared.Moment.{Moment}
+use Rattle.pieces.specs.declared.Moment.{Moment}
 use Rattle.sorbilgan.specs.Compiled.{compiled}
 
 -- the answers to every input, moment and buffer

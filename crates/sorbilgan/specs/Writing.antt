@@ -7,7 +7,7 @@ use lib.ListN.{length}
 use Rattle.writer.specs.Report.{unwrittenReport}
 use Rattle.writer.specs.Text.{textOf}
 use Rattle.writer.specs.Writer.{bufferAfter, textIn, writtenIn, writtenTo}
-use Rattle.writer.specs.declared.Moment.{Moment}
+use Rattle.pieces.specs.declared.Moment.{Moment}
 use Rattle.writer.specs.declared.Unwritten.the-variants.{NoRoom}
 use Rattle.writer.specs.declared.Written.{Written}
 use Rattle.writer.specs.declared.Written.the-variants.{Length, Refused}

@@ -5,7 +5,7 @@ ghost use Rattle.writer.specs.declared.Written.the-variants.{Length};
 ghost use Rattle.sorbilgan.specs.Words.{Told};
 ghost use Rattle.sorbilgan.specs.Writing.{ToldWrite, ToldWriteBy, moment, writtenWords};
 use crate::words::put_value;
-use writer::Moment;
+use pieces::Moment;
 use writer::Written;
 
 fn put_written(w: Written, out: &mut [i64; 5]) -> u8

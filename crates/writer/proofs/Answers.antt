@@ -12,10 +12,10 @@ use Rattle.writer.specs.declared.Unwritten.the-variants.{TooLong, NotUtf
 use Rattle.chars.specs.Utf8.{wellFormed}
 use Rattle.template.specs.Bytes.{nodesIn}
 use Rattle.template.specs.Template.{nodesOf}
-use Rattle.writer.specs.Moment.{isMoment}
+use Rattle.pieces.specs.Moment.{isMoment}
 use Rattle.writer.specs.Text.{nodesText, textOf}
 use Rattle.writer.specs.Writer.{Wrote, WroteBy, bufferAfter, firstUnwritten, textIn, writtenIn, writtenTo}
-use Rattle.writer.specs.declared.Moment.{Moment}
+use Rattle.pieces.specs.declared.Moment.{Moment}
 use Rattle.writer.specs.declared.Written.{Written}
 use Rattle.writer.specs.declared.Written.the-variants.{Length, Refused}
 

@@ -1,8 +1,4 @@
 -- Laws of writing.
-pub mod Puts
-pub mod PieceTable
 pub mod Lengths
-pub mod Moments
-mod Held
 mod Turns
 mod Answers

@@ -12,11 +12,11 @@ use Rattle.template.specs.Template.{endNode}
 use Rattle.template.specs.declared.Node.{Node}
 use Rattle.template.proofs.Encoding.{nodes-length}
 use Rattle.writer.specs.Measure.{nodeLength, nodesLength}
-use Rattle.writer.specs.Output.{Put}
+use Rattle.pieces.specs.Output.{Put}
 use Rattle.writer.specs.Text.{nodeText, nodesText}
 use Rattle.writer.specs.Writer.{firstUnwritten, isWritten}
-use Rattle.writer.specs.declared.Moment.{Moment}
-use Rattle.writer.proofs.Puts.{put-after}
+use Rattle.pieces.specs.declared.Moment.{Moment}
+use Rattle.pieces.proofs.Puts.{put-after}
 
 -- as many nodes as the loops over their bytes count
 module _ (c : List ℕ) (i : ℕ) where

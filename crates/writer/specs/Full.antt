@@ -16,7 +16,7 @@ use Rattle.patterns.specs.Affixes.{bitAt}
 use Rattle.patterns.specs.Search.{countFrom, patternAt}
 use Rattle.template.specs.Template.{action, kindOf, charPlace, literalAt, plainAt, stepAt, nodesFrom, nodesOf}
 use Rattle.template.specs.declared.Node.{Node}
-use Rattle.writer.specs.Pieces.{year, month, day, yearDay, weekYear, week, weekday, hour24, hour12, minute, second, daySecond, micros, marker, dottedMarker, pieceOf}
+use Rattle.pieces.specs.Pieces.{year, month, day, yearDay, weekYear, week, weekday, hour24, hour12, minute, second, daySecond, micros, marker, dottedMarker, pieceOf}
 use Rattle.writer.specs.Writer.{isWritten, firstUnwritten}
 
 -- the pieces of a template's patterns, in order

@@ -3,17 +3,13 @@ use mathlib.Core.Path.{_≡_, refl}
 use mathlib.Core.List.{List, [], _∷_}
 use Prim.Native.Nat.{ℕ, _+_}
 use lib.Dec.{eqb}
-use lib.ListN.{getD, length}
+use lib.ListN.{length}
 use Rattle.notation.specs.Choice.{if_then_else_}
 use Rattle.notation.specs.Text.{utf8}
 use Rattle.template.specs.Template.{action, character, literal, pattern}
 use Rattle.template.specs.declared.Node.{Node}
-use Rattle.writer.specs.Pieces.{pieceOf}
+use Rattle.pieces.specs.Pieces.{pieceLength, pieceOf}
 use Rattle.writer.specs.Text.{literalText}
-
--- the bytes of a piece: the digits of a number, two or four of a marker
-abbrev pub pieceLength : ℕ → ℕ
-pieceLength p = getD (0 ∷ 4 ∷ 2 ∷ 2 ∷ 3 ∷ 4 ∷ 2 ∷ 1 ∷ 2 ∷ 2 ∷ 2 ∷ 2 ∷ 5 ∷ 6 ∷ 2 ∷ 4 ∷ []) p 0
 
 unfoldable pub nodeLength : List ℕ → Node → ℕ
 nodeLength t n = if eqb (n .kind) action then pieceLength (pieceOf (n .pattern)) else length (literalText t n)

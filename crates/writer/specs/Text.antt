@@ -14,9 +14,9 @@ use Rattle.patterns.specs.Search.{patternAt}
 use Rattle.strtol.specs.Decimal.{decimal}
 use Rattle.template.specs.Template.{action, kindOf, charPlace, literalAt, plainAt, stepAt, nodesFrom, nodesOf}
 use Rattle.template.specs.declared.Node.{Node}
-use Rattle.writer.specs.Moment.{moment}
-use Rattle.writer.specs.Pieces.{pieceOf, pieceText, numberOf}
-use Rattle.writer.specs.declared.Moment.{Moment}
+use Rattle.pieces.specs.Moment.{moment}
+use Rattle.pieces.specs.Pieces.{pieceOf, pieceText, numberOf}
+use Rattle.pieces.specs.declared.Moment.{Moment}
 
 -- the bytes of a literal node, as far as the template has them
 abbrev pub literalText : List ℕ → Node → List ℕ

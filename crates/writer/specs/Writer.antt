@@ -11,10 +11,10 @@ use Rattle.parts.specs.Parts.{templateLimit}
 use Rattle.template.specs.Bytes.{nodesIn, nodesLimit}
 use Rattle.template.specs.Template.{action, nodesOf}
 use Rattle.template.specs.declared.Node.{Node}
-use Rattle.writer.specs.Moment.{isMoment}
-use Rattle.writer.specs.Pieces.{none, pieceOf}
+use Rattle.pieces.specs.Moment.{isMoment}
+use Rattle.pieces.specs.Pieces.{none, pieceOf}
 use Rattle.writer.specs.Text.{nodesText, textOf}
-use Rattle.writer.specs.declared.Moment.{Moment}
+use Rattle.pieces.specs.declared.Moment.{Moment}
 use Rattle.writer.specs.declared.Unwritten.the-variants.{TooLong, NotUtf8, NotWritten, NoMoment, NoRoom}
 use Rattle.writer.specs.declared.Written.{Written}
 use Rattle.writer.specs.declared.Written.the-variants.{Length, Refused}

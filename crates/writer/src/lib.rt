@@ -1,38 +1,24 @@
 // Writing a moment by a template.
-mod numbers;
-mod output;
-mod pieces;
-
 ghost use mathlib.Core.Path.{_≡_};
 ghost use mathlib.Core.Bool.{true};
 ghost use Prim.Native.Nat.{_+_, _≤_};
 ghost use lib.ListN.{length};
 ghost use lib.Seq.{sets};
 ghost use Rattle.template.specs.Bytes.{nodesIn};
-ghost use Rattle.writer.specs.Moment.{isMoment};
+ghost use Rattle.pieces.specs.Moment.{isMoment};
 ghost use Rattle.writer.specs.Measure.{nodeLength, nodesLength};
-ghost use Rattle.writer.specs.Output.{Put};
+ghost use Rattle.pieces.specs.Output.{Put};
 ghost use Rattle.writer.specs.Report.{unwrittenReport};
-ghost use Rattle.writer.specs.Tables.{pieceTable};
+ghost use Rattle.pieces.specs.Tables.{pieceTable};
 ghost use Rattle.writer.specs.Text.{literalText, nodeText};
 ghost use Rattle.writer.specs.Writer.{Wrote, WroteBy, firstUnwritten, isWritten, textIn};
 use answers::NO_PATTERN;
 use answers::Report;
+use pieces::Moment;
 use template::FN_ACTION;
 use template::NODE;
 use template::NODES;
 use template::Node;
-
-// A moment: seven numbers.
-pub struct Moment {
-    pub year: i32,
-    pub month: i32,
-    pub day: i32,
-    pub hour: i32,
-    pub minute: i32,
-    pub second: i32,
-    pub micros: i32,
-}
 
 // Why nothing is written.
 pub enum Unwritten {
@@ -150,7 +136,7 @@ fn put_node(table: &[u8; 112], t: &[u8], n: Node, m: Moment, out: &mut [u8], at:
     }
     let start = n.start as usize;
     let end = start + len;
-    output::put_bytes(&t[start..end], out, at)
+    pieces::put_bytes(&t[start..end], out, at)
 }
 
 fn put_nodes(table: &[u8; 112], c: &[u8], t: &[u8], m: Moment, out: &mut [u8])
@@ -178,7 +164,7 @@ pub fn write_by(c: &[u8], t: &[u8], m: Moment, out: &mut [u8]) -> Written
     if unwritten < NO_PATTERN {
         return Written::Refused(Unwritten::NotWritten { pattern: unwritten });
     }
-    if !numbers::is_moment(m) {
+    if !pieces::is_moment(m) {
         return Written::Refused(Unwritten::NoMoment);
     }
     let needed = text_length(&table, c, t);

@@ -3,8 +3,8 @@ use native.Mathlib.Omega.{arith}
 use borrow.Author.Needs.{needs}
 use borrow.Author.Tests.{eq-eqb, ne-eqb}
 use Rattle.writer.specs.Measure.{nodeLength}
-use Rattle.writer.proofs.Lengths.{short-piece}
-use Rattle.writer.proofs.PieceTable.{piece-range}
+use Rattle.pieces.proofs.Lengths.{short-piece}
+use Rattle.pieces.proofs.PieceTable.{piece-range}
 use Rattle.writer.proofs.node_length.Statement.{statement}
 use Rattle.writer.proofs.node_length.Tie as tie
 

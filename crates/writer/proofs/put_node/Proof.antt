@@ -5,11 +5,11 @@ use Prim.Native.Nat.{_+_, _-_}
 use borrow.Author.Needs.{needs}
 use denote.Ref.{now}
 use lib.ListN.{take, drop}
-use Rattle.writer.specs.Pieces.{pieceOf, pieceText}
+use Rattle.pieces.specs.Pieces.{pieceOf, pieceText}
 use Rattle.writer.specs.Text.{nodeText}
 use Rattle.writer.proofs.Lengths.{action-text, literal-end, literal-part, literal-text, no-literal}
-use Rattle.writer.proofs.PieceTable.{piece-range}
-use Rattle.writer.proofs.Puts.{put-nothing}
+use Rattle.pieces.proofs.PieceTable.{piece-range}
+use Rattle.pieces.proofs.Puts.{put-nothing}
 use Rattle.writer.proofs.put_node.Statement.{statement}
 use Rattle.writer.proofs.put_node.Tie as tie
 

@@ -9,7 +9,7 @@ use lib.Seq.{sets}
 use Rattle.template.specs.Bytes.{nodesIn}
 use Rattle.writer.specs.Text.{nodesText}
 use Rattle.writer.specs.Writer.{textIn}
-use Rattle.writer.proofs.Puts.{put-length}
+use Rattle.pieces.proofs.Puts.{put-length}
 use Rattle.writer.proofs.Turns.{node-left, none-left, put-next, room-here, text-end}
 use Rattle.writer.proofs.put_nodes.Statement.{statement}
 use Rattle.writer.proofs.put_nodes.Tie as tie

@@ -6,7 +6,7 @@ use borrow.Author.Needs.{needs}
 use borrow.Author.Tests.{not-true, not-false}
 use denote.Ref.{now}
 use lib.ListN.{length}
-use Rattle.writer.specs.Moment.{isMoment}
+use Rattle.pieces.specs.Moment.{isMoment}
 use Rattle.writer.specs.Writer.{textIn}
 use Rattle.writer.proofs.Answers.{many, not-written, no-moment, no-room, wrote}
 use Rattle.writer.proofs.Lengths.{nodes-size}
