@@ -12,7 +12,7 @@ use Rattle.parts.specs.Parts.{templateLimit}
 use Rattle.template.specs.Template.{nodesOf}
 use Rattle.pieces.specs.Moment.{isMoment}
 use Rattle.writer.specs.Text.{textOf}
-use Rattle.writer.specs.Writer.{Wrote, firstUnwritten, writtenTo}
+use Rattle.writer.specs.Writer.{Wrote, allWritten, firstUnwritten, writtenTo}
 use Rattle.pieces.specs.declared.Moment.{Moment}
 use Rattle.writer.specs.declared.Unwritten.the-variants.{TooLong, NotUtf8, NotWritten, NoMoment, NoRoom}
 use Rattle.writer.specs.declared.Written.{Written}
@@ -41,7 +41,7 @@ within t m room =
     let n = length (textOf t m) in
     either room (ltb templateLimit (length t)) (Refused TooLong) _ tt
     (either room (not (wellFormed t)) (Refused NotUtf8) _ tt
-    (either room (ltb u 112) (Refused (NotWritten u)) _ tt (either room (not (isMoment m)) (Refused NoMoment) _ tt (measured room n))))
+    (either room (ltb u allWritten) (Refused (NotWritten u)) _ tt (either room (not (isMoment m)) (Refused NoMoment) _ tt (measured room n))))
 
 pub length-within
     : (t : List ℕ) (m : Moment) (before after : List ℕ) (r : Written) (n : ℕ) → Wrote t m before after r → r ≡ Length n → n ≤ length before

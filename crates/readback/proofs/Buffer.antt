@@ -14,7 +14,7 @@ use Rattle.parts.specs.Parts.{templateLimit}
 use Rattle.template.specs.Template.{nodesOf}
 use Rattle.pieces.specs.Moment.{isMoment}
 use Rattle.writer.specs.Text.{textOf}
-use Rattle.writer.specs.Writer.{Wrote, bufferAfter, firstUnwritten, writtenTo}
+use Rattle.writer.specs.Writer.{Wrote, allWritten, bufferAfter, firstUnwritten, writtenTo}
 use Rattle.pieces.specs.declared.Moment.{Moment}
 use Rattle.writer.specs.declared.Unwritten.{Unwritten}
 use Rattle.writer.specs.declared.Written.{Written}
@@ -35,7 +35,7 @@ module _ (t : List ℕ) (m : Moment) where
   measured room =
       by-if (Measured room) (ltb templateLimit (length t)) _ _ (λ e. tt)
       (λ e. by-if (Measured room) (not (wellFormed t)) _ _ (λ e. tt)
-      (λ e. by-if (Measured room) (ltb (firstUnwritten (nodesOf t)) 112) _ _ (λ e. tt)
+      (λ e. by-if (Measured room) (ltb (firstUnwritten (nodesOf t)) allWritten) _ _ (λ e. tt)
       (λ e. by-if (Measured room) (not (isMoment m)) _ _ (λ e. tt)
       (λ e. by-if (Measured room) (ltb room (length (textOf t m))) _ _ (λ e. tt) (λ e. (refl, ltb-false room (length (textOf t m)) e))))))
 

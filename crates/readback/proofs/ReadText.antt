@@ -19,7 +19,7 @@ use Rattle.writer.specs.Full.{pieces, times, areFull, isFull}
 use Rattle.pieces.specs.Moment.{moment, IsMoment}
 use Rattle.pieces.specs.Pieces.{micros}
 use Rattle.writer.specs.Text.{nodesText, textOf}
-use Rattle.writer.specs.Writer.{firstUnwritten}
+use Rattle.writer.specs.Writer.{allWritten, firstUnwritten}
 use Rattle.pieces.specs.declared.Moment.{Moment}
 use Rattle.readback.specs.Settings.{filledBy, expected}
 use Rattle.readback.proofs.Compatible.{together}
@@ -45,7 +45,7 @@ none-expected m = refl
 pub record Full (t : List ℕ) : Type 0 where
   pub short : length t ≤ templateLimit
   pub text : wellFormed t ≡ true
-  pub known : firstUnwritten (nodesOf t) ≡ 112
+  pub known : firstUnwritten (nodesOf t) ≡ allWritten
   pub full : areFull (pieces (nodesOf t)) ≡ true
 
 pub full-is : (t : List ℕ) → isFull t ≡ true → Full t
@@ -53,7 +53,7 @@ unfolding isFull
 full-is t e =
     let a = both (leb (length t) templateLimit) _ e in
     let b = both (wellFormed t) _ (a .1) in
-    let c = both (eqb (firstUnwritten (nodesOf t)) 112) _ (b .1) in
+    let c = both (eqb (firstUnwritten (nodesOf t)) allWritten) _ (b .1) in
     record { short = leb-true _ _ (a .0); text = b .0; known = eqb-true _ _ (c .0); full = c .1 }
 
 module _ (t : List ℕ) (is-full : isFull t ≡ true) where

@@ -4,7 +4,7 @@ use mathlib.Core.Bool.{Bool, true, false, not, false≢true}
 use mathlib.Core.List.{List, [], _∷_, _++_}
 use Prim.Native.Nat.{ℕ, suc, _+_, _*_, _≤_}
 use native.Mathlib.Omega.{arith}
-use borrow.Author.Tests.{eqb-true, eq-eqb, ltb-false, not-true}
+use borrow.Author.Tests.{eqb-true, eq-eqb, lt-ltb, ltb-false, not-true}
 use lib.Dec.{eqb, ltb}
 use lib.ListN.{length, length-append}
 use Rattle.notation.specs.Choice.{if_then_else_}
@@ -23,7 +23,7 @@ use Rattle.template.specs.declared.Node.{Node}
 use Rattle.writer.specs.Full.{pieces, times}
 use Rattle.pieces.specs.Pieces.{micros, pieceOf, pieceText}
 use Rattle.writer.specs.Text.{nodeText, nodesText, literalText}
-use Rattle.writer.specs.Writer.{isWritten, firstUnwritten}
+use Rattle.writer.specs.Writer.{allWritten, firstUnwritten, isWritten, named}
 use Rattle.pieces.specs.declared.Moment.{Moment}
 use Rattle.readback.proofs.Ahead.{Ahead, ink-ahead, ink-some, ahead-all}
 use Rattle.readback.proofs.Known.{Reads, known, sizeFor, excess}
@@ -61,15 +61,15 @@ module _ (t : List ℕ) where
       })
 
   -- only a pattern is not written
-  written : (n : Node) (rest : ℕ) → Good t n → (if isWritten n then rest else n .pattern) ≡ 112 → (isWritten n ≡ true) × (rest ≡ 112)
+  written : (n : Node) (rest : ℕ) → Good t n → (if isWritten n then rest else named (n .pattern)) ≡ allWritten → (isWritten n ≡ true) × (rest ≡ allWritten)
   written n rest g e = by (isWritten n) refl g e
     where
-      by : (w : Bool) → isWritten n ≡ w → Good t n → (if w then rest else n .pattern) ≡ 112 → (w ≡ true) × (rest ≡ 112)
+      by : (w : Bool) → isWritten n ≡ w → Good t n → (if w then rest else named (n .pattern)) ≡ allWritten → (w ≡ true) × (rest ≡ allWritten)
       by true q g e = (refl, e)
       by false q (is-literal l) e = absurd (false≢true (sym q ∙ rw (l .no-action)))
-      by false q (is-named k) e = absurd (omega (arith, k .known))
+      by false q (is-named k) e = absurd (omega (arith, rw (lt-ltb (n .pattern) 112 (k .known)) at e, k .known))
 
-  pub sound-nodes : (ns : List Node) → AllGood t ns → firstUnwritten ns ≡ 112 → AllSound t ns
+  pub sound-nodes : (ns : List Node) → AllGood t ns → firstUnwritten ns ≡ allWritten → AllSound t ns
   unfolding firstUnwritten
   sound-nodes [] g e = tt
   sound-nodes (n ∷ ns) g e =

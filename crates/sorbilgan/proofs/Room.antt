@@ -13,7 +13,7 @@ use Rattle.template.specs.Bytes.{nodesIn}
 use Rattle.template.specs.Template.{nodesOf}
 use Rattle.pieces.specs.Moment.{isMoment}
 use Rattle.writer.specs.Text.{textOf}
-use Rattle.writer.specs.Writer.{firstUnwritten, textIn, writtenBy, writtenIn, writtenTo}
+use Rattle.writer.specs.Writer.{allWritten, firstUnwritten, textIn, writtenBy, writtenIn, writtenTo}
 use Rattle.pieces.specs.declared.Moment.{Moment}
 use Rattle.writer.specs.declared.Unwritten.{Unwritten}
 use Rattle.writer.specs.declared.Written.{Written}
@@ -29,7 +29,7 @@ module _ (room : ℕ) where
 
   by-fits : (u : ℕ) (m : Moment) (text : List ℕ) → Fitting room (writtenBy u m text room)
   by-fits u m text =
-      by-if (Fitting room) (ltb u 112) _ _ (λ e. refused _)
+      by-if (Fitting room) (ltb u allWritten) _ _ (λ e. refused _)
       (λ e. by-if (Fitting room) (not (isMoment m)) _ _ (λ e. refused _)
       (λ e. by-if (Fitting room) (ltb room (length text)) _ _ (λ e. refused _)
       (λ e n q. let s : length text ≡ n = cc in omega (arith, ltb-false room (length text) e))))

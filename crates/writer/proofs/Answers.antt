@@ -45,25 +45,25 @@ module _ (c t : List ℕ) (m : Moment) (out : List ℕ) where
   many h = record { is = rw (lt-ltb 1536 (length c) h); buffer = refl }
 
   module _ (few : length c ≤ 1536) (u : ℕ) (first : u ≡ firstUnwritten (nodesIn c)) where
-    pub not-written : u < 112 → WroteBy c t m out out (Refused (NotWritten u))
+    pub not-written : u < 113 → WroteBy c t m out out (Refused (NotWritten u))
     unfolding writtenIn
-    not-written h = record { is = rw (le-ltb 1536 (length c) few, ← first, lt-ltb u 112 h); buffer = refl }
+    not-written h = record { is = rw (le-ltb 1536 (length c) few, ← first, lt-ltb u 113 h); buffer = refl }
 
-    module _ (none : 112 ≤ u) where
+    module _ (none : 113 ≤ u) where
       pub no-moment : isMoment m ≡ false → WroteBy c t m out out (Refused NoMoment)
       unfolding writtenIn
-      no-moment e = record { is = rw (le-ltb 1536 (length c) few, ← first, le-ltb u 112 none, e); buffer = refl }
+      no-moment e = record { is = rw (le-ltb 1536 (length c) few, ← first, le-ltb u 113 none, e); buffer = refl }
 
       module _ (moment : isMoment m ≡ true) (n : ℕ) (needed : n ≡ length (textIn c t m)) where
         pub no-room : length out < n → WroteBy c t m out out (Refused (NoRoom n))
         unfolding writtenIn
         no-room h =
-            record { is = rw (le-ltb 1536 (length c) few, ← first, le-ltb u 112 none, moment, ← needed, lt-ltb (length out) n h); buffer = refl }
+            record { is = rw (le-ltb 1536 (length c) few, ← first, le-ltb u 113 none, moment, ← needed, lt-ltb (length out) n h); buffer = refl }
 
         pub wrote : (after : List ℕ) → n ≤ length out → after ≡ sets out 0 (textIn c t m) → WroteBy c t m out after (Length n)
         unfolding writtenIn
         wrote after h e =
             record {
-              is = rw (le-ltb 1536 (length c) few, ← first, le-ltb u 112 none, moment, ← needed, le-ltb (length out) n h);
+              is = rw (le-ltb 1536 (length c) few, ← first, le-ltb u 113 none, moment, ← needed, le-ltb (length out) n h);
               buffer = e ∙ sets-eq (textIn c t m) out 0 (omega arith) ∙ rw (zero-add (length (textIn c t m)), needed);
             }

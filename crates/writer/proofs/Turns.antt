@@ -14,7 +14,7 @@ use Rattle.template.proofs.Encoding.{nodes-length}
 use Rattle.writer.specs.Measure.{nodeLength, nodesLength}
 use Rattle.pieces.specs.Output.{Put}
 use Rattle.writer.specs.Text.{nodeText, nodesText}
-use Rattle.writer.specs.Writer.{firstUnwritten, isWritten}
+use Rattle.writer.specs.Writer.{allWritten, firstUnwritten, isWritten, named}
 use Rattle.pieces.specs.declared.Moment.{Moment}
 use Rattle.pieces.proofs.Puts.{put-after}
 
@@ -41,7 +41,7 @@ module _ (nodes : List Node) (i : ℕ) where
     one : left ≡ here ∷ next
     one = drop-cons nodes i endNode h ∙ rw (add-one i)
 
-    pub unwritten-here : isWritten here ≡ false → firstUnwritten left ≡ here .pattern
+    pub unwritten-here : isWritten here ≡ false → firstUnwritten left ≡ named (here .pattern)
     unfolding firstUnwritten
     unwritten-here e = rw (one, e)
 
@@ -76,7 +76,7 @@ module _ (nodes : List Node) (i : ℕ) where
     none : left ≡ []
     none = drop-of-length-le nodes {i = i} h
 
-    pub unwritten-end : firstUnwritten left ≡ 112
+    pub unwritten-end : firstUnwritten left ≡ allWritten
     unfolding firstUnwritten
     unwritten-end = rw none
 

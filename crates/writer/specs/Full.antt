@@ -17,7 +17,7 @@ use Rattle.patterns.specs.Search.{countFrom, patternAt}
 use Rattle.template.specs.Template.{action, kindOf, charPlace, literalAt, plainAt, stepAt, nodesFrom, nodesOf}
 use Rattle.template.specs.declared.Node.{Node}
 use Rattle.pieces.specs.Pieces.{year, month, day, yearDay, weekYear, week, weekday, hour24, hour12, minute, second, daySecond, micros, marker, dottedMarker, pieceOf}
-use Rattle.writer.specs.Writer.{isWritten, firstUnwritten}
+use Rattle.writer.specs.Writer.{allWritten, firstUnwritten}
 
 -- the pieces of a template's patterns, in order
 unfoldable pub pieces : List Node → List ℕ
@@ -59,7 +59,7 @@ unfoldable pub areFull : List ℕ → Bool
 areFull ps = anyOf dateGroups (λ date. anyOf timeGroups (λ time. same ps (date ++ time ++ micros ∷ [])))
 
 unfoldable pub isFull : List ℕ → Bool
-isFull t = leb (length t) templateLimit && (wellFormed t && (eqb (firstUnwritten (nodesOf t)) 112 && areFull (pieces (nodesOf t))))
+isFull t = leb (length t) templateLimit && (wellFormed t && (eqb (firstUnwritten (nodesOf t)) allWritten && areFull (pieces (nodesOf t))))
 
 -- an ISO date and time is full; without its microseconds it is not; a dropped prefix does not count
 pub worked

@@ -1,15 +1,16 @@
 -- The writer's answer, and the buffer after it.
-use mathlib.Core.Path.{_≡_}
+use mathlib.Core.Path.{_≡_, refl}
 use mathlib.Core.Bool.{Bool, not, _&&_, _||_}
 use mathlib.Core.List.{List, [], _∷_, _++_}
 use Prim.Native.Nat.{ℕ}
 use lib.Dec.{eqb, ltb}
 use lib.ListN.{length, drop}
 use Rattle.notation.specs.Choice.{if_then_else_}
+use Rattle.answers.specs.Report.{noPattern}
 use Rattle.chars.specs.Utf8.{wellFormed}
 use Rattle.parts.specs.Parts.{templateLimit}
 use Rattle.template.specs.Bytes.{nodesIn, nodesLimit}
-use Rattle.template.specs.Template.{action, nodesOf}
+use Rattle.template.specs.Template.{action, nodesOf, pattern}
 use Rattle.template.specs.declared.Node.{Node}
 use Rattle.pieces.specs.Moment.{isMoment}
 use Rattle.pieces.specs.Pieces.{none, pieceOf}
@@ -23,16 +24,31 @@ use Rattle.writer.specs.declared.Written.the-variants.{Length, Refused}
 abbrev pub isWritten : Node → Bool
 isWritten n = not (eqb (n .kind) action) || not (eqb (pieceOf (n .pattern)) none) && eqb (n .suffix) 0
 
--- the first node that it does not write, by its pattern; none is past the table
+-- a pattern as a refusal names it: any number past the table is no pattern
+abbrev pub named : ℕ → ℕ
+named p = if ltb p noPattern then p else noPattern
+
+-- where every node is written
+abbrev pub allWritten : ℕ
+allWritten = 113
+
+-- the first node that it does not write, by its pattern
 unfoldable pub firstUnwritten : List Node → ℕ
-firstUnwritten [] = 112
-firstUnwritten (n ∷ ns) = if isWritten n then firstUnwritten ns else n .pattern
+firstUnwritten [] = allWritten
+firstUnwritten (n ∷ ns) = if isWritten n then firstUnwritten ns else named (n .pattern)
+
+-- FF1 behind YYYY; a pattern of which no template tells hides none behind it
+pub worked
+    : (firstUnwritten (pattern 0 4 54 0 ∷ []) ≡ allWritten) × (firstUnwritten (pattern 0 4 54 0 ∷ pattern 4 3 14 0 ∷ []) ≡ 14)
+    × (firstUnwritten (pattern 0 1 200 0 ∷ pattern 1 3 14 0 ∷ []) ≡ noPattern)
+unfolding firstUnwritten pieceOf
+worked = (refl, refl, refl)
 
 -- the answer by the first pattern that is not written, for a text and a buffer of a length
 abbrev pub writtenBy : ℕ → Moment → List ℕ → ℕ → Written
 writtenBy unwritten m text room =
     let needed = length text in
-    if ltb unwritten 112 then Refused (NotWritten unwritten)
+    if ltb unwritten allWritten then Refused (NotWritten unwritten)
     else if not (isMoment m) then Refused NoMoment
     else if ltb room needed then Refused (NoRoom needed)
     else Length needed

@@ -11,7 +11,7 @@ ghost use Rattle.pieces.specs.Output.{Put};
 ghost use Rattle.writer.specs.Report.{unwrittenReport};
 ghost use Rattle.pieces.specs.Tables.{pieceTable};
 ghost use Rattle.writer.specs.Text.{literalText, nodeText};
-ghost use Rattle.writer.specs.Writer.{Wrote, WroteBy, firstUnwritten, isWritten, textIn};
+ghost use Rattle.writer.specs.Writer.{Wrote, WroteBy, firstUnwritten, isWritten, named, textIn};
 use answers::NO_PATTERN;
 use answers::Report;
 use pieces::Moment;
@@ -68,6 +68,19 @@ fn is_written(table: &[u8; 112], n: Node) -> bool
     n.suffix == 0
 }
 
+// Where every node is written: behind each pattern, and behind the number that stands for none.
+const ALL_WRITTEN: u8 = NO_PATTERN + 1;
+
+// A pattern as a refusal names it.
+fn named(pattern: u8) -> u8
+    ensures { λ r. ⌜ r ≡ named pattern ⌝ }
+{
+    if pattern < NO_PATTERN {
+        return pattern;
+    }
+    NO_PATTERN
+}
+
 // The first pattern that is not written, of the nodes that the bytes hold.
 fn first_unwritten(table: &[u8; 112], c: &[u8]) -> u8
     requires { ⌜ now table ≡ pieceTable ⌝ }
@@ -77,11 +90,11 @@ fn first_unwritten(table: &[u8; 112], c: &[u8]) -> u8
     while i < c.len() / NODE {
         let n = template::node_at(c, i);
         if !is_written(table, n) {
-            return n.pattern;
+            return named(n.pattern);
         }
         i += 1;
     }
-    NO_PATTERN
+    ALL_WRITTEN
 }
 
 // The bytes of a literal that the template has.
@@ -161,7 +174,7 @@ pub fn write_by(c: &[u8], t: &[u8], m: Moment, out: &mut [u8]) -> Written
     }
     let table = pieces::table();
     let unwritten = first_unwritten(&table, c);
-    if unwritten < NO_PATTERN {
+    if unwritten < ALL_WRITTEN {
         return Written::Refused(Unwritten::NotWritten { pattern: unwritten });
     }
     if !pieces::is_moment(m) {

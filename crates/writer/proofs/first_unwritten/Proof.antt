@@ -8,7 +8,7 @@ use denote.Ref.{now}
 use lib.ListN.{drop, length}
 use Rattle.template.specs.Bytes.{nodesIn}
 use Rattle.template.specs.declared.Node.{Node}
-use Rattle.writer.specs.Writer.{firstUnwritten}
+use Rattle.writer.specs.Writer.{firstUnwritten, named}
 use Rattle.writer.proofs.Turns.{node-left, none-left, unwritten-here, unwritten-next, unwritten-end}
 use Rattle.writer.proofs.first_unwritten.Statement.{statement}
 use Rattle.writer.proofs.first_unwritten.Tie as tie
@@ -21,12 +21,14 @@ abbrev μ-loop : tie.MeasureT-loop
 
 returns : tie.Need-returns Inv-loop μ-loop
 returns c =
-    let w = c .before in
+    let i = c .before in
+    let w = i .before in
     let n = w .before in
     let l = n .before .before in
     let ns = nodesIn (now (l .before .before .args .c)) in
-    let e = rw (n .node-at .ensures) at (sym (w .is-written .ensures) ∙ not-true _ (c .if1 .taken)) in
-    ap (λ (x : Node). x .pattern) (n .node-at .ensures)
+    let e = rw (n .node-at .ensures) at (sym (w .is-written .ensures) ∙ not-true _ (i .if1 .taken)) in
+    c .named .ensures
+    ∙ ap (λ (x : Node). named (x .pattern)) (n .node-at .ensures)
     ∙ sym (unwritten-here ns (l .loop .i) (node-left _ _ (n .before .loop-test .taken)) e)
     ∙ l .loop .inv .1
 
@@ -55,6 +57,7 @@ first-unwritten-spec =
     Inv-loop
     μ-loop
     (λ c. (omega arith, refl))
+    (λ c κs. search needs)
     (λ c κs. search needs)
     (λ c κs. search needs)
     returns
