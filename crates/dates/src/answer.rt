@@ -2,10 +2,9 @@
 ghost use Prim.Native.Nat.{_≤_, max};
 ghost use lib.ListN.{length};
 use crate::modes::Mode;
-use crate::output::put_report;
 use crate::reading;
-use crate::writing;
 use answers::Refusal;
+use replies::put_report;
 
 // A template and an input at their limits, and the TAB between them.
 const LINE: usize = 769;
@@ -17,7 +16,7 @@ fn answer_pair(mode: Mode, t: &[u8], s: &[u8], out: &mut [u8], at: usize) -> usi
         Mode::Parts => reading::parts(t, s, out, at),
         Mode::Instants => reading::instant(t, s, out, at),
         Mode::Days => reading::day(t, s, out, at),
-        Mode::Write => writing::text(t, s, out, at),
+        Mode::Write => moment_lines::text(t, s, out, at),
     }
 }
 

@@ -1,9 +1,7 @@
 // Reads lines and answers each with a line, by the mode that the first argument names.
 mod answer;
 mod modes;
-mod output;
 mod reading;
-mod writing;
 
 ghost use Prim.Native.Nat.{_≤_, _<_};
 ghost use lib.ListN.{length};

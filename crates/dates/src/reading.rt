@@ -1,14 +1,14 @@
 // Lines "template TAB input", answered with the parts of the moment that is read, its instant or its day.
 ghost use Prim.Native.Nat.{_≤_, max};
 ghost use lib.ListN.{length};
-use crate::output::put_accepted;
-use crate::output::put_int;
-use crate::output::put_number;
-use crate::output::put_parts;
-use crate::output::put_report;
 use instants::Day;
 use instants::Instant;
 use parts::Answer;
+use replies::put_accepted;
+use replies::put_int;
+use replies::put_number;
+use replies::put_parts;
+use replies::put_report;
 
 pub fn parts(t: &[u8], s: &[u8], out: &mut [u8], at: usize) -> usize
     ensures { λ r. ⌜ r ≤ max at (length (now (out .entry))) ⌝ }

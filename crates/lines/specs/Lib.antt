@@ -2,4 +2,3 @@
 pub mod Output
 pub mod Decimal
 pub mod Input
-pub mod Words

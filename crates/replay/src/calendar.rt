@@ -1,6 +1,6 @@
 // Questions about days, weeks and years.
-use crate::questions::Numbers;
 use crate::questions::Values;
+use question_words::Numbers;
 
 fn wide(n: i32) -> i64 {
     n as i64

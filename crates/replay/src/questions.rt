@@ -3,20 +3,14 @@ ghost use Prim.Native.Nat.{_≤_, max};
 ghost use lib.ListN.{length};
 use crate::calendar;
 use crate::text;
-use lines::Int;
 use lines::put_decimal;
+use question_words::read_numbers;
 
 // The numbers of an answer; none where the question is unknown or malformed.
 pub enum Values {
     One(i64),
     Three(i64, i64, i64),
     None,
-}
-
-// The numbers of a question: `count` of them, none where a word is no number or there are more than three.
-pub struct Numbers {
-    pub values: [i32; 3],
-    pub count: usize,
 }
 
 pub fn unknown(out: &mut [u8], at: usize) -> usize
@@ -45,26 +39,6 @@ fn put_values(out: &mut [u8], at: usize, values: Values) -> usize
         }
         Values::None => unknown(out, at),
     }
-}
-
-// The numbers of the words from `from` on, where the first one's separator stands.
-fn read_numbers(line: &[u8], from: usize) -> Numbers {
-    let mut values = [0i32; 3];
-    let mut count: usize = 0;
-    let mut at = from;
-    while at < line.len() {
-        let end = lines::find(line, at + 1, b' ');
-        let Int::Value(n) = lines::read_int(&line[at + 1..end]) else {
-            return Numbers { values, count: 0 };
-        };
-        if 2 < count {
-            return Numbers { values, count: 0 };
-        }
-        values[count] = n;
-        count += 1;
-        at = end;
-    }
-    Numbers { values, count }
 }
 
 // The numbers that answer a question whose name ends at `end`.

@@ -1,11 +1,12 @@
-// Questions about texts, whose bytes stand in hexadecimal digits; `-` stands for none.
-ghost use Prim.Native.Nat.{_^_, _≤_, _<_, max};
+// Questions about texts.
+ghost use Prim.Native.Nat.{_≤_, max};
 ghost use lib.ListN.{length};
 use crate::questions::Values;
 use crate::questions::put_after;
 use crate::questions::unknown;
-use lines::Number;
 use lines::put_decimal;
+use question_words::read_bytes;
+use question_words::read_place;
 use template::NODES;
 use template::Node;
 
@@ -13,82 +14,6 @@ use template::Node;
 const TEXT: usize = 512;
 
 const TEMPLATE: usize = 256;
-
-pub struct Bytes {
-    pub count: usize,
-    pub malformed: bool,
-}
-
-pub struct Place {
-    pub at: usize,
-    pub end: usize,
-    pub malformed: bool,
-}
-
-// The last word of a line, before which a separator stands at `from`: its bytes go into `text`.
-fn read_bytes(line: &[u8], from: usize, text: &mut [u8]) -> Bytes
-    ensures { λ r. ⌜ r .count ≤ length (now (text .exit)) ⌝ }
-{
-    let none = Bytes {
-        count: 0,
-        malformed: true,
-    };
-    if line.len() <= from {
-        return none;
-    }
-    let word = &line[from + 1..];
-    if check::same(word, b"-") {
-        return Bytes {
-            count: 0,
-            malformed: false,
-        };
-    }
-    let count = lines::put_hex(text, 0, word);
-    if word.len() % 2 == 1 {
-        return none;
-    }
-    Bytes {
-        count,
-        malformed: count != word.len() / 2,
-    }
-}
-
-// A number that is read up to `end`, as a place.
-fn place_of(n: i64, end: usize) -> Place
-    ensures { λ r. ⌜ r .at < 2 ^ 63 ⌝ }
-{
-    if n < 0 {
-        return Place {
-            at: 0,
-            end,
-            malformed: true,
-        };
-    }
-    Place {
-        at: n as usize,
-        end,
-        malformed: false,
-    }
-}
-
-// The next word of a line as a place in a text, and where that word ends.
-fn read_place(line: &[u8], from: usize) -> Place
-    ensures { λ r. ⌜ r .at < 2 ^ 63 ⌝ }
-{
-    let none = Place {
-        at: 0,
-        end: from,
-        malformed: true,
-    };
-    if line.len() <= from {
-        return none;
-    }
-    let end = lines::find(line, from + 1, b' ');
-    match lines::read_number(&line[from + 1..end]) {
-        Number::Value(n) => place_of(n, end),
-        Number::Malformed => none,
-    }
-}
 
 pub fn strtol(line: &[u8], from: usize) -> Values {
     let start = read_place(line, from);

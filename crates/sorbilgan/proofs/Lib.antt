@@ -1,4 +1,3 @@
 pub mod Once
 mod Compiling
-mod Room
-mod Stored
+mod Passed

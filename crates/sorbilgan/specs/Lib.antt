@@ -1,6 +1,5 @@
 -- The exported functions.
 pub mod Compiled
 pub mod Name
-pub mod Words
 pub mod Writing
 pub mod Once

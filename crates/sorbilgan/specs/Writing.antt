@@ -11,7 +11,7 @@ use Rattle.pieces.specs.declared.Moment.{Moment}
 use Rattle.writer.specs.declared.Unwritten.the-variants.{NoRoom}
 use Rattle.writer.specs.declared.Written.{Written}
 use Rattle.writer.specs.declared.Written.the-variants.{Length, Refused}
-use Rattle.sorbilgan.specs.Words.{Told, accepted, valueWords}
+use Rattle.records.specs.Words.{Told, accepted, valueWords}
 
 -- seven numbers as a moment
 abbrev pub moment : ℤ → ℤ → ℤ → ℤ → ℤ → ℤ → ℤ → Moment

@@ -1,14 +1,13 @@
 // The functions that other languages call. None asks anything of its caller.
 // Reading and writing fill a record of 64-bit words and return its first: 0, or the number of the refusal.
 mod names;
-mod words;
 mod writing;
 
 ghost use Rattle.instants.specs.Instant.{dateOf, dayBy, instantBy, timestampOf};
 ghost use Rattle.parts.specs.Parts.{partsBy, partsOf};
 ghost use Rattle.template.specs.Bytes.{nodesIn};
 ghost use Rattle.sorbilgan.specs.Compiled.{CompiledTo};
-ghost use Rattle.sorbilgan.specs.Words.{Told, dayWords, instantWords, partsWords};
+ghost use Rattle.records.specs.Words.{Told, dayWords, instantWords, partsWords};
 use parts::TEMPLATE_LIMIT;
 use template::NODE;
 
@@ -17,7 +16,7 @@ use template::NODE;
 pub extern "C" fn sorbilgan_parts(t: &[u8], s: &[u8], out: &mut [i64; 14]) -> u8
     ensures { λ r. ⌜ Told (partsWords (partsOf (now (t .entry)) (now (s .entry)))) (now (out .exit)) r ⌝ }
 {
-    words::put_parts(parts::to_timestamp_parts(t, s), out)
+    records::put_parts(parts::to_timestamp_parts(t, s), out)
 }
 
 // The microseconds of that moment since 1970-01-01.
@@ -25,7 +24,7 @@ pub extern "C" fn sorbilgan_parts(t: &[u8], s: &[u8], out: &mut [i64; 14]) -> u8
 pub extern "C" fn sorbilgan_instant(t: &[u8], s: &[u8], out: &mut [i64; 5]) -> u8
     ensures { λ r. ⌜ Told (instantWords (timestampOf (now (t .entry)) (now (s .entry)))) (now (out .exit)) r ⌝ }
 {
-    words::put_instant(instants::to_timestamp_text(t, s), out)
+    records::put_instant(instants::to_timestamp_text(t, s), out)
 }
 
 // Its days since then.
@@ -33,7 +32,7 @@ pub extern "C" fn sorbilgan_instant(t: &[u8], s: &[u8], out: &mut [i64; 5]) -> u
 pub extern "C" fn sorbilgan_date(t: &[u8], s: &[u8], out: &mut [i64; 5]) -> u8
     ensures { λ r. ⌜ Told (dayWords (dateOf (now (t .entry)) (now (s .entry)))) (now (out .exit)) r ⌝ }
 {
-    words::put_day(instants::to_date_text(t, s), out)
+    records::put_day(instants::to_date_text(t, s), out)
 }
 
 // Puts the bytes of a template's nodes into the buffer, and gives how many they are; -1 for a template over its limit, -2 for one that is not UTF-8.
@@ -55,19 +54,19 @@ pub extern "C" fn sorbilgan_compile(t: &[u8], nodes: &mut [u8; 1536]) -> i64
 pub extern "C" fn sorbilgan_parts_by(nodes: &[u8], t: &[u8], s: &[u8], out: &mut [i64; 14]) -> u8
     ensures { λ r. ⌜ Told (partsWords (partsBy (nodesIn (now (nodes .entry))) (now (t .entry)) (now (s .entry)))) (now (out .exit)) r ⌝ }
 {
-    words::put_parts(parts::parts_by(nodes, t, s), out)
+    records::put_parts(parts::parts_by(nodes, t, s), out)
 }
 
 #[no_mangle]
 pub extern "C" fn sorbilgan_instant_by(nodes: &[u8], t: &[u8], s: &[u8], out: &mut [i64; 5]) -> u8
     ensures { λ r. ⌜ Told (instantWords (instantBy (partsBy (nodesIn (now (nodes .entry))) (now (t .entry)) (now (s .entry))))) (now (out .exit)) r ⌝ }
 {
-    words::put_instant(instants::instant_by(nodes, t, s), out)
+    records::put_instant(instants::instant_by(nodes, t, s), out)
 }
 
 #[no_mangle]
 pub extern "C" fn sorbilgan_date_by(nodes: &[u8], t: &[u8], s: &[u8], out: &mut [i64; 5]) -> u8
     ensures { λ r. ⌜ Told (dayWords (dayBy (partsBy (nodesIn (now (nodes .entry))) (now (t .entry)) (now (s .entry))))) (now (out .exit)) r ⌝ }
 {
-    words::put_day(instants::day_by(nodes, t, s), out)
+    records::put_day(instants::day_by(nodes, t, s), out)
 }

@@ -1,4 +1,5 @@
 -- Laws of writing.
 pub mod Lengths
+pub mod Room
 mod Turns
 mod Answers

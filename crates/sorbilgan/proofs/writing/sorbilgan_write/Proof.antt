@@ -5,8 +5,8 @@ use native.Mathlib.Omega.{arith}
 use borrow.Author.Needs.{needs}
 use denote.Ref.{now}
 use lib.ListN.{length}
-use Rattle.sorbilgan.proofs.Room.{to-fits}
-use Rattle.sorbilgan.proofs.Stored.{moment-passed}
+use Rattle.writer.proofs.Room.{to-measured}
+use Rattle.sorbilgan.proofs.Passed.{moment-passed}
 use Rattle.sorbilgan.proofs.writing.sorbilgan_write.Statement.{statement}
 use Rattle.sorbilgan.proofs.writing.sorbilgan_write.Tie as tie
 
@@ -16,7 +16,7 @@ room c = omega arith
 put-written-requires : tie.Need-put-written-requires
 put-written-requires c κs n e =
     let w = c .before .before .before in
-    omega (arith, room (w .before .before .before .before .before), to-fits _ _ _ n (sym (w .write .ensures .is) ∙ e))
+    omega (arith, room (w .before .before .before .before .before), to-measured _ _ _ n (sym (w .write .ensures .is) ∙ e) .1)
 
 returns : tie.Need-returns
 returns c =

@@ -1,0 +1,3 @@
+-- Laws of digits and of numbers that are cast.
+mod Hex
+mod Narrowing

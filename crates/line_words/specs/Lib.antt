@@ -1,0 +1,2 @@
+-- The words of a line.
+pub mod Words

@@ -1,0 +1,2 @@
+-- Laws of numbers that are cast.
+mod Casts

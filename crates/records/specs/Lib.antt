@@ -1,0 +1,2 @@
+-- Answers as records.
+pub mod Words
