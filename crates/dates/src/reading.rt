@@ -1,8 +1,8 @@
 // Lines "template TAB input", answered with the parts of the moment that is read, its instant or its day.
 ghost use Prim.Native.Nat.{_≤_, max};
 ghost use lib.ListN.{length};
-use instants::Day;
-use instants::Instant;
+use epoch::Day;
+use epoch::Instant;
 use parts::Answer;
 use replies::put_accepted;
 use replies::put_int;
@@ -27,7 +27,7 @@ pub fn instant(t: &[u8], s: &[u8], out: &mut [u8], at: usize) -> usize
             let next = put_accepted(out, at);
             put_number(out, next, micros)
         }
-        Instant::Refused(why) => put_report(out, at, instants::report_of(why)),
+        Instant::Refused(why) => put_report(out, at, epoch::report_of(why)),
     }
 }
 
@@ -39,6 +39,6 @@ pub fn day(t: &[u8], s: &[u8], out: &mut [u8], at: usize) -> usize
             let next = put_accepted(out, at);
             put_int(out, next, days)
         }
-        Day::Refused(why) => put_report(out, at, instants::report_of(why)),
+        Day::Refused(why) => put_report(out, at, epoch::report_of(why)),
     }
 }

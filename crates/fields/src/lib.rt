@@ -1,18 +1,11 @@
-// Fields of the input: numbers of a width, words, and years with a comma.
+// Fields of the input: numbers of a width, what follows a pattern, and fields that are set twice.
 ghost use mathlib.Core.Path.{_≡_};
-ghost use Prim.Native.Nat.{_+_, _<_, _≤_};
-ghost use lib.IntN.{_+ℤ_};
-ghost use lib.ListN.{length, take};
-ghost use Rattle.strtol.specs.Strtol.{strtol};
-ghost use Rattle.fields.specs.Number.{checked as checkedFrom, fits32, fixedAt, numberAt, Found as Numbered};
+ghost use Prim.Native.Nat.{_≤_};
+ghost use lib.ListN.{length};
+ghost use Rattle.fields.specs.Number.{checked as checkedFrom, fixedAt, numberAt, Found as Numbered};
 ghost use Rattle.fields.specs.Setting.{conflicts};
 ghost use Rattle.fields.specs.Suffix.{endsNumber, isFree, Skipped};
-ghost use Rattle.fields.specs.Word.{folded as foldedByte, spelledLength, wordAt, wordIn, Found as Spelled};
-ghost use Rattle.fields.specs.Year.{commaYearAt, joined as joinedYear, near2020, scanned};
-ghost use Rattle.patterns.specs.Words.{wordTable};
-ghost use Rattle.patterns.specs.declared.tables.WordList.{WordList};
 use answers::Refusal;
-use patterns::WordList;
 use strtol::Strtol;
 use template::Node;
 
@@ -20,22 +13,6 @@ use template::Node;
 pub enum Number {
     Read { value: i32, next: usize },
     Refused(Refusal),
-}
-
-// A word by its place in its list, and its length.
-pub enum Word {
-    At { index: usize, len: usize },
-    Nothing,
-}
-
-// Two numbers with a comma between them, cut to 32 bits, and the place behind them.
-enum Scanned {
-    Both {
-        thousands: i32,
-        years: i32,
-        next: usize,
-    },
-    Missing,
 }
 
 // The suffix bits of an ordinal: TH and th.
@@ -166,69 +143,6 @@ pub fn from_char_set_int(old: i32, new: i32) -> bool
     old != new
 }
 
-// A capital letter made small.
-fn folded(b: u8) -> u8
-    ensures { λ r. ⌜ r ≡ foldedByte b ⌝ }
-{
-    if b < b'A' {
-        return b;
-    }
-    if b <= b'Z' {
-        return b + 32;
-    }
-    b
-}
-
-// The length of the word in row k, if it stands at a place in either case, else 0.
-fn spelled(table: &[u8; 108], k: usize, s: &[u8], at: usize) -> usize
-    requires { ⌜ (length (now table) ≡ 108) × (k < 12) × (at < length (now s)) ⌝ }
-    ensures { λ r. ⌜ r ≡ spelledLength (wordIn (now (table .entry)) k) (now (s .entry)) at ⌝ }
-{
-    let mut j: usize = 0;
-    while j < 9 {
-        let c = table[9 * k + j];
-        if c == b' ' {
-            return j;
-        }
-        if folded(chars::byte_at(s, at + j)) != folded(c) {
-            return 0;
-        }
-        j += 1;
-    }
-    9
-}
-
-// The first word of a list's table that stands at a place, in either case.
-fn first_word(table: &[u8; 108], s: &[u8], at: usize) -> Word
-    requires { ⌜ length (now table) ≡ 108 ⌝ }
-    ensures { λ r. ⌜ ((list : WordList) → now (table .entry) ≡ wordTable list → Spelled (now (s .entry)) at (wordAt list (now (s .entry)) at) r) ⌝ }
-{
-    if s.len() <= at {
-        return Word::Nothing;
-    }
-    let mut k: usize = 0;
-    while k < 12 {
-        let n = spelled(table, k, s, at);
-        if n > 0 {
-            return Word::At { index: k, len: n };
-        }
-        k += 1;
-    }
-    Word::Nothing
-}
-
-// The first word of a list that stands at a place, in either case.
-pub fn seq_search_ascii(s: &[u8], at: usize, list: WordList) -> Word
-    ensures { λ r. ⌜ Spelled (now (s .entry)) at (wordAt list (now (s .entry)) at) r ⌝ }
-{
-    if let WordList::MonthsFull = list {
-        let months = patterns::months_full();
-        return first_word(&months, s, at);
-    }
-    let table = patterns::words(list);
-    first_word(&table, s, at)
-}
-
 // Past two characters, if the pattern has an ordinal suffix.
 pub fn skip_th(s: &[u8], at: usize, suffix: u8) -> usize
     ensures { λ r. ⌜ Skipped (now (s .entry)) at suffix r ⌝ }
@@ -238,104 +152,4 @@ pub fn skip_th(s: &[u8], at: usize, suffix: u8) -> usize
     }
     let one = at + chars::pg_mblen(s, at);
     one + chars::pg_mblen(s, one)
-}
-
-// A number within three bytes, from a place on.
-fn within_three(t: &[u8], from: usize) -> Strtol
-    requires { ⌜ from ≤ length (now t) ⌝ }
-    ensures { λ r. ⌜ r ≡ strtol (take (from + 3) (now (t .entry))) from ⌝ }
-{
-    if t.len() - from <= 3 {
-        return strtol::c_strtol(t, from);
-    }
-    let end = from + 3;
-    strtol::c_strtol(&t[..end], from)
-}
-
-// The two numbers of a year with a comma, as sscanf's "%d,%03d" reads them.
-fn scan_yyyy(t: &[u8]) -> Scanned
-    ensures { λ r. ⌜ r ≡ scanned (now (t .entry)) ⌝ }
-{
-    let a = strtol::c_strtol(t, 0);
-    let end = a.end;
-    if end == 0 {
-        return Scanned::Missing;
-    }
-    if chars::byte_at(t, end) != b',' {
-        return Scanned::Missing;
-    }
-    let from = strtol::past_spaces(t, end + 1);
-    let b = within_three(t, from);
-    if b.end == from {
-        return Scanned::Missing;
-    }
-    Scanned::Both {
-        thousands: wrapping::wrapping_cut(a.value),
-        years: wrapping::wrapping_cut(b.value),
-        next: b.end,
-    }
-}
-
-// Whether a sum is a number of 32 bits, compared before it is made.
-pub fn sum_fits(a: i32, b: i32) -> bool
-    ensures { λ r. ⌜ r ≡ fits32 (a +ℤ b) ⌝ }
-{
-    if a < 0 {
-        return -2147483648 - a <= b;
-    }
-    b <= 2147483647 - a
-}
-
-// Thousands of years and years together.
-fn joined(pattern: u8, thousands: i32, years: i32, next: usize) -> Number
-    ensures { λ r. ⌜ r ≡ joinedYear pattern thousands years next ⌝ }
-{
-    if thousands < -2147483 {
-        return Number::Refused(Refusal::YearOutOfRange { pattern });
-    }
-    if thousands > 2147483 {
-        return Number::Refused(Refusal::YearOutOfRange { pattern });
-    }
-    let whole = thousands * 1000;
-    if sum_fits(years, whole) {
-        return Number::Read {
-            value: years + whole,
-            next,
-        };
-    }
-    Number::Refused(Refusal::YearOutOfRange { pattern })
-}
-
-// A year with a comma.
-pub fn comma_year(s: &[u8], at: usize, pattern: u8) -> Number
-    requires { ⌜ at ≤ length (now s) ⌝ }
-    ensures { λ r. ⌜ Numbered (now (s .entry)) at (commaYearAt (now (s .entry)) at pattern) r ⌝ }
-{
-    match scan_yyyy(&s[at..]) {
-        Scanned::Both {
-            thousands,
-            years,
-            next,
-        } => joined(pattern, thousands, years, at + next),
-        Scanned::Missing => Number::Refused(Refusal::NotTwoNumbers { pattern }),
-    }
-}
-
-// A year of fewer than four digits, put near 2020.
-pub fn adjust_partial_year(year: i32) -> i32
-    ensures { λ r. ⌜ r ≡ near2020 year ⌝ }
-{
-    if year < 70 {
-        return year + 2000;
-    }
-    if year < 100 {
-        return year + 1900;
-    }
-    if year < 520 {
-        return year + 2000;
-    }
-    if year < 1000 {
-        return year + 1000;
-    }
-    year
 }

@@ -9,7 +9,7 @@ use lib.IntN.{ℤ, pos}
 use Rattle.gregorian.specs.Gregorian.{Valid, monthLength}
 use Rattle.gregorian.proofs.Dates.{length-range}
 use Rattle.gregorian.proofs.Months.{month-length}
-use Rattle.instants.proofs.Plain.{plainParts}
+use Rattle.epoch.proofs.Plain.{plainParts}
 use Rattle.days.specs.Dates.{allBits, days, dateInRange}
 use Rattle.parts.specs.Parts.{checkedMoment, momentOf}
 use Rattle.clock.specs.Time.{timeInRange}

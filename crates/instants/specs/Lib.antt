@@ -1,4 +1,2 @@
 -- Instants and dates.
 pub mod Instant
-pub mod Plain
-pub mod Report

@@ -11,8 +11,8 @@ use Rattle.chars.specs.Class.{classOf}
 use Rattle.chars.specs.Utf8.{sequence, wellFormedAfter}
 use Rattle.fields.specs.Number.{numberAt, fixedAt, checked}
 use Rattle.fields.specs.Suffix.{endsNumber, pastOrdinal}
-use Rattle.fields.specs.Word.{wordAt}
-use Rattle.fields.specs.Year.{near2020}
+use Rattle.spelling.specs.Word.{wordAt}
+use Rattle.years.specs.Year.{near2020}
 use Rattle.gregorian.specs.Civil.{daysBefore, monthOfDay, endedBefore}
 use Rattle.julian.specs.ToDate.{j2date, dayFromMarch, withSkipped, shifted}
 use Rattle.julian.specs.ToDay.{date2j, fromMarch}

@@ -12,8 +12,8 @@ use lib.ListN.{drop}
 use lib.Seq.{getD-set-other}
 use Rattle.notation.proofs.Cases.{by-if}
 use Rattle.fields.specs.Suffix.{isFree, pastOrdinal}
-use Rattle.fields.specs.Word.{wordAt}
-use Rattle.fields.specs.declared.Word.the-variants.{At}
+use Rattle.spelling.specs.Word.{wordAt}
+use Rattle.spelling.specs.declared.Word.the-variants.{At}
 use Rattle.gregorian.proofs.Dates.{each}
 use Rattle.tasks.specs.Fields.{get, put, read, mode}
 use Rattle.tasks.specs.Numbers.{storedNumber}

@@ -8,8 +8,8 @@ use lib.ListN.{drop}
 use lib.Seq.{getD-drop}
 use Rattle.notation.specs.Choice.{if_then_else_}
 use Rattle.notation.specs.Text.{byteAt}
-use Rattle.fields.specs.Word.{wordAt}
-use Rattle.fields.specs.declared.Word.the-variants.{At}
+use Rattle.spelling.specs.Word.{wordAt}
+use Rattle.spelling.specs.declared.Word.the-variants.{At}
 use Rattle.patterns.specs.declared.tables.WordList.the-variants.{AmPm, AmPmLong}
 use Rattle.pieces.specs.Pieces.{markerText}
 

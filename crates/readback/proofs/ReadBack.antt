@@ -10,7 +10,7 @@ use lib.ListN.{length}
 use Rattle.groups.specs.Values.{by-month, by-day, by-week, of-24, of-12, by-second}
 use Rattle.groups.proofs.ReadAs.{moment-read}
 use Rattle.instants.specs.Instant.{timestampOf, dateOf}
-use Rattle.instants.proofs.Plain.{plainParts, instant-is, day-is}
+use Rattle.epoch.proofs.Plain.{plainParts, instant-is, day-is}
 use Rattle.parts.specs.Parts.{momentOf, partsOf, inputLimit}
 use Rattle.parts.specs.declared.Answer.{Answer}
 use Rattle.parts.specs.declared.Answer.the-variants.{Moment as Accepted, Refused}

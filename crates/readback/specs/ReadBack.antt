@@ -6,9 +6,9 @@ use Prim.Native.Nat.{ℕ, _≤_}
 use lib.IntN.{ℤ, pos, natAbs}
 use lib.ListN.{length, drop}
 use Rattle.instants.specs.Instant.{timestampOf, dateOf}
-use Rattle.instants.specs.Plain.{daysSince1970, microsSince1970}
-use Rattle.instants.specs.declared.Day.the-variants.{Number}
-use Rattle.instants.specs.declared.Instant.the-variants.{Micros}
+use Rattle.epoch.specs.Plain.{daysSince1970, microsSince1970}
+use Rattle.epoch.specs.declared.Day.the-variants.{Number}
+use Rattle.epoch.specs.declared.Instant.the-variants.{Micros}
 use Rattle.parts.specs.Parts.{partsOf, inputLimit}
 use Rattle.parts.specs.declared.Answer.the-variants.{Moment as Accepted}
 use Rattle.clock.specs.declared.Offset.the-variants.{Absent}

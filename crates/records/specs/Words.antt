@@ -12,13 +12,13 @@ use Rattle.clock.specs.declared.Offset.the-variants.{Absent, East}
 use Rattle.parts.specs.declared.Answer.{Answer}
 use Rattle.parts.specs.declared.Answer.the-variants.{Moment, Refused}
 use Rattle.parts.specs.declared.Parts.{Parts}
-use Rattle.instants.specs.Instant.{parts}
-use Rattle.instants.specs.Report.{unplacedReport}
-use Rattle.instants.specs.declared.Day.{Day}
-use Rattle.instants.specs.declared.Day.the-variants.{Number, Refused as NoDay}
-use Rattle.instants.specs.declared.Instant.{Instant}
-use Rattle.instants.specs.declared.Instant.the-variants.{Micros, Refused as NoInstant}
-use Rattle.instants.specs.declared.Unplaced.the-variants.{Unread, InstantRange}
+use Rattle.epoch.specs.Instant.{parts}
+use Rattle.epoch.specs.Report.{unplacedReport}
+use Rattle.epoch.specs.declared.Day.{Day}
+use Rattle.epoch.specs.declared.Day.the-variants.{Number, Refused as NoDay}
+use Rattle.epoch.specs.declared.Instant.{Instant}
+use Rattle.epoch.specs.declared.Instant.the-variants.{Micros, Refused as NoInstant}
+use Rattle.epoch.specs.declared.Unplaced.the-variants.{Unread, InstantRange}
 
 abbrev pub reportWords : Report → List ℤ
 reportWords r = pos (r .number) ∷ pos (r .pattern) ∷ r .first ∷ r .second ∷ []

@@ -6,8 +6,8 @@ ghost use Rattle.records.specs.Words.{Told, accepted, dateTimeWords, day
 use answers::NO_PATTERN;
 use answers::Report;
 use clock::Offset;
-use instants::Day;
-use instants::Instant;
+use epoch::Day;
+use epoch::Instant;
 use parts::Answer;
 use parts::Parts;
 
@@ -23,7 +23,7 @@ pub fn put_instant(instant: Instant, out: &mut [i64; 5]) -> u8
 {
     match instant {
         Instant::Micros(micros) => put_value(answers::alone(0), micros, out),
-        Instant::Refused(why) => put_value(instants::report_of(why), 0, out),
+        Instant::Refused(why) => put_value(epoch::report_of(why), 0, out),
     }
 }
 
@@ -32,7 +32,7 @@ pub fn put_day(day: Day, out: &mut [i64; 5]) -> u8
 {
     match day {
         Day::Number(days) => put_value(answers::alone(0), days as i64, out),
-        Day::Refused(why) => put_value(instants::report_of(why), 0, out),
+        Day::Refused(why) => put_value(epoch::report_of(why), 0, out),
     }
 }
 

@@ -10,7 +10,7 @@ use Rattle.notation.specs.Choice.{if_then_else_}
 use Rattle.answers.specs.declared.Refusal.the-variants.{Conflict}
 use Rattle.fields.specs.Number.{numberAt}
 use Rattle.fields.specs.Suffix.{pastOrdinal}
-use Rattle.fields.specs.Year.{commaYearAt, near2020}
+use Rattle.years.specs.Year.{commaYearAt, near2020}
 use Rattle.fields.specs.declared.Number.{Number}
 use Rattle.fields.specs.declared.Number.the-variants.{Read, Refused}
 use Rattle.template.specs.declared.Node.{Node}

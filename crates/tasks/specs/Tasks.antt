@@ -7,7 +7,7 @@ use Prim.Native.String.{String}
 use lib.Dec.{eqb}
 use Rattle.notation.specs.Choice.{if_then_else_}
 use Rattle.notation.specs.Text.{utf8}
-use Rattle.fields.specs.Word.{folded}
+use Rattle.spelling.specs.Word.{folded}
 use Rattle.patterns.specs.Patterns.{nameOf}
 use Rattle.patterns.specs.Search.{countFrom}
 use Rattle.tasks.specs.Fields as F

@@ -8,9 +8,9 @@ use lib.IntN.{ℤ, pos}
 use lib.ListN.{getD}
 use Rattle.notation.specs.Choice.{if_then_else_}
 use Rattle.answers.specs.declared.Refusal.the-variants.{Conflict, NoWord}
-use Rattle.fields.specs.Word.{wordAt}
-use Rattle.fields.specs.declared.Word.{Word}
-use Rattle.fields.specs.declared.Word.the-variants.{At, Nothing}
+use Rattle.spelling.specs.Word.{wordAt}
+use Rattle.spelling.specs.declared.Word.{Word}
+use Rattle.spelling.specs.declared.Word.the-variants.{At, Nothing}
 use Rattle.patterns.specs.declared.tables.WordList.{WordList}
 use Rattle.patterns.specs.declared.tables.WordList.the-variants.{MonthsFull, MonthsAbbrev, DaysFull, DaysAbbrev, AmPm, AmPmLong, AdBc, AdBcLong, RomanMonths}
 use Rattle.template.specs.declared.Node.{Node}

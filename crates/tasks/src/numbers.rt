@@ -72,7 +72,7 @@ fn near_if_short(z: i32, n: usize) -> i32
     ensures { λ r. ⌜ r ≡ nearIfShort z n ⌝ }
 {
     if n < 4 {
-        return fields::adjust_partial_year(z);
+        return years::adjust_partial_year(z);
     }
     z
 }
@@ -143,7 +143,7 @@ fn number_at(s: &[u8], n: Node, free: bool, task: Task, at: usize) -> Number
     ensures { λ r. ⌜ Numbered (now (s .entry)) at (numberOf (now (s .entry)) n free task at) r ⌝ }
 {
     if task.kind == table::COMMA_YEAR {
-        return fields::comma_year(s, at, n.pattern);
+        return years::comma_year(s, at, n.pattern);
     }
     fields::parse_int_len(s, at, task.width, n.pattern, free)
 }

@@ -9,8 +9,8 @@ use crate::Task;
 use crate::field;
 use crate::state;
 use answers::Refusal;
-use fields::Word;
 use patterns::WordList;
+use spelling::Word;
 use template::Node;
 
 // The rules for a word; by any other the odd places of its list are 1.
@@ -86,7 +86,7 @@ pub fn read_word(s: &[u8], n: Node, task: Task, f: &mut [i32; 24], p: Place) -> 
     ensures { λ r. ⌜ readInto r (now (f .exit)) ≡ readWord (now (s .entry)) n task (fieldsOf (now (f .entry))) p ⌝ }
 {
     let at = p.at;
-    match fields::seq_search_ascii(s, at, list_of(task.width)) {
+    match spelling::seq_search_ascii(s, at, list_of(task.width)) {
         Word::Nothing => state::refuse(Refusal::NoWord { pattern: n.pattern }, p),
         Word::At { index, len } => word_stored(n, task, meant(task.rule, index), at + len, f, p),
     }

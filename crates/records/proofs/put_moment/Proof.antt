@@ -5,7 +5,7 @@ use borrow.Author.Needs.{needs}
 use lib.IntN.{pos}
 use mir.Facts.{toZ-ofZ}
 use Rattle.gregorian.proofs.Signed.{wide, wide-fits}
-use Rattle.instants.proofs.Seconds.{Ranged}
+use Rattle.epoch.proofs.Seconds.{Ranged}
 use Rattle.records.proofs.put_moment.Statement.{statement}
 use Rattle.records.proofs.put_moment.Tie as tie
 

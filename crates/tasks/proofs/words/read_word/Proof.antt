@@ -4,8 +4,8 @@ use Prim.Native.Nat.{_≤_}
 use native.Mathlib.Omega.{arith}
 use borrow.Author.Needs.{needs}
 use denote.Ref.{now}
-use Rattle.fields.specs.Word.{Inside}
-use Rattle.fields.specs.declared.Word.the-variants.{At}
+use Rattle.spelling.specs.Word.{Inside}
+use Rattle.spelling.specs.declared.Word.the-variants.{At}
 use Rattle.tasks.specs.Words.{storedWord}
 use Rattle.tasks.proofs.words.read_word.Statement.{statement}
 use Rattle.tasks.proofs.words.read_word.Tie as tie

@@ -1,0 +1,39 @@
+-- `epoch::seconds_of` meets its contract. Assumes nothing.
+use mathlib.Core.Path.{_≡_}
+use borrow.Author.Needs.{needs}
+use mir.Facts.{toZ-ofZ}
+use mir.Syntax.{w64}
+use mir.Val.{toZ, ofZ}
+use Rattle.epoch.specs.Instant.{secondsOf}
+use Rattle.epoch.proofs.Seconds.{returned, Ranged, days, clock, days-fit, seconds-fit}
+use Rattle.epoch.proofs.seconds_of.Statement.{statement}
+use Rattle.epoch.proofs.seconds_of.Tie as tie
+
+ranged : (c : tie.After-struct-told3) → Ranged (c .before .before .before .args .p)
+ranged c = search needs
+
+clock-is : (c : tie.After-clock-seconds) → toZ w64 (ofZ w64 (c .clock-seconds .result)) ≡ clock (c .before .before .before .before .args .p)
+clock-is c =
+    let r = ranged (c .before) in
+    returned (c .clock-seconds .ok) (simp (toZ-ofZ (r .hour), toZ-ofZ (r .minute), toZ-ofZ (r .second)) at (c .clock-seconds .ensures))
+
+days-are : (c : tie.After-days-of) → toZ w64 (ofZ w64 (c .days-of .result)) ≡ days (c .before .before .before .before .before .args .p)
+days-are c = returned (c .days-of .ok) (c .days-of .ensures)
+
+mul-result : tie.Need-mul-result
+mul-result c = rw (days-are c) (days-fit (ranged (c .before .before)))
+
+add-result : tie.Need-add-result
+add-result c =
+    let r = ranged (c .before .before) in
+    rw (days-are c, toZ-ofZ (days-fit r), clock-is (c .before)) (seconds-fit r)
+
+returns : tie.Need-returns
+unfolding secondsOf
+returns c =
+    let r = ranged (c .before .before) in
+    rw (days-are c, toZ-ofZ (days-fit r), clock-is (c .before), toZ-ofZ (seconds-fit r))
+
+pub seconds-of-spec : {M : Type 1} → statement M
+seconds-of-spec =
+    tie.close (tie.spec (λ c κs. search needs) (λ c κs. search needs) mul-result add-result returns)

@@ -1,0 +1,3 @@
+-- Laws of words.
+mod Spelling
+pub mod Words

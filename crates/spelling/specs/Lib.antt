@@ -1,0 +1,2 @@
+-- Words in either case.
+pub mod Word

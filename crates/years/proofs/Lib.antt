@@ -1,0 +1,4 @@
+-- Laws of years.
+mod Raised
+mod Thousands
+pub mod Years

@@ -1,0 +1,2 @@
+-- Years.
+pub mod Year
