@@ -1,5 +1,6 @@
 pub mod Ranges
 pub mod Classes
+pub mod Sets
 pub mod Characters
 pub mod Rows
 pub mod Runs

@@ -3,3 +3,4 @@ pub mod Range
 pub mod Class
 pub mod Character
 pub mod Utf8
+pub mod Sets

@@ -1,6 +1,7 @@
 // Bytes and characters of a text in UTF-8.
 ghost use mathlib.Core.List.{[], _∷_};
 ghost use mathlib.Core.Path.{_≡_};
+ghost use mathlib.Core.Bool.{_||_};
 ghost use Prim.Native.Nat.{_+_, _<_, _≤_};
 ghost use lib.ListN.{length, drop, replicate};
 ghost use Rattle.notation.specs.Choice.{if_then_else_};
@@ -8,6 +9,7 @@ ghost use Rattle.notation.specs.Text.{byteAt};
 ghost use Rattle.chars.specs.Character.{lead, Measured};
 ghost use Rattle.chars.specs.Class.{isSpace, isDigit, isLetter, isSeparator};
 ghost use Rattle.chars.specs.Range.{_‥_};
+ghost use Rattle.chars.specs.Sets.{inSet};
 ghost use Rattle.chars.specs.Utf8.{begins, sequence, wellFormed, Passed};
 
 // C's isspace in the C locale.
@@ -46,6 +48,26 @@ pub fn is_separator_char(b: u8) -> bool
         return false;
     }
     !is_alpha_c(b) && !is_digit_c(b)
+}
+
+// A set of numbers: bit k of the two words is the number k.
+pub fn in_set(low: u64, high: u64, k: u8) -> bool
+    ensures { λ r. ⌜ r ≡ inSet low high k ⌝ }
+{
+    if k < 64 {
+        return (low >> k) % 2 == 1;
+    }
+    if k < 128 {
+        return (high >> (k - 64)) % 2 == 1;
+    }
+    false
+}
+
+// A space or a separator.
+pub fn is_blank(b: u8) -> bool
+    ensures { λ r. ⌜ r ≡ (isSpace b || isSeparator b) ⌝ }
+{
+    in_set(0xfc00ffff00003e00, 0x78000001f8000001, b)
 }
 
 // The byte at a place, 0 past the end.

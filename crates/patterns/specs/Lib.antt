@@ -3,5 +3,4 @@ pub mod Patterns
 pub mod Rows
 pub mod Search
 pub mod Affixes
-pub mod Sets
 pub mod Words

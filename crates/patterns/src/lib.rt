@@ -14,7 +14,6 @@ ghost use mathlib.Core.List.{[], _∷_};
 ghost use Rattle.patterns.specs.Patterns.{nameOf, patternOf};
 ghost use Rattle.patterns.specs.Search.{indexOf, indexTable, lengthAt, nameTable, patternAt, placeOf};
 ghost use Rattle.patterns.specs.Affixes.{bitAt};
-ghost use Rattle.patterns.specs.Sets.{inSet};
 
 // The date modes.
 pub const MODE_NONE: u8 = 0;
@@ -159,34 +158,21 @@ pub fn fmt_suffix_search(t: &[u8], at: usize, prefix: bool) -> u8
     suffix_bit(a, b)
 }
 
-// Sets of patterns: bit k of the two words is the pattern at place k of the table.
-fn in_set(low: u64, high: u64, k: u8) -> bool
-    ensures { λ r. ⌜ r ≡ inSet low high k ⌝ }
-{
-    if k < 64 {
-        return (low >> k) % 2 == 1;
-    }
-    if k < 128 {
-        return (high >> (k - 64)) % 2 == 1;
-    }
-    false
-}
-
-// Whether the pattern at a place of the table is read as digits.
+// Whether the pattern at a place of the table is read as digits. Sets of patterns are bits, by their places.
 pub fn is_digit(k: u8) -> bool
     ensures { λ r. ⌜ r ≡ patternOf k .isDigit ⌝ }
 {
-    in_set(0x03fd7413ffefe340, 0xff5d13ffefed, k)
+    chars::in_set(0x03fd7413ffefe340, 0xff5d13ffefed, k)
 }
 
 // The date mode of the pattern at a place of the table.
 pub fn date_mode(k: u8) -> u8
     ensures { λ r. ⌜ r ≡ patternOf k .mode ⌝ }
 {
-    if in_set(0x03f8086e00002300, 0xfe020e00002c, k) {
+    if chars::in_set(0x03f8086e00002300, 0xfe020e00002c, k) {
         return MODE_GREGORIAN;
     }
-    if in_set(0x7f000000, 0x7f0000, k) {
+    if chars::in_set(0x7f000000, 0x7f0000, k) {
         return MODE_ISOWEEK;
     }
     MODE_NONE

@@ -1,9 +1,8 @@
 // Where reading stands in the input: spaces that are skipped, and literals of the template.
-ghost use mathlib.Core.Bool.{_||_, true};
+ghost use mathlib.Core.Bool.{true};
 ghost use mathlib.Core.Path.{_≡_};
 ghost use Prim.Native.Nat.{_≤_, pred};
 ghost use lib.ListN.{length};
-ghost use Rattle.chars.specs.Class.{isSeparator, isSpace};
 ghost use Rattle.reader.specs.Reader.{Payable, behind, blankPassed, charPassed, enteredBy, literalPassed, place, skipped};
 use tasks::Place;
 use template::Node;
@@ -29,15 +28,6 @@ fn less_one(n: usize) -> usize
     if n == 0 { 0 } else { n - 1 }
 }
 
-fn is_blank(b: u8) -> bool
-    ensures { λ r. ⌜ r ≡ (isSpace b || isSeparator b) ⌝ }
-{
-    if chars::is_space_c(b) {
-        return true;
-    }
-    chars::is_separator_char(b)
-}
-
 // A space or separator of the template takes one of the input, or a skipped space.
 fn blank_passed(s: &[u8], p: Place) -> Place
     requires { ⌜ p .at ≤ length (now s) ⌝ }
@@ -45,7 +35,7 @@ fn blank_passed(s: &[u8], p: Place) -> Place
 {
     let at = p.at;
     let extra = p.extra;
-    if is_blank(chars::byte_at(s, at)) {
+    if chars::is_blank(chars::byte_at(s, at)) {
         return Place {
             at: at + 1,
             extra,

@@ -39,10 +39,10 @@ pub struct Reading {
     pub place: Place,
 }
 
-// What reading a pattern does.
+// What reading a pattern does. Whole words where they can be, so that no copy packs them into one.
 pub struct Task {
-    pub kind: u8,
-    pub field: u8,
-    pub rule: u8,
+    pub kind: usize,
+    pub field: usize,
+    pub rule: usize,
     pub width: u8,
 }

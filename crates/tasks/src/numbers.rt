@@ -18,19 +18,19 @@ use fields::Number;
 use template::Node;
 
 // The rules for a number; any other keeps it as it is.
-const HOUR12: u8 = 1;
+const HOUR12: usize = 1;
 
-const MILLIS: u8 = 2;
+const MILLIS: usize = 2;
 
-const MICROS: u8 = 3;
+const MICROS: usize = 3;
 
-const FRACTION: u8 = 4;
+const FRACTION: usize = 4;
 
-const ISO_DAY: u8 = 5;
+const ISO_DAY: usize = 5;
 
-const WHOLE_YEAR: u8 = 6;
+const WHOLE_YEAR: usize = 6;
 
-const PART_YEAR: u8 = 7;
+const PART_YEAR: usize = 7;
 
 fn power_of_ten(k: usize) -> i32
     requires { ⌜ k < 6 ⌝ }
@@ -86,7 +86,7 @@ fn sunday_first(z: i32) -> i32
 }
 
 // What a field keeps of a number that was read from n bytes.
-fn kept(rule: u8, z: i32, n: usize) -> i32
+fn kept(rule: usize, z: i32, n: usize) -> i32
     ensures { λ r. ⌜ r ≡ kept rule z n ⌝ }
 {
     match rule {
@@ -100,7 +100,7 @@ fn kept(rule: u8, z: i32, n: usize) -> i32
 }
 
 // What else is set: the clock of 12 hours, the digits of the year or of the fraction.
-fn noted(rule: u8, width: u8, f: &mut [i32; 24])
+fn noted(rule: usize, width: u8, f: &mut [i32; 24])
     ensures { λ r. ⌜ fieldsOf (now (f .exit)) ≡ noted rule width (fieldsOf (now (f .entry))) ⌝ }
 {
     match rule {

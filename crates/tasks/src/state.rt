@@ -8,20 +8,18 @@ use crate::Place;
 use crate::Verdict;
 use answers::Refusal;
 
-pub fn get(f: &[i32; 24], k: u8) -> i32
+pub fn get(f: &[i32; 24], k: usize) -> i32
     requires { ⌜ k < 24 ⌝ }
     ensures { λ r. ⌜ r ≡ get (fieldsOf (now (f .entry))) k ⌝ }
 {
-    let i = k as usize;
-    f[i]
+    f[k]
 }
 
-pub fn put(f: &mut [i32; 24], k: u8, z: i32)
+pub fn put(f: &mut [i32; 24], k: usize, z: i32)
     requires { ⌜ k < 24 ⌝ }
     ensures { λ r. ⌜ fieldsOf (now (f .exit)) ≡ put (fieldsOf (now (f .entry))) k z ⌝ }
 {
-    let i = k as usize;
-    f[i] = z;
+    f[k] = z;
 }
 
 pub fn read(p: Place) -> Outcome

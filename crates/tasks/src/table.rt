@@ -4,21 +4,21 @@ ghost use Rattle.tasks.specs.Tasks.{Assigned, taskTable};
 use crate::Task;
 
 // The kinds of a task.
-pub const NOTHING: u8 = 0;
+pub const NOTHING: usize = 0;
 
-pub const EXACT: u8 = 1;
+pub const EXACT: usize = 1;
 
-pub const NUMBER: u8 = 2;
+pub const NUMBER: usize = 2;
 
-pub const WORD: u8 = 3;
+pub const WORD: usize = 3;
 
-pub const DROPPED: u8 = 4;
+pub const DROPPED: usize = 4;
 
-pub const COMMA_YEAR: u8 = 5;
+pub const COMMA_YEAR: usize = 5;
 
-pub const OFFSET: u8 = 6;
+pub const OFFSET: usize = 6;
 
-pub const OFFSET_MINUTES: u8 = 7;
+pub const OFFSET_MINUTES: usize = 7;
 
 // A task in one number: its width, its rule, its kind and its field have 4, 4, 3 and 5 bits.
 const TASKS: [u16; 112] = [
@@ -157,9 +157,9 @@ pub fn task_at(tasks: &[u16; 112], pattern: u8) -> Task
     }
     let x = tasks[pattern as usize];
     Task {
-        kind: (x / 32 % 8) as u8,
-        field: (x % 32) as u8,
-        rule: (x / 256 % 16) as u8,
+        kind: (x / 32 % 8) as usize,
+        field: (x % 32) as usize,
+        rule: (x / 256 % 16) as usize,
         width: (x / 4096 % 16) as u8,
     }
 }

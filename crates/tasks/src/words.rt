@@ -14,13 +14,13 @@ use spelling::Word;
 use template::Node;
 
 // The rules for a word; by any other the odd places of its list are 1.
-const ODD_HOUR12: u8 = 1;
+const ODD_HOUR12: usize = 1;
 
-const MONTH: u8 = 2;
+const MONTH: usize = 2;
 
-const WEEKDAY: u8 = 3;
+const WEEKDAY: usize = 3;
 
-const ROMAN_MONTH: u8 = 4;
+const ROMAN_MONTH: usize = 4;
 
 // The word lists by number.
 fn list_of(k: u8) -> WordList
@@ -40,7 +40,7 @@ fn list_of(k: u8) -> WordList
 }
 
 // The number of a word at a place of its list.
-fn meant(rule: u8, k: usize) -> u8
+fn meant(rule: usize, k: usize) -> u8
     requires { ⌜ k < 12 ⌝ }
     ensures { λ r. ⌜ (r ≡ meant rule k) × (r ≤ 12) ⌝ }
 {
@@ -53,14 +53,14 @@ fn meant(rule: u8, k: usize) -> u8
 }
 
 // A weekday is kept one higher.
-fn kept_word(rule: u8, z: u8) -> u8
+fn kept_word(rule: usize, z: u8) -> u8
     requires { ⌜ z ≤ 12 ⌝ }
     ensures { λ r. ⌜ r ≡ keptWord rule z ⌝ }
 {
     if rule == WEEKDAY { z + 1 } else { z }
 }
 
-fn noted_word(rule: u8, f: &mut [i32; 24])
+fn noted_word(rule: usize, f: &mut [i32; 24])
     ensures { λ r. ⌜ fieldsOf (now (f .exit)) ≡ notedWord rule (fieldsOf (now (f .entry))) ⌝ }
 {
     if rule == ODD_HOUR12 {

@@ -20,9 +20,9 @@ use fields::Number;
 use template::Node;
 
 // The rules for an offset that differ from OF: hours alone, and a letter refused.
-const HOURS: u8 = 0;
+const HOURS: usize = 0;
 
-const NO_LETTER: u8 = 2;
+const NO_LETTER: usize = 2;
 
 fn is_sign(b: u8) -> bool
     ensures { λ r. ⌜ r ≡ isSign b ⌝ }
@@ -71,7 +71,7 @@ fn past_sign(s: &[u8], at: usize) -> usize
 }
 
 // A number of an offset goes into its field, unless that was set to another value.
-fn stored_offset(n: Node, k: u8, number: Number, f: &mut [i32; 24], p: Place) -> Outcome
+fn stored_offset(n: Node, k: usize, number: Number, f: &mut [i32; 24], p: Place) -> Outcome
     requires { ⌜ k < 24 ⌝ }
     ensures { λ r. ⌜ readInto r (now (f .exit)) ≡ storedOffset n k number (fieldsOf (now (f .entry))) p ⌝ }
 {
@@ -88,7 +88,7 @@ fn stored_offset(n: Node, k: u8, number: Number, f: &mut [i32; 24], p: Place) ->
 }
 
 // The minutes behind a colon, where both are read.
-fn colon_minutes(s: &[u8], n: Node, free: bool, rule: u8, f: &mut [i32; 24], p: Place) -> Outcome
+fn colon_minutes(s: &[u8], n: Node, free: bool, rule: usize, f: &mut [i32; 24], p: Place) -> Outcome
     ensures { λ r. ⌜ readInto r (now (f .exit)) ≡ colonMinutes (now (s .entry)) n free rule (fieldsOf (now (f .entry))) p ⌝ }
 {
     if rule == HOURS {
@@ -103,7 +103,7 @@ fn colon_minutes(s: &[u8], n: Node, free: bool, rule: u8, f: &mut [i32; 24], p: 
 }
 
 // Whether a letter stands where TZ reads an offset.
-fn is_zone_letter(rule: u8, b: u8) -> bool
+fn is_zone_letter(rule: usize, b: u8) -> bool
     ensures { λ r. ⌜ r ≡ (eqb rule noLetter && isLetter b) ⌝ }
 {
     if rule == NO_LETTER {

@@ -1,4 +1,4 @@
--- A set of patterns as the bits of two words of 64 bits.
+-- A set of numbers below 128 as the bits of two words of 64 bits.
 use mathlib.Core.Path.{_≡_, refl}
 use mathlib.Core.Bool.{Bool, true, false}
 use Prim.Native.Nat.{ℕ, _-_, _/_, _%_, _^_}

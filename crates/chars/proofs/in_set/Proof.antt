@@ -1,9 +1,9 @@
--- `patterns::in_set` meets its contract. Assumes nothing.
+-- `chars::in_set` meets its contract. Assumes nothing.
 use borrow.Author.Needs.{needs}
 use borrow.Author.Tests.{lt-ltb, le-ltb}
-use Rattle.patterns.specs.Sets.{inSet}
-use Rattle.patterns.proofs.in_set.Statement.{statement}
-use Rattle.patterns.proofs.in_set.Tie as tie
+use Rattle.chars.specs.Sets.{inSet}
+use Rattle.chars.proofs.in_set.Statement.{statement}
+use Rattle.chars.proofs.in_set.Tie as tie
 
 returns : tie.Need-returns
 unfolding inSet
