@@ -37,6 +37,11 @@ next-byte l at text i h = rw (drop-cons text i 0 h, add-one i, add-suc at i)
 pub no-byte : (l : List ℕ) (at : ℕ) (text : List ℕ) (i : ℕ) → i ≡ length text → sets l (at + i) (drop i text) ≡ l
 no-byte l at text i e = rw (e, drop-length text)
 
+pub one-byte : (l : List ℕ) (at : ℕ) (text : List ℕ) → length text ≡ 1 → set l at (getD text 0 0) ≡ sets l at text
+one-byte l at [] e = absurd (omega (arith, e))
+one-byte l at (x ∷ []) e = refl
+one-byte l at (x ∷ y ∷ ys) e = absurd (omega (arith, e))
+
 -- the last digit of i, before those in front of it
 pub last-digit : (l : List ℕ) (at i n : ℕ) → 0 < i → sets (set l (at + (i - 1)) (48 + n % 10)) at (decimal (i - 1) (n / 10)) ≡ sets l at (decimal i n)
 unfolding decimal

@@ -4,10 +4,15 @@ ghost use lib.ListN.{length};
 ghost use Rattle.strtol.specs.Decimal.{decimal};
 ghost use Rattle.pieces.specs.Output.{Put};
 
+// Most texts are one byte of a literal.
 pub fn put_bytes(text: &[u8], out: &mut [u8], at: usize) -> usize
     requires { ⌜ at + length (now text) ≤ length (now out) ⌝ }
     ensures { λ r. ⌜ Put (now (out .entry)) at (now (text .entry)) (now (out .exit)) r ⌝ }
 {
+    if text.len() == 1 {
+        out[at] = text[0];
+        return at + 1;
+    }
     let mut i = 0;
     while i < text.len() {
         out[at + i] = text[i];
