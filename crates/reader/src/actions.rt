@@ -31,7 +31,7 @@ fn performed(s: &[u8], n: Node, free: bool, task: Task, f: &mut [i32; 24], p: Pl
         table::NUMBER | table::COMMA_YEAR => numbers::read_number(s, n, free, task, f, p),
         table::WORD => words::read_word(s, n, task, f, p),
         table::EXACT => state::read(places::exact(p)),
-        table::DROPPED => numbers::read_dropped(s, n, free, task, f, p),
+        table::DROPPED => numbers::read_dropped(s, n, free, task, p),
         table::OFFSET => zones::read_offset(s, n, free, task, f, p),
         table::OFFSET_MINUTES => zones::read_offset_minutes(s, n, free, f, p),
         _ => state::read(p),

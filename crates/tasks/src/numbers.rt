@@ -1,7 +1,8 @@
 // Patterns that read a number, and a year with a comma.
+ghost use mathlib.Core.List.{List};
 ghost use mathlib.Core.Path.{_≡_};
 ghost use Prim.Native.Nat.{_<_, _≤_, _^_};
-ghost use lib.IntN.{pos};
+ghost use lib.IntN.{ℤ, pos};
 ghost use lib.ListN.{length};
 ghost use Rattle.fields.specs.Number.{Found as Numbered, Inside};
 ghost use Rattle.wrapping.specs.Wrap.{_⊗_};
@@ -163,17 +164,10 @@ pub fn read_number(
     stored_number(s, n, task, number, f, p)
 }
 
-// A number that is read and dropped.
-pub fn read_dropped(
-    s: &[u8],
-    n: Node,
-    free: bool,
-    task: Task,
-    f: &mut [i32; 24],
-    p: Place,
-) -> Outcome
+// A number that is read and dropped: the fields stay, whatever they hold.
+pub fn read_dropped(s: &[u8], n: Node, free: bool, task: Task, p: Place) -> Outcome
     requires { ⌜ p .at ≤ length (now s) ⌝ }
-    ensures { λ r. ⌜ readInto r (now (f .exit)) ≡ readDropped (now (s .entry)) n free task (fieldsOf (now (f .entry))) p ⌝ }
+    ensures { λ r. ⌜ ((values : List ℤ) → readInto r values ≡ readDropped (now (s .entry)) n free task (fieldsOf values) p) ⌝ }
 {
     match fields::parse_int_len(s, p.at, task.width, n.pattern, free) {
         Number::Refused(why) => state::refuse(why, p),

@@ -36,7 +36,7 @@ returns-3 : tie.Need-returns-3
 returns-3 c = rw (c .read .ensures, c .before .exact .ensures) (of-kind (c .before .before .before .before) 1 (c .before .before .match .keys3))
 
 returns-4 : tie.Need-returns-4
-returns-4 c = c .read-dropped .ensures ∙ of-kind (c .before .before .before .before) 4 (c .before .before .match .keys4)
+returns-4 c = c .read-dropped .ensures _ ∙ of-kind (c .before .before .before) 4 (c .before .match .keys4)
 
 returns-5 : tie.Need-returns-5
 returns-5 c = c .read-offset .ensures ∙ of-kind (c .before .before .before .before) 6 (c .before .before .match .keys5)

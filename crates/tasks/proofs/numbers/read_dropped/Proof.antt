@@ -6,13 +6,13 @@ use Rattle.tasks.proofs.numbers.read_dropped.Tie as tie
 
 returns : tie.Need-returns
 unfolding droppedNumber
-returns c =
+returns c values =
     let w = c .before .before in
     rw (← w .before .before .parse-int-len .ensures .is, w .why .given .1, c .refuse .ensures)
 
 returns-2 : tie.Need-returns-2
 unfolding droppedNumber
-returns-2 c =
+returns-2 c values =
     let l = c .before in
     let n = l .before .before .before in
     rw (← n .before .before .parse-int-len .ensures .is, n .next .given .1)
