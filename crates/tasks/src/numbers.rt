@@ -128,7 +128,7 @@ fn stored_number(
     match number {
         Number::Refused(why) => state::refuse(why, p),
         Number::Read { value, next } => {
-            if fields::from_char_set_int(state::get(f, task.field), value) {
+            if state::holds_other(f, task.field, value) {
                 return state::refuse(Refusal::Conflict { pattern: n.pattern }, p);
             }
             state::put(f, task.field, kept(task.rule, value, next - p.at));

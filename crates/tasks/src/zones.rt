@@ -78,7 +78,7 @@ fn stored_offset(n: Node, k: usize, number: Number, f: &mut [i32; 24], p: Place)
     match number {
         Number::Refused(why) => state::refuse(why, p),
         Number::Read { value, next } => {
-            if fields::from_char_set_int(state::get(f, k), value) {
+            if state::holds_other(f, k, value) {
                 return state::refuse(Refusal::Conflict { pattern: n.pattern }, p);
             }
             state::put(f, k, value);

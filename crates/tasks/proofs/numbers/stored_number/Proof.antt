@@ -1,5 +1,5 @@
 -- `tasks::numbers::stored_number` meets its contract. Assumes nothing.
-use mathlib.Core.Path.{_≡_, _∙_, sym}
+use mathlib.Core.Path.{_∙_, sym}
 use Prim.Native.Nat.{_<_}
 use native.Mathlib.Omega.{arith}
 use borrow.Author.Needs.{needs}
@@ -8,8 +8,6 @@ use mir.Facts.{toZ-ofZ}
 use mir.Syntax.{w32}
 use mir.Val.{SFits}
 use Rattle.wrapping.proofs.Fits.{returned}
-use Rattle.fields.specs.Setting.{conflicts}
-use Rattle.tasks.specs.Fields.{fieldsOf, get}
 use Rattle.tasks.specs.Numbers.{storedNumber}
 use Rattle.tasks.proofs.numbers.stored_number.Statement.{statement}
 use Rattle.tasks.proofs.numbers.stored_number.Tie as tie
@@ -23,20 +21,12 @@ moved c =
     let a = c .before .before .before .before in
     (rw (c .before .number2 .given .1) at (a .pre .1)) .0
 
--- the test
-tested : (c : tie.After-from-char-set-int) →
-    let k = c .before .before .before in
-    let a = k .before .before .before .before .args in
-    c .from-char-set-int .result ≡ conflicts (get (fieldsOf (now (a .f))) (a .task .field)) (k .before .number2 .given .0 .0)
-tested c =
-    let g = c .before .get in
-    simp (returned (g .ok) (g .ensures), toZ-ofZ (value-fits (c .before .before .before))) at (c .from-char-set-int .ensures)
-
 returns : tie.Need-returns
 unfolding storedNumber
 returns c =
     let t = c .before .before in
-    rw (t .before .before .before .before .number2 .given .1, sym (tested t) ∙ c .before .if1 .taken, c .refuse2 .ensures)
+    let v = t .before .before in
+    rw (v .before .number2 .given .1, simp (toZ-ofZ (value-fits v)) at (sym (t .holds-other .ensures)) ∙ c .before .if1 .taken, c .refuse2 .ensures)
 
 returns-2 : tie.Need-returns-2
 unfolding storedNumber
@@ -51,10 +41,10 @@ returns-3 c =
     let k = w .before in
     let e = k .before .before .before in
     let t = e .before in
-    let v = t .before .before .before in
+    let v = t .before .before in
     simp (
       v .before .number2 .given .1,
-      sym (tested t) ∙ e .if1 .left,
+      simp (toZ-ofZ (value-fits v)) at (sym (t .holds-other .ensures)) ∙ e .if1 .left,
       c .read .ensures,
       l .at-place .ensures,
       l .before .skip-th .ensures .is,
@@ -73,9 +63,8 @@ stored-number-spec =
     (λ c. search needs)
     (λ c κs. search needs)
     (λ c κs. search needs)
-    (λ c κs. search needs)
     returns
-    (λ c. let h = moved (c .before .before .before .before .before .before) in omega arith)
+    (λ c. let h = moved (c .before .before .before .before .before) in omega arith)
     (λ c κs. search needs)
     (λ c κs. search needs)
     (λ c κs. search needs)

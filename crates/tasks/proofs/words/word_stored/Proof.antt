@@ -9,7 +9,6 @@ use denote.Ref.{now}
 use lib.IntN.{ℤ, pos}
 use mir.Facts.{toZ-pos}
 use mir.Syntax.{w32}
-use Rattle.wrapping.proofs.Fits.{returned}
 use Rattle.fields.specs.Setting.{conflicts}
 use Rattle.template.specs.declared.Node.{Node}
 use Rattle.tasks.specs.Fields.{atPlace, fieldsOf, get, put, read, readInto, went}
@@ -29,12 +28,10 @@ stored : (n : Node) (task : Task) (z next : ℕ) (f : Fields) (p : Place) → co
 stored n task z next f p free o fields = rw (free, o) (ap (λ (g : Fields). read g (atPlace p next)) fields)
 
 -- the test
-tested : (c : tie.After-from-char-set-int) →
-    let a = c .before .before .before .args in
-    c .from-char-set-int .result ≡ conflicts (get (fieldsOf (now (a .f))) (a .task .field)) (pos (a .z))
-tested c =
-    let g = c .before .get in
-    simp (returned (g .ok) (g .ensures), toZ-pos w32 {n = c .before .before .before .args .z} (omega arith)) at (c .from-char-set-int .ensures)
+tested : (c : tie.After-holds-other) →
+    let a = c .before .before .args in
+    c .holds-other .result ≡ conflicts (get (fieldsOf (now (a .f))) (a .task .field)) (pos (a .z))
+tested c = simp (toZ-pos w32 {n = c .before .before .args .z} (omega arith)) at (c .holds-other .ensures)
 
 returns : tie.Need-returns
 returns c = rw (sym (tested (c .before .before)) ∙ c .before .if1 .taken, c .refuse .ensures)
@@ -45,7 +42,7 @@ returns-2 c =
     let p = w .before .before in
     let k = p .before in
     let e = k .before .before in
-    let a = e .before .before .before .before .args in
+    let a = e .before .before .before .args in
     let kept = ap (λ (x : ℕ). put (fieldsOf (now (a .f))) (a .task .field) (pos x)) (k .kept-word .ensures) in
     let set = simp (toZ-pos w32 {n = k .kept-word .result} (omega arith)) at (p .put .ensures) ∙ kept in
     stored (a .n) (a .task) (a .z) (a .next) (fieldsOf (now (a .f))) (a .p) (sym (tested (e .before)) ∙ e .if1 .left)
@@ -55,7 +52,6 @@ pub word-stored-spec : {M : Type 1} → statement M
 word-stored-spec =
     tie.close
     (tie.spec
-    (λ c κs. search needs)
     (λ c. search needs)
     (λ c κs. search needs)
     (λ c κs. search needs)

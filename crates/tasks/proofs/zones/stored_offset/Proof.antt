@@ -1,13 +1,10 @@
 -- `tasks::zones::stored_offset` meets its contract. Assumes nothing.
-use mathlib.Core.Path.{_≡_, _∙_, sym}
+use mathlib.Core.Path.{_∙_, sym}
 use borrow.Author.Needs.{needs}
 use denote.Ref.{now}
 use mir.Facts.{toZ-ofZ}
 use mir.Syntax.{w32}
 use mir.Val.{SFits}
-use Rattle.wrapping.proofs.Fits.{returned}
-use Rattle.fields.specs.Setting.{conflicts}
-use Rattle.tasks.specs.Fields.{fieldsOf, get}
 use Rattle.tasks.specs.Zones.{storedOffset}
 use Rattle.tasks.proofs.zones.stored_offset.Statement.{statement}
 use Rattle.tasks.proofs.zones.stored_offset.Tie as tie
@@ -16,20 +13,12 @@ use Rattle.tasks.proofs.zones.stored_offset.Tie as tie
 value-fits : (c : tie.After-known-told2) → SFits w32 (c .before .number2 .given .0 .0)
 value-fits c = search needs
 
--- the test
-tested : (c : tie.After-from-char-set-int) →
-    let k = c .before .before .before in
-    let a = k .before .before .before .args in
-    c .from-char-set-int .result ≡ conflicts (get (fieldsOf (now (a .f))) (a .k)) (k .before .number2 .given .0 .0)
-tested c =
-    let g = c .before .get in
-    simp (returned (g .ok) (g .ensures), toZ-ofZ (value-fits (c .before .before .before))) at (c .from-char-set-int .ensures)
-
 returns : tie.Need-returns
 unfolding storedOffset
 returns c =
     let t = c .before .before in
-    rw (t .before .before .before .before .number2 .given .1, sym (tested t) ∙ c .before .if1 .taken, c .refuse2 .ensures)
+    let v = t .before .before in
+    rw (v .before .number2 .given .1, simp (toZ-ofZ (value-fits v)) at (sym (t .holds-other .ensures)) ∙ c .before .if1 .taken, c .refuse2 .ensures)
 
 returns-2 : tie.Need-returns-2
 unfolding storedOffset
@@ -41,10 +30,10 @@ returns-3 c =
     let w = c .before .before in
     let e = w .before .before in
     let t = e .before in
-    let v = t .before .before .before in
+    let v = t .before .before in
     simp (
       v .before .number2 .given .1,
-      sym (tested t) ∙ e .if1 .left,
+      simp (toZ-ofZ (value-fits v)) at (sym (t .holds-other .ensures)) ∙ e .if1 .left,
       c .read .ensures,
       c .before .at-place .ensures,
       w .put .ensures,
@@ -58,7 +47,6 @@ stored-offset-spec =
     (λ c. search needs)
     (λ c κs. search needs)
     (λ c. search needs)
-    (λ c κs. search needs)
     (λ c κs. search needs)
     (λ c κs. search needs)
     returns
