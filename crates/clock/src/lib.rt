@@ -5,6 +5,7 @@ ghost use Rattle.values.specs.Within.{below};
 ghost use Rattle.clock.specs.Time.{_or_, hourOf, minuteOf, secondOf, hourOfTwelve, clockHour, microsOf, timeInRange, checkedOffset};
 use answers::Refusal;
 use tasks::Fields;
+use tasks::field;
 use values::Value;
 use values::checked_mul;
 use wrapping::wrapping_add;
@@ -21,29 +22,6 @@ pub enum Zoned {
     Refused(Refusal),
 }
 
-// The places of the fields.
-const HH: usize = 1;
-
-const PM: usize = 2;
-
-const MI: usize = 3;
-
-const SS: usize = 4;
-
-const SSSS: usize = 5;
-
-const MS: usize = 10;
-
-const US: usize = 17;
-
-const CLOCK: usize = 19;
-
-const TZSIGN: usize = 20;
-
-const TZH: usize = 21;
-
-const TZM: usize = 22;
-
 // A field, or another number where it is absent.
 fn field_or(value: i32, other: i32) -> i32
     ensures { λ r. ⌜ r ≡ value or other ⌝ }
@@ -57,19 +35,19 @@ fn field_or(value: i32, other: i32) -> i32
 pub fn hour_of(f: Fields) -> i32
     ensures { λ r. ⌜ r ≡ hourOf f ⌝ }
 {
-    field_or(f.values[HH], f.values[SSSS] / 3600)
+    field_or(f.values[field::HH], f.values[field::SSSS] / 3600)
 }
 
 pub fn minute_of(f: Fields) -> i32
     ensures { λ r. ⌜ r ≡ minuteOf f ⌝ }
 {
-    field_or(f.values[MI], f.values[SSSS] % 3600 / 60)
+    field_or(f.values[field::MI], f.values[field::SSSS] % 3600 / 60)
 }
 
 pub fn second_of(f: Fields) -> i32
     ensures { λ r. ⌜ r ≡ secondOf f ⌝ }
 {
-    field_or(f.values[SS], f.values[SSSS] % 3600 % 60)
+    field_or(f.values[field::SS], f.values[field::SSSS] % 3600 % 60)
 }
 
 // An hour of the 12-hour clock: 12 AM is 0, 12 PM is 12.
@@ -97,10 +75,10 @@ pub fn hour_of_twelve(pm: i32, hour: i32) -> Value
 pub fn clock_hour(f: Fields) -> Value
     ensures { λ r. ⌜ r ≡ clockHour f ⌝ }
 {
-    let clock = f.values[CLOCK];
+    let clock = f.values[field::CLOCK];
     let hour = hour_of(f);
     if clock == 12 {
-        return hour_of_twelve(f.values[PM], hour);
+        return hour_of_twelve(f.values[field::PM], hour);
     }
     Value::Is(hour)
 }
@@ -109,8 +87,8 @@ pub fn clock_hour(f: Fields) -> Value
 pub fn micros_of(f: Fields) -> Value
     ensures { λ r. ⌜ r ≡ microsOf f ⌝ }
 {
-    let us = f.values[US];
-    match checked_mul(Value::Is(f.values[MS]), 1000) {
+    let us = f.values[field::US];
+    match checked_mul(Value::Is(f.values[field::MS]), 1000) {
         Value::Is(whole) => Value::Is(wrapping_add(whole, us)),
         Value::Not(why) => Value::Not(why),
     }
@@ -155,12 +133,12 @@ fn offset_in_range(hours: i32, minutes: i32) -> bool
 pub fn offset_of(f: Fields) -> Zoned
     ensures { λ r. ⌜ r ≡ checkedOffset f ⌝ }
 {
-    let sign = f.values[TZSIGN];
+    let sign = f.values[field::TZSIGN];
     if sign == 0 {
         return Zoned::At(Offset::Absent);
     }
-    let hours = f.values[TZH];
-    let minutes = f.values[TZM];
+    let hours = f.values[field::TZH];
+    let minutes = f.values[field::TZM];
     if !offset_in_range(hours, minutes) {
         return Zoned::Refused(Refusal::OffsetRange);
     }

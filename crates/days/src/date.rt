@@ -4,7 +4,6 @@ ghost use Rattle.julian.specs.ToDate.{j2date};
 ghost use Rattle.days.specs.Dates.{yearMask, whole, begun, withJulian, dayOfWeek, firstOfWeek, withWeek, withMonthWeek, withDay, withMonth, aboveOne, fromDayOfYear, fromDayOfIsoYear, countsDayOfYear, lacksYear, withDayOfYear, datedOf, partInRange, dayInMonth, dateInRange};
 use super::Dated;
 use super::Days;
-use super::places;
 use super::year::year_of;
 use answers::Refusal;
 use gregorian::days_before;
@@ -15,6 +14,7 @@ use julian::pg_isoweek2j;
 use julian::pg_j2date;
 use patterns::MODE_ISOWEEK;
 use tasks::Fields;
+use tasks::field;
 use values::Value;
 use values::checked_add;
 use values::checked_mul;
@@ -34,10 +34,10 @@ const ISO_WEEKS: i32 = MODE_ISOWEEK as i32;
 fn year_mask(f: Fields) -> u8
     ensures { λ r. ⌜ r ≡ yearMask f ⌝ }
 {
-    if f.values[places::YEAR] != 0 {
+    if f.values[field::YEAR] != 0 {
         return M_YEAR;
     }
-    if f.values[places::CC] != 0 {
+    if f.values[field::CC] != 0 {
         return M_YEAR;
     }
     0
@@ -47,8 +47,8 @@ fn year_mask(f: Fields) -> u8
 pub fn begun(f: Fields, year: i32) -> Days
     ensures { λ r. ⌜ r ≡ begun f year ⌝ }
 {
-    let dd = f.values[places::DD];
-    let ddd = f.values[places::DDD];
+    let dd = f.values[field::DD];
+    let ddd = f.values[field::DDD];
     let set = year_mask(f);
     Days {
         year,
@@ -78,7 +78,7 @@ fn whole(jd: i32, r: Days) -> Days
 pub fn with_julian(f: Fields, r: Days) -> Days
     ensures { λ a. ⌜ a ≡ withJulian f r ⌝ }
 {
-    let j = f.values[places::J];
+    let j = f.values[field::J];
     if j == 0 {
         return r;
     }
@@ -109,13 +109,13 @@ fn first_of_week(week: i32) -> Value
 pub fn with_week(f: Fields, r: Days) -> Dated
     ensures { λ a. ⌜ a ≡ withWeek f r ⌝ }
 {
-    let week = f.values[places::WW];
+    let week = f.values[field::WW];
     if week == 0 {
         return Dated::Date(r);
     }
-    if f.values[places::MODE] == ISO_WEEKS {
+    if f.values[field::MODE] == ISO_WEEKS {
         let monday = pg_isoweek2j(r.year, week);
-        return Dated::Date(whole(day_of_week(monday, f.values[places::D]), r));
+        return Dated::Date(whole(day_of_week(monday, f.values[field::D]), r));
     }
     match first_of_week(week) {
         Value::Is(ddd) => Dated::Date(Days {
@@ -134,7 +134,7 @@ pub fn with_week(f: Fields, r: Days) -> Dated
 pub fn with_month_week(f: Fields, r: Days) -> Dated
     ensures { λ a. ⌜ a ≡ withMonthWeek f r ⌝ }
 {
-    let week = f.values[places::W];
+    let week = f.values[field::W];
     if week == 0 {
         return Dated::Date(r);
     }
@@ -170,7 +170,7 @@ pub fn with_day(r: Days) -> Days
 pub fn with_month(f: Fields, r: Days) -> Days
     ensures { λ a. ⌜ a ≡ withMonth f r ⌝ }
 {
-    let month = f.values[places::MM];
+    let month = f.values[field::MM];
     if month == 0 {
         return r;
     }
@@ -239,7 +239,7 @@ fn lacks_year(f: Fields, r: Days) -> bool
     if r.year != 0 {
         return false;
     }
-    f.values[places::BC] == 0
+    f.values[field::BC] == 0
 }
 
 pub fn with_day_of_year(f: Fields, r: Days) -> Dated
@@ -251,7 +251,7 @@ pub fn with_day_of_year(f: Fields, r: Days) -> Dated
     if lacks_year(f, r) {
         return Dated::Refused(Refusal::NoYear);
     }
-    if f.values[places::MODE] == ISO_WEEKS {
+    if f.values[field::MODE] == ISO_WEEKS {
         return Dated::Date(from_day_of_iso_year(r));
     }
     Dated::Date(from_day_of_year(r))

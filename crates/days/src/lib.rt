@@ -1,6 +1,5 @@
 // The date that fields make: the year, then a Julian day, weeks, the day and the month, the day of the year.
 mod date;
-mod places;
 mod year;
 
 use answers::Refusal;

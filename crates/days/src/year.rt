@@ -3,8 +3,8 @@ ghost use mathlib.Core.Path.{_≡_};
 ghost use lib.IntN.{pos};
 ghost use lib.Signed.{remZ};
 ghost use Rattle.days.specs.Year.{signedBy, plainYear, yearInCentury, firstOfCentury, yearOf};
-use super::places;
 use tasks::Fields;
+use tasks::field;
 use values::Value;
 use values::checked_add;
 use values::checked_mul;
@@ -63,9 +63,9 @@ fn plain_year(year: i32) -> i32
 pub fn year_of(f: Fields) -> Value
     ensures { λ r. ⌜ r ≡ yearOf f ⌝ }
 {
-    let year = f.values[places::YEAR];
-    let cc = f.values[places::CC];
-    let bc = f.values[places::BC];
+    let year = f.values[field::YEAR];
+    let cc = f.values[field::CC];
+    let bc = f.values[field::BC];
     if year == 0 {
         if cc == 0 {
             return Value::Is(0);
@@ -75,7 +75,7 @@ pub fn year_of(f: Fields) -> Value
     if cc == 0 {
         return Value::Is(plain_year(signed_by(bc, year)));
     }
-    if f.values[places::YYSZ] < 3 {
+    if f.values[field::YYSZ] < 3 {
         return year_in_century(signed_by(bc, cc), year);
     }
     Value::Is(plain_year(signed_by(bc, year)))

@@ -18,6 +18,7 @@ use days::dated_of;
 use tasks::Fields;
 use tasks::Reading;
 use tasks::Verdict;
+use tasks::field;
 use template::NODE;
 use template::NODES;
 use values::Value;
@@ -39,14 +40,11 @@ pub enum Answer {
     Refused(Refusal),
 }
 
-// The place of the digits of a second that were asked for.
-const FF: usize = 23;
-
 // The moment, of a date and of hour and microseconds. The checks in order: date, time, offset.
 pub fn checked_moment(f: Fields, r: Days, hour: i32, micros: i32) -> Answer
     ensures { λ a. ⌜ a ≡ checkedMoment f r hour micros ⌝ }
 {
-    let precision = f.values[FF];
+    let precision = f.values[field::FF];
     let minute = minute_of(f);
     let second = second_of(f);
     if !date_in_range(r) {
