@@ -84,6 +84,16 @@ fn more_nodes_than_a_template_has() {
     assert!(PARTS.by_nodes(&[0; NODES + 1], b"", b"").is_ok());
 }
 
+/// A pattern past the table is refused without a name, also where one behind it is not written.
+#[test]
+fn no_pattern_is_not_written() {
+    let nodes = [0, 0, 1, 1, 200, 0, 1, 0, 3, 1, 14, 0];
+    for nodes in [&nodes[..6], &nodes] {
+        let refused = write_by(nodes, b"", &Moment::midnight(2024, 2, 29), &mut []);
+        assert_eq!(refused, Err(Refusal::alone(Cause::NotWritten)));
+    }
+}
+
 /// The table ends where a report has no pattern; no place behind it has a name.
 #[test]
 fn names_of_patterns() {
