@@ -19,11 +19,11 @@ use Rattle.julian.specs.ToDay.{date2j, fromMarch}
 use Rattle.julian.specs.Week.{isoweek2j, weekOne, j2day}
 use Rattle.patterns.specs.Affixes.{bitAt}
 use Rattle.patterns.specs.Search.{patternAt}
-use Rattle.tasks.specs.Numbers.{kept, noted, storedNumber}
+use Rattle.numbers.specs.Numbers.{kept, noted, storedNumber}
 use Rattle.reader.specs.Reader.{performed, pastSpaces, actionRead, literalPassed, entered, nodeRead, readFrom, readAll}
 use Rattle.tasks.specs.Tasks.{taskOf}
-use Rattle.tasks.specs.Words.{meant, storedWord}
-use Rattle.tasks.specs.Zones.{signOf, storedOffset, colonMinutes, thenMinutes, readOffset}
+use Rattle.words.specs.Words.{meant, storedWord}
+use Rattle.zones.specs.Zones.{signOf, storedOffset, colonMinutes, thenMinutes, readOffset}
 use Rattle.strtol.specs.Runs.{leading, numberFrom}
 use Rattle.strtol.specs.Strtol.{strtol}
 use Rattle.template.specs.Template.{kindOf, charPlace, literalAt, plainAt, stepAt, nodesFrom, nodesOf}

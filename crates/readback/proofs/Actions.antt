@@ -16,10 +16,10 @@ use Rattle.spelling.specs.Word.{wordAt}
 use Rattle.spelling.specs.declared.Word.the-variants.{At}
 use Rattle.gregorian.proofs.Dates.{each}
 use Rattle.tasks.specs.Fields.{get, put, read, mode}
-use Rattle.tasks.specs.Numbers.{storedNumber}
+use Rattle.numbers.specs.Numbers.{storedNumber}
 use Rattle.reader.specs.Reader.{place, mixes, withMode, performed, pastSpaces, actionRead, entered, nodeRead}
 use Rattle.tasks.specs.Tasks.{exact, number, word}
-use Rattle.tasks.specs.Words.{listOf, storedWord}
+use Rattle.words.specs.Words.{listOf, storedWord}
 use Rattle.tasks.specs.declared.Fields.{Fields}
 use Rattle.strtol.specs.Decimal.{decimal}
 use Rattle.strtol.specs.Runs.{digits, spaces}

@@ -12,9 +12,9 @@ use Rattle.gregorian.proofs.Dates.{each, length-range, real}
 use Rattle.gregorian.proofs.Ordinal.{ordinal-range}
 use Rattle.gregorian.proofs.Weeks.{week-range, year-range}
 use Rattle.tasks.specs.Fields.{put}
-use Rattle.tasks.specs.Numbers.{kept, noted}
+use Rattle.numbers.specs.Numbers.{kept, noted}
 use Rattle.reader.specs.Reader.{withMode}
-use Rattle.tasks.specs.Words.{meant, notedWord, keptWord}
+use Rattle.words.specs.Words.{meant, notedWord, keptWord}
 use Rattle.tasks.specs.declared.Fields.{Fields}
 use Rattle.wrapping.specs.Wrap.{wrap32}
 use Rattle.wrapping.proofs.Small.{wrap-pos}

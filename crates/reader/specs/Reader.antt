@@ -17,10 +17,10 @@ use Rattle.strtol.specs.Runs.{spaces}
 use Rattle.template.specs.Template.{end, action, character, separator, space, endNode}
 use Rattle.template.specs.declared.Node.{Node}
 use Rattle.tasks.specs.Fields.{fieldsOf, mode, noFields, get, put, read, refuse, onward, conflicts, isExact, atPlace}
-use Rattle.tasks.specs.Numbers.{readNumber, readDropped}
+use Rattle.numbers.specs.Numbers.{readNumber, readDropped}
 use Rattle.tasks.specs.Tasks.{exact, number, word, dropped, commaYear, offset, offsetMinutes, taskOf}
-use Rattle.tasks.specs.Words.{readWord}
-use Rattle.tasks.specs.Zones.{readOffset, readOffsetMinutes}
+use Rattle.words.specs.Words.{readWord}
+use Rattle.zones.specs.Zones.{readOffset, readOffsetMinutes}
 use Rattle.tasks.specs.declared.Fields.{Fields}
 use Rattle.tasks.specs.declared.Outcome.{Outcome}
 use Rattle.tasks.specs.declared.Place.{Place}

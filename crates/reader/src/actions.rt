@@ -14,11 +14,8 @@ use tasks::Place;
 use tasks::Task;
 use tasks::Verdict;
 use tasks::field;
-use tasks::numbers;
 use tasks::state;
 use tasks::table;
-use tasks::words;
-use tasks::zones;
 use template::Node;
 
 // By the kind of its task.

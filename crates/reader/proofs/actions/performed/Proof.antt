@@ -6,7 +6,7 @@ use borrow.Author.Needs.{needs}
 use borrow.Author.Tests.{ne-eqb}
 use denote.Ref.{now}
 use Rattle.tasks.specs.Fields.{fieldsOf}
-use Rattle.tasks.specs.Numbers.{readNumber}
+use Rattle.numbers.specs.Numbers.{readNumber}
 use Rattle.reader.specs.Reader.{byKind, performed}
 use Rattle.reader.proofs.actions.performed.Statement.{statement}
 use Rattle.reader.proofs.actions.performed.Tie as tie

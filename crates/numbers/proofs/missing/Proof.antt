@@ -1,0 +1,28 @@
+-- `reader::numbers::missing` meets its contract. Assumes nothing.
+use mathlib.Core.Path.{_≡_, _∙_}
+use Prim.Native.Nat.{ℕ, _-_}
+use native.Mathlib.Omega.{arith}
+use borrow.Author.Needs.{needs}
+use borrow.Author.Tests.{ne-eqb}
+use Rattle.wrapping.proofs.Fits.{returned}
+use Rattle.numbers.proofs.missing.Statement.{statement}
+use Rattle.numbers.proofs.missing.Tie as tie
+
+returns-2 : tie.Need-returns-2
+returns-2 c =
+    let a = c .before .before .args in
+    let none : a .width - a .n ≡ 0 = omega arith in
+    rw (ne-eqb _ _ (c .before .if1 .left), none)
+
+returns-3 : tie.Need-returns-3
+returns-3 c = rw (ne-eqb _ _ (c .before .before .if1 .left)) (returned (c .power-of-ten .ok) (c .power-of-ten .ensures))
+
+pub missing-spec : {M : Type 1} → statement M
+missing-spec =
+    tie.close
+    (tie.spec
+    (λ c. rw (c .if1 .taken))
+    returns-2
+    (λ c. search needs)
+    (λ c κs. search needs)
+    returns-3)

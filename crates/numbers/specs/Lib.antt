@@ -1,0 +1,2 @@
+-- Patterns that read a number.
+pub mod Numbers

@@ -1,0 +1,2 @@
+-- Patterns that read a word.
+pub mod Words

@@ -1,0 +1,2 @@
+-- Patterns that read an offset.
+pub mod Zones
