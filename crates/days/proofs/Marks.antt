@@ -11,7 +11,7 @@ use Rattle.patterns.specs.Patterns.{isoWeek}
 use Rattle.tasks.specs.Fields.{get, isZero, eqℤ, mode, d, ww, w, j, mm}
 use Rattle.tasks.specs.declared.Fields.{Fields}
 use Rattle.days.specs.Dates.{monthBit, dayBit, isSet, whole, begun, withJulian, dayOfWeek, firstOfWeek, onDayOfYear, onDayOfMonth, withWeek, withMonthWeek, withDay, withMonth, fromDayOfYear, fromDayOfIsoYear, countsDayOfYear, lacksYear, withDayOfYear, thenDayOfYear, thenMonthWeek, thenWeek, datedOf}
-use Rattle.days.specs.Year.{yearOf}
+use Rattle.eras.specs.Year.{yearOf}
 use Rattle.days.specs.declared.Dated.{Dated}
 use Rattle.days.specs.declared.Dated.the-variants.{Date, Refused}
 use Rattle.days.specs.declared.Days.{Days}

@@ -18,7 +18,7 @@ use Rattle.tasks.specs.Fields.{get, isZero, eqℤ, mode, d, dd, ddd, mm, year, 
 use Rattle.tasks.specs.declared.Fields.{Fields}
 use Rattle.wrapping.specs.Wrap.{wrap32, _⊕_, _⊖_}
 use Rattle.values.specs.Checked.{_plus_, _times_}
-use Rattle.days.specs.Year.{yearOf}
+use Rattle.eras.specs.Year.{yearOf}
 use Rattle.days.specs.declared.Days.{Days}
 use Rattle.days.specs.declared.Dated.{Dated}
 use Rattle.days.specs.declared.Dated.the-variants.{Date as DateOf, Refused}

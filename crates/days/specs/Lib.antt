@@ -1,3 +1,2 @@
 -- The date that fields make.
-pub mod Year
 pub mod Dates

@@ -1,6 +1,5 @@
 // The date that fields make: the year, then a Julian day, weeks, the day and the month, the day of the year.
 mod date;
-mod year;
 
 use answers::Refusal;
 pub use date::begun;
@@ -13,9 +12,6 @@ pub use date::with_julian;
 pub use date::with_month;
 pub use date::with_month_week;
 pub use date::with_week;
-pub use year::first_of_century;
-pub use year::year_in_century;
-pub use year::year_of;
 
 // The date so far: year, month and day, which of them are set (bits 1, 2 and 4), and the day of the month and of the year that are still to be used.
 pub struct Days {

@@ -8,7 +8,7 @@ use lib.IntN.{pos}
 use Rattle.wrapping.proofs.Small.{wrap-pos}
 use Rattle.days.specs.Dates.{yearBit, days, begun, withJulian, withWeek, withMonthWeek, withDay, withMonth, withDayOfYear, datedOf}
 use Rattle.clock.specs.Time.{microsOf, offsetOf, offsetInRange, checkedOffset}
-use Rattle.days.specs.Year.{yearOf}
+use Rattle.eras.specs.Year.{yearOf}
 use Rattle.days.specs.declared.Dated.the-variants.{Date}
 use Rattle.days.specs.declared.Days.{Days}
 use Rattle.clock.specs.declared.Offset.the-variants.{Absent}

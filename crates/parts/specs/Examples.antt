@@ -31,7 +31,7 @@ use Rattle.wrapping.specs.Wrap.{wrap32}
 use Rattle.days.specs.Dates.{begun, withJulian, firstOfWeek, withWeek, withMonthWeek, withDayOfYear, datedOf, dateInRange}
 use Rattle.parts.specs.Parts.{checkedMoment, momentOf, partsOf}
 use Rattle.clock.specs.Time.{hourOf, minuteOf, secondOf, hourOfTwelve, clockHour, microsOf, timeInRange, eastOf, offsetOf, offsetInRange, checkedOffset}
-use Rattle.days.specs.Year.{yearInCentury, firstOfCentury, yearOf}
+use Rattle.eras.specs.Year.{yearInCentury, firstOfCentury, yearOf}
 use Rattle.parts.specs.declared.Answer.{Answer}
 use Rattle.parts.specs.declared.Answer.the-variants.{Moment, Refused}
 use Rattle.clock.specs.declared.Offset.{Offset}

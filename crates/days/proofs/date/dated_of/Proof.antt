@@ -2,7 +2,7 @@
 use mathlib.Core.Path.{_≡_, _∙_, sym}
 use borrow.Author.Needs.{needs}
 use Rattle.days.specs.Dates.{begun, withJulian, withWeek, withMonthWeek, datedOf}
-use Rattle.days.specs.Year.{yearOf}
+use Rattle.eras.specs.Year.{yearOf}
 use Rattle.days.specs.declared.Dated.{Dated}
 use Rattle.values.specs.declared.Value.{Value}
 use Rattle.values.proofs.Fits.{back}

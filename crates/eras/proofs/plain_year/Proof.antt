@@ -5,8 +5,8 @@ use mir.Facts.{toZ-ofZ}
 use mir.Syntax.{w32}
 use mir.Val.{SFits}
 use Rattle.values.proofs.Fits.{next-fits}
-use Rattle.days.proofs.year.plain_year.Statement.{statement}
-use Rattle.days.proofs.year.plain_year.Tie as tie
+use Rattle.eras.proofs.plain_year.Statement.{statement}
+use Rattle.eras.proofs.plain_year.Tie as tie
 
 next : (c : tie.Then1) → SFits w32 (c .before .args .year +ℤ pos 1)
 next c =

@@ -2,11 +2,11 @@
 use borrow.Author.Needs.{needs}
 use Rattle.tasks.specs.Fields.{year, cc}
 use Rattle.wrapping.proofs.Fits.{returned}
-use Rattle.days.specs.Year.{yearOf}
+use Rattle.eras.specs.Year.{yearOf}
 use Rattle.values.proofs.Known.{Known, known}
 use Rattle.values.proofs.Tests.{absent, present}
-use Rattle.days.proofs.year.year_of.Statement.{statement}
-use Rattle.days.proofs.year.year_of.Tie as tie
+use Rattle.eras.proofs.year_of.Statement.{statement}
+use Rattle.eras.proofs.year_of.Tie as tie
 
 has : (c : tie.After-bc) → Known (c .before .before .before .args .t1)
 has c = let s = c .before .before .before in known (s .args .t1) _ (s .good .0)

@@ -10,11 +10,11 @@ use mir.Syntax.{w32}
 use mir.Val.{SFits}
 use Rattle.tasks.specs.Fields.{isZero}
 use Rattle.wrapping.proofs.Fits.{wrap-back, quot-fits}
-use Rattle.days.specs.Year.{yearInCentury}
+use Rattle.eras.specs.Year.{yearInCentury}
 use Rattle.values.proofs.Fits.{rem-fits, neg-rem-fits, wrap-twice}
 use Rattle.values.proofs.Tests.{absent, present}
-use Rattle.days.proofs.year.year_in_century.Statement.{statement}
-use Rattle.days.proofs.year.year_in_century.Tie as tie
+use Rattle.eras.proofs.year_in_century.Statement.{statement}
+use Rattle.eras.proofs.year_in_century.Tie as tie
 
 digits : (c : tie.Start) → SFits w32 (remZ (c .args .year) (pos 100))
 digits c = rem-fits (c .args .year) 100 (c .fits .year)

@@ -2,9 +2,9 @@
 use borrow.Author.Needs.{needs}
 use mir.Facts.{toZ-ofZ}
 use Rattle.wrapping.proofs.Fits.{wrap-back}
-use Rattle.days.specs.Year.{firstOfCentury}
-use Rattle.days.proofs.year.first_of_century.Statement.{statement}
-use Rattle.days.proofs.year.first_of_century.Tie as tie
+use Rattle.eras.specs.Year.{firstOfCentury}
+use Rattle.eras.proofs.first_of_century.Statement.{statement}
+use Rattle.eras.proofs.first_of_century.Tie as tie
 
 returns : tie.Need-returns
 unfolding firstOfCentury

@@ -3,8 +3,8 @@ use borrow.Author.Needs.{needs}
 use mir.Facts.{toZ-ofZ}
 use Rattle.wrapping.proofs.Fits.{wrap-back}
 use Rattle.values.proofs.Tests.{absent, present}
-use Rattle.days.proofs.year.signed_by.Statement.{statement}
-use Rattle.days.proofs.year.signed_by.Tie as tie
+use Rattle.eras.proofs.signed_by.Statement.{statement}
+use Rattle.eras.proofs.signed_by.Tie as tie
 
 returns : tie.Need-returns
 returns c =

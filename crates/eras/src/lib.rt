@@ -2,7 +2,7 @@
 ghost use mathlib.Core.Path.{_≡_};
 ghost use lib.IntN.{pos};
 ghost use lib.Signed.{remZ};
-ghost use Rattle.days.specs.Year.{signedBy, plainYear, yearInCentury, firstOfCentury, yearOf};
+ghost use Rattle.eras.specs.Year.{signedBy, plainYear, yearInCentury, firstOfCentury, yearOf};
 use tasks::Fields;
 use tasks::field;
 use values::Value;

@@ -1,0 +1,2 @@
+-- The year that fields make.
+pub mod Year
