@@ -20,7 +20,8 @@ use Rattle.julian.specs.Week.{isoweek2j, weekOne, j2day}
 use Rattle.patterns.specs.Affixes.{bitAt}
 use Rattle.patterns.specs.Search.{patternAt}
 use Rattle.numbers.specs.Numbers.{kept, noted, storedNumber}
-use Rattle.reader.specs.Reader.{performed, pastSpaces, actionRead, literalPassed, entered, nodeRead, readFrom, readAll}
+use Rattle.places.specs.Places.{literalPassed}
+use Rattle.reader.specs.Reader.{performed, pastSpaces, actionRead, entered, nodeRead, readFrom, readAll}
 use Rattle.tasks.specs.Tasks.{taskOf}
 use Rattle.words.specs.Words.{meant, storedWord}
 use Rattle.zones.specs.Zones.{signOf, storedOffset, colonMinutes, thenMinutes, readOffset}

@@ -17,7 +17,8 @@ use Rattle.spelling.specs.declared.Word.the-variants.{At}
 use Rattle.gregorian.proofs.Dates.{each}
 use Rattle.tasks.specs.Fields.{get, put, read, mode}
 use Rattle.numbers.specs.Numbers.{storedNumber}
-use Rattle.reader.specs.Reader.{place, mixes, withMode, performed, pastSpaces, actionRead, entered, nodeRead}
+use Rattle.places.specs.Places.{place}
+use Rattle.reader.specs.Reader.{mixes, withMode, performed, pastSpaces, actionRead, entered, nodeRead}
 use Rattle.tasks.specs.Tasks.{exact, number, word}
 use Rattle.words.specs.Words.{listOf, storedWord}
 use Rattle.tasks.specs.declared.Fields.{Fields}

@@ -13,7 +13,7 @@ use Rattle.notation.proofs.Cases.{both}
 use Rattle.chars.specs.Character.{lead, charLength}
 use Rattle.chars.proofs.Characters.{lead-one}
 use Rattle.chars.proofs.Classes.{wide-class}
-use Rattle.reader.specs.Reader.{place, literalPassed}
+use Rattle.places.specs.Places.{place, literalPassed}
 use Rattle.template.specs.Template.{separator, space}
 use Rattle.template.specs.declared.Node.{Node}
 use Rattle.readback.proofs.Ahead.{Ahead, ahead-more}

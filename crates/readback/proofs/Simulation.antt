@@ -10,7 +10,8 @@ use lib.Dec.{eqb, ltb}
 use lib.ListN.{length, drop}
 use lib.Seq.{drop-drop}
 use Rattle.tasks.specs.Fields.{read}
-use Rattle.reader.specs.Reader.{place, literalPassed, entered, nodeRead, headOf, readFrom}
+use Rattle.places.specs.Places.{place, literalPassed}
+use Rattle.reader.specs.Reader.{entered, nodeRead, headOf, readFrom}
 use Rattle.tasks.specs.declared.Fields.{Fields}
 use Rattle.tasks.specs.declared.Place.{Place}
 use Rattle.tasks.specs.declared.Reading.{Reading}

@@ -17,14 +17,15 @@ use Rattle.patterns.specs.Patterns.{patternOf}
 use Rattle.template.specs.Template.{separator, space}
 use Rattle.template.specs.declared.Node.{Node}
 use Rattle.tasks.specs.Fields.{get, isExact, mode, noFields, refuse}
-use Rattle.reader.specs.Reader.{Payable, actionRead, behind, blankPassed, charPassed, enteredBy, literalPassed, mixes, pastSpaces, performed, place, skipped, whenRead, withMode}
+use Rattle.places.specs.Places.{Payable, behind, blankPassed, charPassed, enteredBy, literalPassed, place, skipped}
+use Rattle.reader.specs.Reader.{actionRead, mixes, pastSpaces, performed, whenRead, withMode}
 use Rattle.tasks.specs.Tasks.{taskOf}
 use Rattle.tasks.specs.declared.Fields.{Fields}
 use Rattle.tasks.specs.declared.Place.{Place}
 use Rattle.tasks.specs.declared.Reading.{Reading}
 use Rattle.tasks.specs.declared.Verdict.{Verdict}
 use Rattle.tasks.specs.declared.Verdict.the-variants.{Read, Refused}
-use Rattle.reader.proofs.Literals.{spaces-few}
+use Rattle.places.proofs.Literals.{spaces-few}
 
 pub never : {why : Refusal} → Refused why ≡ Read → ⊥
 never e = let z : _≡_ {A = ℕ} 0 1 = cc in omega arith

@@ -13,7 +13,8 @@ use Rattle.answers.specs.declared.Refusal.{Refusal}
 use Rattle.template.specs.Template.{endNode}
 use Rattle.template.specs.declared.Node.{Node}
 use Rattle.tasks.specs.Fields.{noFields, read, onward}
-use Rattle.reader.specs.Reader.{Payable, actionRead, entered, enteredBy, headOf, literalPassed, nodeRead, place, readAll, readFrom}
+use Rattle.places.specs.Places.{Payable, enteredBy, literalPassed, place}
+use Rattle.reader.specs.Reader.{actionRead, entered, headOf, nodeRead, readAll, readFrom}
 use Rattle.tasks.specs.Tasks.{exact, taskOf}
 use Rattle.reader.specs.Turn.{Turned, LiteralsRead}
 use Rattle.tasks.specs.declared.Fields.{Fields}

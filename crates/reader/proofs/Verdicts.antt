@@ -9,7 +9,8 @@ use Rattle.fields.specs.Suffix.{isFree}
 use Rattle.patterns.specs.Patterns.{patternOf}
 use Rattle.template.specs.declared.Node.{Node}
 use Rattle.tasks.specs.Fields.{fieldsOf, get, mode, noFields, read, readInto, refuse, went}
-use Rattle.reader.specs.Reader.{Went, actionRead, behind, mixes, pastSpaces, performed, withMode}
+use Rattle.places.specs.Places.{behind}
+use Rattle.reader.specs.Reader.{Went, actionRead, mixes, pastSpaces, performed, withMode}
 use Rattle.reader.specs.Turn.{unread}
 use Rattle.tasks.specs.Tasks.{taskOf}
 use Rattle.tasks.specs.declared.Fields.{Fields}

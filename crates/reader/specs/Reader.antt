@@ -2,25 +2,22 @@
 use mathlib.Core.Path.{_≡_}
 use mathlib.Core.Bool.{Bool, true, false, not, _&&_, _||_}
 use mathlib.Core.List.{List, [], _∷_}
-use Prim.Native.Nat.{ℕ, _+_, _≤_, pred}
+use Prim.Native.Nat.{ℕ}
 use lib.Dec.{eqb, ltb}
 use lib.IntN.{ℤ, pos}
-use lib.ListN.{length, drop}
+use lib.ListN.{length}
 use Rattle.notation.specs.Choice.{if_then_else_}
-use Rattle.notation.specs.Text.{byteAt}
 use Rattle.answers.specs.declared.Refusal.the-variants.{MixedDates}
-use Rattle.chars.specs.Character.{charLength}
-use Rattle.chars.specs.Class.{isSpace, isSeparator}
 use Rattle.fields.specs.Suffix.{isFree}
 use Rattle.patterns.specs.Patterns.{patternOf}
-use Rattle.strtol.specs.Runs.{spaces}
-use Rattle.template.specs.Template.{end, action, character, separator, space, endNode}
+use Rattle.template.specs.Template.{action, endNode}
 use Rattle.template.specs.declared.Node.{Node}
-use Rattle.tasks.specs.Fields.{fieldsOf, mode, noFields, get, put, read, refuse, onward, conflicts, isExact, atPlace}
+use Rattle.tasks.specs.Fields.{fieldsOf, mode, noFields, get, put, read, refuse, onward, conflicts}
 use Rattle.numbers.specs.Numbers.{readNumber, readDropped}
 use Rattle.tasks.specs.Tasks.{exact, number, word, dropped, commaYear, offset, offsetMinutes, taskOf}
 use Rattle.words.specs.Words.{readWord}
 use Rattle.zones.specs.Zones.{readOffset, readOffsetMinutes}
+use Rattle.places.specs.Places.{place, behind, literalPassed, enteredBy}
 use Rattle.tasks.specs.declared.Fields.{Fields}
 use Rattle.tasks.specs.declared.Outcome.{Outcome}
 use Rattle.tasks.specs.declared.Place.{Place}
@@ -28,9 +25,6 @@ use Rattle.tasks.specs.declared.Reading.{Reading}
 use Rattle.tasks.specs.declared.Task.{Task}
 use Rattle.tasks.specs.declared.Verdict.{Verdict}
 use Rattle.tasks.specs.declared.Verdict.the-variants.{Read, Refused}
-
-abbrev pub place : ℕ → ℕ → Bool → Place
-place at extra fx = record { at = at; extra = extra; fx = if fx then 1 else 0 }
 
 -- a pattern has a date mode, and another was set before
 abbrev pub mixes : ℕ → ℤ → Bool
@@ -52,14 +46,6 @@ byKind kind s n free task f p =
 
 unfoldable pub performed : List ℕ → Node → Bool → Task → Fields → Place → Reading
 performed s n free task f p = byKind (task .kind) s n free task f p
-
--- past the spaces, which pay for literals to come
-abbrev pub skipped : List ℕ → Place → Place
-skipped s p = let k = spaces (drop (p .at) s) in place (p .at + k) (p .extra + k) false
-
--- without FX the spaces behind a field are skipped, and pay for literals to come
-abbrev pub behind : List ℕ → Place → Place
-behind s p = if isExact p then p else skipped s (place (p .at) 0 false)
 
 unfoldable pub pastSpaces : List ℕ → Reading → Reading
 pastSpaces s r = record { verdict = r .verdict; fields = r .fields; place = behind s (r .place) }
@@ -83,36 +69,9 @@ pub record Went (r : Reading) (o : Outcome) (values : List ℤ) : Type 0 where
   pub place : o .place ≡ r .place
   pub fields : o .verdict ≡ Read → fieldsOf values ≡ r .fields
 
--- without FX no more spaces were skipped than the input has bytes
-abbrev pub Payable : List ℕ → Place → Type 0
-Payable s p = isExact p ≡ false → p .extra ≤ length s
-
--- one character
-abbrev pub charPassed : List ℕ → Place → Place
-charPassed s p = atPlace p (p .at + charLength s (p .at))
-
--- a space or separator takes one of the input, or a skipped space
-abbrev pub blankPassed : List ℕ → Place → Place
-blankPassed s p =
-    let b = byteAt s (p .at) in
-    if ltb (p .at) (length s) && (isSpace b || isSeparator b) then place (p .at + 1) (p .extra) false
-    else place (p .at) (pred (p .extra)) false
-
--- a literal that is no space or separator takes a skipped space, or one character. With FX each literal takes one character
-unfoldable pub literalPassed : List ℕ → Node → Place → Place
-literalPassed s n p =
-    if isExact p then charPassed s p
-    else if eqb (n .kind) separator || eqb (n .kind) space then blankPassed s p
-    else if ltb 0 (p .extra) then place (p .at) (pred (p .extra)) false
-    else charPassed s p
-
 -- spaces are skipped before a pattern but FX, and before the first node
 abbrev pub skips : Node → Bool → Bool
 skips n first = if eqb (n .kind) action then not (eqb (taskOf (n .pattern) .kind) exact) else first
-
--- unless FX was read
-abbrev pub enteredBy : List ℕ → Bool → Place → Place
-enteredBy s skip p = if isExact p then p else if skip then skipped s p else p
 
 unfoldable pub entered : List ℕ → Node → Bool → Place → Place
 entered s n first p = enteredBy s (skips n first) p

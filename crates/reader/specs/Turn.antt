@@ -6,7 +6,8 @@ use lib.Dec.{eqb}
 use lib.ListN.{length, drop, getD}
 use Rattle.template.specs.Template.{action, endNode}
 use Rattle.template.specs.declared.Node.{Node}
-use Rattle.reader.specs.Reader.{Payable, readFrom}
+use Rattle.places.specs.Places.{Payable}
+use Rattle.reader.specs.Reader.{readFrom}
 use Rattle.tasks.specs.Fields.{noFields}
 use Rattle.tasks.specs.declared.Fields.{Fields}
 use Rattle.reader.specs.declared.Passed.{Passed}

@@ -1,12 +1,12 @@
 // Reading an input by the nodes of a template: dch_from_char of PostgreSQL's formatting.c.
 mod actions;
-mod places;
 
 ghost use mathlib.Core.Path.{_≡_};
 ghost use Prim.Native.Nat.{_≤_};
 ghost use lib.ListN.{length};
 ghost use Rattle.template.specs.Bytes.{nodesIn};
-ghost use Rattle.reader.specs.Reader.{Payable, readAll};
+ghost use Rattle.places.specs.Places.{Payable};
+ghost use Rattle.reader.specs.Reader.{readAll};
 ghost use Rattle.reader.specs.Turn.{LiteralsRead, unread};
 ghost use Rattle.tasks.specs.Fields.{fieldsOf, read as readFields};
 use tasks::Fields;

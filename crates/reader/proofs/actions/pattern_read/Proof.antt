@@ -4,7 +4,7 @@ use mathlib.Core.Bool.{not}
 use borrow.Author.Needs.{needs}
 use denote.Ref.{now}
 use lib.Dec.{eqb}
-use Rattle.reader.proofs.Literals.{entered-within}
+use Rattle.places.proofs.Literals.{entered-within}
 use Rattle.reader.proofs.actions.pattern_read.Statement.{statement}
 use Rattle.reader.proofs.actions.pattern_read.Tie as tie
 

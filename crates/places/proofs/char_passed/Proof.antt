@@ -1,10 +1,10 @@
--- `reader::places::char_passed` meets its contract. Assumes nothing.
+-- `places::char_passed` meets its contract. Assumes nothing.
 use mathlib.Core.Path.{ap}
 use Prim.Native.Nat.{ℕ, _+_}
 use borrow.Author.Needs.{needs}
 use Rattle.tasks.specs.Fields.{atPlace}
-use Rattle.reader.proofs.places.char_passed.Statement.{statement}
-use Rattle.reader.proofs.places.char_passed.Tie as tie
+use Rattle.places.proofs.char_passed.Statement.{statement}
+use Rattle.places.proofs.char_passed.Tie as tie
 
 returns : tie.Need-returns
 returns c =

@@ -1,9 +1,9 @@
--- `reader::places::entered` meets its contract. Assumes nothing.
+-- `places::entered` meets its contract. Assumes nothing.
 use native.Mathlib.Omega.{arith}
 use borrow.Author.Needs.{needs}
-use Rattle.reader.proofs.Literals.{was-exact, not-exact}
-use Rattle.reader.proofs.places.entered.Statement.{statement}
-use Rattle.reader.proofs.places.entered.Tie as tie
+use Rattle.places.proofs.Literals.{was-exact, not-exact}
+use Rattle.places.proofs.entered.Statement.{statement}
+use Rattle.places.proofs.entered.Tie as tie
 
 spaces-skipped-requires : tie.Need-spaces-skipped-requires
 spaces-skipped-requires c κs =

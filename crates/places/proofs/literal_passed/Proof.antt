@@ -1,12 +1,12 @@
--- `reader::places::literal_passed` meets its contract. Assumes nothing.
+-- `places::literal_passed` meets its contract. Assumes nothing.
 use mathlib.Core.Path.{_∙_}
 use Prim.Native.Nat.{_-_}
 use native.Mathlib.Omega.{arith}
 use borrow.Author.Needs.{needs}
 use denote.Ref.{now}
-use Rattle.reader.proofs.Literals.{was-exact, not-exact, with-exact, as-separator, as-space, as-char, paid}
-use Rattle.reader.proofs.places.literal_passed.Statement.{statement}
-use Rattle.reader.proofs.places.literal_passed.Tie as tie
+use Rattle.places.proofs.Literals.{was-exact, not-exact, with-exact, as-separator, as-space, as-char, paid}
+use Rattle.places.proofs.literal_passed.Statement.{statement}
+use Rattle.places.proofs.literal_passed.Tie as tie
 
 returns : tie.Need-returns
 returns c =

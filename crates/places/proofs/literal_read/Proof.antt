@@ -1,11 +1,11 @@
--- `reader::places::literal_read` meets its contract. Assumes nothing.
+-- `places::literal_read` meets its contract. Assumes nothing.
 use mathlib.Core.Path.{_∙_}
 use borrow.Author.Needs.{needs}
 use borrow.Author.Tests.{not-true}
 use denote.Ref.{now}
-use Rattle.reader.proofs.Literals.{entered-within, plain-char}
-use Rattle.reader.proofs.places.literal_read.Statement.{statement}
-use Rattle.reader.proofs.places.literal_read.Tie as tie
+use Rattle.places.proofs.Literals.{entered-within, plain-char}
+use Rattle.places.proofs.literal_read.Statement.{statement}
+use Rattle.places.proofs.literal_read.Tie as tie
 
 returns : tie.Need-returns
 returns c =

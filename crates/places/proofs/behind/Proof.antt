@@ -1,8 +1,8 @@
--- `reader::places::behind` meets its contract. Assumes nothing.
+-- `places::behind` meets its contract. Assumes nothing.
 use borrow.Author.Needs.{needs}
-use Rattle.reader.proofs.Literals.{was-exact, not-exact}
-use Rattle.reader.proofs.places.behind.Statement.{statement}
-use Rattle.reader.proofs.places.behind.Tie as tie
+use Rattle.places.proofs.Literals.{was-exact, not-exact}
+use Rattle.places.proofs.behind.Statement.{statement}
+use Rattle.places.proofs.behind.Tie as tie
 
 returns-2 : tie.Need-returns-2
 returns-2 c =

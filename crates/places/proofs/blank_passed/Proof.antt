@@ -1,10 +1,10 @@
--- `reader::places::blank_passed` meets its contract. Assumes nothing.
+-- `places::blank_passed` meets its contract. Assumes nothing.
 use mathlib.Core.Path.{_∙_, sym}
 use borrow.Author.Needs.{needs}
 use denote.Ref.{now}
-use Rattle.reader.proofs.Literals.{blank-taken, blank-paid}
-use Rattle.reader.proofs.places.blank_passed.Statement.{statement}
-use Rattle.reader.proofs.places.blank_passed.Tie as tie
+use Rattle.places.proofs.Literals.{blank-taken, blank-paid}
+use Rattle.places.proofs.blank_passed.Statement.{statement}
+use Rattle.places.proofs.blank_passed.Tie as tie
 
 returns : tie.Need-returns
 returns c =

@@ -1,4 +1,4 @@
--- `reader::places::spaces_skipped` meets its contract. Assumes nothing.
+-- `places::spaces_skipped` meets its contract. Assumes nothing.
 use mathlib.Core.Path.{_≡_}
 use Prim.Native.Nat.{_+_, _-_}
 use native.Mathlib.Omega.{arith}
@@ -6,9 +6,9 @@ use borrow.Author.Needs.{needs}
 use denote.Ref.{now}
 use lib.ListN.{drop}
 use Rattle.strtol.specs.Runs.{spaces}
-use Rattle.reader.proofs.Literals.{spaces-few}
-use Rattle.reader.proofs.places.spaces_skipped.Statement.{statement}
-use Rattle.reader.proofs.places.spaces_skipped.Tie as tie
+use Rattle.places.proofs.Literals.{spaces-few}
+use Rattle.places.proofs.spaces_skipped.Statement.{statement}
+use Rattle.places.proofs.spaces_skipped.Tie as tie
 
 add-extra : tie.Need-add-extra
 add-extra c =

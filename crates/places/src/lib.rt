@@ -3,7 +3,7 @@ ghost use mathlib.Core.Bool.{true};
 ghost use mathlib.Core.Path.{_≡_};
 ghost use Prim.Native.Nat.{_≤_, pred};
 ghost use lib.ListN.{length};
-ghost use Rattle.reader.specs.Reader.{Payable, behind, blankPassed, charPassed, enteredBy, literalPassed, place, skipped};
+ghost use Rattle.places.specs.Places.{Payable, behind, blankPassed, charPassed, enteredBy, literalPassed, place, skipped};
 use tasks::Place;
 use template::Node;
 

@@ -14,7 +14,7 @@ use Rattle.chars.specs.Class.{classOf, isSpace, isSeparator}
 use Rattle.strtol.specs.Runs.{spaces}
 use Rattle.strtol.proofs.Leading.{leading-place, leading-within}
 use Rattle.template.specs.declared.Node.{Node}
-use Rattle.reader.specs.Reader.{blankPassed, charPassed, enteredBy, literalPassed, place, skipped}
+use Rattle.places.specs.Places.{blankPassed, charPassed, enteredBy, literalPassed, place, skipped}
 use Rattle.tasks.specs.Fields.{isExact}
 use Rattle.tasks.specs.declared.Place.{Place}
 

@@ -1,0 +1,2 @@
+-- Laws of spaces and literals.
+pub mod Literals

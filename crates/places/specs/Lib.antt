@@ -1,0 +1,2 @@
+-- Where reading stands in the input.
+pub mod Places
