@@ -37,7 +37,7 @@ def table(title, peers):
 def show(unit, lines):
     """Prints a table of each kind; the numbers."""
     measured = parsed(lines)
-    print(f"{unit}. {EXPLAINED}\n")
+    print(f"{unit}.\n{EXPLAINED}\n")
     for kind, peers in measured.items():
         print(f"{table(TITLES[kind], peers)}\n")
     return measured

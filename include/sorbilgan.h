@@ -1,9 +1,11 @@
 /*
- * The functions of libsorbilgan.a: text read by a template of PostgreSQL's to_timestamp patterns, and moments written by one.
+ * The functions of libsorbilgan.a: text read by a template of PostgreSQL's to_timestamp patterns, and moments written
+ * by one.
  *
- * A text is lent for the call alone, as a pointer and a length in bytes; it needs no final 0. Any bytes and any numbers are safe. No pointer
- * may be NULL (an empty text is "" and 0), and what a function fills may not overlap what it is lent. Nothing is allocated or kept between
- * calls, so every function may be called from several threads at once.
+ * A text is lent for the call alone, as a pointer and a length in bytes; it needs no final 0. Any bytes and any
+ * numbers are safe. No pointer may be NULL (an empty text is "" and 0), and what a function fills may not overlap
+ * what it is lent. Nothing is allocated or kept between calls, so every function may be called from several threads
+ * at once.
  */
 #ifndef SORBILGAN_H
 #define SORBILGAN_H
@@ -29,7 +31,7 @@ extern "C" {
 /* The room for a pattern's name, in bytes. */
 #define SORBILGAN_NAME 5
 
-/* The numbers of the refusals. Behind each, what the answer holds of it: its pattern, and its first and second figure. */
+/* The numbers of the refusals. After each, what the answer holds of it: its pattern, its first and second figure. */
 enum sorbilgan_refusal {
     SORBILGAN_TOO_LONG = 1,           /* template over 256 bytes or input over 512 */
     SORBILGAN_NOT_UTF8 = 2,           /* either is not UTF-8 */
@@ -54,7 +56,10 @@ enum sorbilgan_refusal {
     SORBILGAN_NO_ROOM = 21            /* write: a text longer than its buffer: the length needed */
 };
 
-/* The parts of a moment. A refusal leaves all behind the second figure 0; an accepted text is number 0, without pattern and figures. */
+/*
+ * The parts of a moment. A refusal leaves all after the second figure 0; an accepted text is number 0, without pattern
+ * and figures.
+ */
 struct sorbilgan_parts_answer {
     int64_t number;
     int64_t pattern;
@@ -82,8 +87,8 @@ struct sorbilgan_value_answer {
 };
 
 #if (defined(__cplusplus) && __cplusplus >= 201103L) || (defined(__STDC_VERSION__) && __STDC_VERSION__ >= 201112L)
-static_assert(sizeof(struct sorbilgan_parts_answer) == 14 * sizeof(int64_t), "the answer is 14 words");
-static_assert(sizeof(struct sorbilgan_value_answer) == 5 * sizeof(int64_t), "the answer is 5 words");
+static_assert(sizeof(struct sorbilgan_parts_answer) == 14 * sizeof(int64_t), "the answer is 14 numbers");
+static_assert(sizeof(struct sorbilgan_value_answer) == 5 * sizeof(int64_t), "the answer is 5 numbers");
 #endif
 
 /* Reading and writing fill the whole answer and return its number: 0, or the refusal's. */
@@ -101,16 +106,17 @@ uint8_t sorbilgan_date(const char *template_text, size_t template_length, const 
                        struct sorbilgan_value_answer *answer);
 
 /*
- * Writes a moment into a buffer of `room` bytes; the value is the length of the text, which has no final 0. The bytes behind the text stay
- * as they were, and on refusal all of them do.
+ * Writes a moment into a buffer of `room` bytes; the value is the length of the text, which has no final 0. The bytes
+ * after the text stay as they were, and on refusal all of them do.
  */
 uint8_t sorbilgan_write(const char *template_text, size_t template_length, int32_t year, int32_t month, int32_t day,
                         int32_t hour, int32_t minute, int32_t second, int32_t micros, char *text, size_t room,
                         struct sorbilgan_value_answer *answer);
 
 /*
- * Compiles a template that is used many times. The answer is how many bytes of `nodes` it takes; or -1 where the template is over 256 bytes
- * and -2 where it is not UTF-8, which are refusals 1 and 2 and leave the nodes as they were.
+ * Compiles a template that is used many times. The answer is how many bytes of `nodes` it takes; or -1 where the
+ * template is over 256 bytes and -2 where it is not UTF-8, which are refusals 1 and 2 and leave the nodes as they
+ * were.
  */
 int64_t sorbilgan_compile(const char *template_text, size_t template_length, uint8_t nodes[SORBILGAN_NODES]);
 
@@ -128,7 +134,10 @@ uint8_t sorbilgan_write_by(const uint8_t *nodes, size_t nodes_length, const char
                            int32_t year, int32_t month, int32_t day, int32_t hour, int32_t minute, int32_t second,
                            int32_t micros, char *text, size_t room, struct sorbilgan_value_answer *answer);
 
-/* The name of an answer's pattern, filled up with 0, and its length from 1 to 5; no name and 0 for any number that is no pattern's. */
+/*
+ * The name of an answer's pattern, filled up with 0, and its length from 1 to 5; no name and 0 for any number that is
+ * no pattern's.
+ */
 size_t sorbilgan_pattern(uint8_t pattern, char name[SORBILGAN_NAME]);
 
 #ifdef __cplusplus

@@ -59,7 +59,8 @@ fn causes() {
     }
 }
 
-/// The full templates of the stored list have every group of patterns, and in each group every pattern before every other.
+/// The full templates of the stored list have every group of patterns, and in each group every pattern before every
+/// other.
 #[test]
 fn orders() {
     let mut random = Random::new(1970);

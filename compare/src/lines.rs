@@ -15,7 +15,7 @@ pub fn generator(name: &str) -> Option<Generator> {
     }
 }
 
-/// The known lines of a stored list, and what makes the random ones behind them.
+/// The known lines of a stored list, and what makes the random ones after them.
 pub fn list(name: &str) -> Option<(Vec<Vec<u8>>, Generator)> {
     let first = |known: Vec<(Vec<u8>, &str)>| known.into_iter().map(|(line, _)| line).collect();
     match name {

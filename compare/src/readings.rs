@@ -1,4 +1,5 @@
-//! Random lines "template TAB input" for instants and days: the usual pairs, and moments around the places where these answers turn.
+//! Random lines "template TAB input" for instants and days: the usual pairs, and moments around the places where
+//! these answers turn.
 
 use crate::pairs;
 use crate::random::Random;

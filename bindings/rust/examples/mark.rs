@@ -4,8 +4,9 @@
 //! mark TEMPLATE [FILE]
 //! ```
 //!
-//! Each line of the file, or of standard input, is answered by one with a TAB between three columns: `ok`, the date and the time; or the number
-//! of the refusal and its reason; and the learner's line as it is, UTF-8 or not. At the end standard error has the count.
+//! Each line of the file, or of standard input, is answered by one with a TAB between three columns: `ok`, the date
+//! and the time; or the number of the refusal and its reason; and the learner's line as it is, UTF-8 or not. At the
+//! end standard error has the count.
 //!
 //! ```text
 //! $ printf 'ngày 29 tháng 02 năm 2024\nngày hai mươi\n' | cargo run -q --example mark -- '"ngày "DD" tháng "MM" năm "YYYY'

@@ -1,6 +1,7 @@
 /// Why a line, a template or a moment is refused.
 ///
-/// What a [`Refusal`](crate::Refusal) has beside its cause is said at each: its pattern, and its figures in their order.
+/// What a [`Refusal`](crate::Refusal) has beside its cause is said at each: its pattern, and its figures in their
+/// order.
 ///
 /// ```
 /// use sorbilgan::{read, Cause};
@@ -39,7 +40,7 @@ pub enum Cause {
     NotTwoNumbers = 10,
     /// The year of `Y,YYY` is outside signed 32 bits: the pattern.
     YearOutOfRange = 11,
-    /// A letter stands where `TZ` or `tz` reads an offset: the pattern.
+    /// A letter is where `TZ` or `tz` reads an offset: the pattern.
     ZoneLetter = 12,
     /// The hour of a 12-hour clock is outside 1 to 12: the hour.
     HourOfTwelve = 13,

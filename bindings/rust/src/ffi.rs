@@ -1,4 +1,5 @@
-//! The functions of libsorbilgan.a behind safe ones. All unsafe code of the crate is here; `include/sorbilgan.h` describes the functions.
+//! The functions of libsorbilgan.a, wrapped in safe ones. All unsafe code of the crate is here; `include/sorbilgan.h`
+//! describes the functions.
 
 #![allow(unsafe_code)]
 
@@ -26,7 +27,7 @@ struct Record<Answer> {
 /// The parts of a moment. `zoned` is 1 where there is an offset.
 #[repr(C)]
 #[derive(Default)]
-pub struct Words {
+pub struct RawParts {
     pub year: i64,
     pub month: i64,
     pub day: i64,
@@ -39,12 +40,12 @@ pub struct Words {
     pub offset: i64,
 }
 
-const _: () = assert!(size_of::<Record<Words>>() == 14 * size_of::<i64>());
+const _: () = assert!(size_of::<Record<RawParts>>() == 14 * size_of::<i64>());
 const _: () = assert!(size_of::<Record<i64>>() == 5 * size_of::<i64>());
 
 unsafe extern "C" {
     fn sorbilgan_parts(
-        template: *const u8, template_length: usize, input: *const u8, input_length: usize, out: &mut Record<Words>,
+        template: *const u8, template_length: usize, input: *const u8, input_length: usize, out: &mut Record<RawParts>,
     ) -> u8;
     fn sorbilgan_instant(
         template: *const u8, template_length: usize, input: *const u8, input_length: usize, out: &mut Record<i64>,
@@ -59,7 +60,7 @@ unsafe extern "C" {
     fn sorbilgan_compile(template: *const u8, template_length: usize, nodes: &mut [u8; NODES]) -> i64;
     fn sorbilgan_parts_by(
         nodes: *const u8, nodes_length: usize, template: *const u8, template_length: usize, input: *const u8,
-        input_length: usize, out: &mut Record<Words>,
+        input_length: usize, out: &mut Record<RawParts>,
     ) -> u8;
     fn sorbilgan_instant_by(
         nodes: *const u8, nodes_length: usize, template: *const u8, template_length: usize, input: *const u8,
@@ -76,8 +77,8 @@ unsafe extern "C" {
     safe fn sorbilgan_pattern(place: u8, name: &mut [u8; NAME]) -> usize;
 }
 
-// In every call below the functions are the library's, proved for all bytes, lengths and numbers, and what they are lent is lent for the
-// call alone: slices with their own lengths, and a record or buffer that nothing else holds.
+// In every call below the functions are the library's, proved for all bytes, lengths and numbers, and what they are
+// lent is lent for the call alone: slices with their own lengths, and a record or buffer that nothing else holds.
 
 fn answered<Answer: Default>(ask: impl FnOnce(&mut Record<Answer>) -> u8) -> Result<Answer, Refusal> {
     let mut record = Record::default();
@@ -93,7 +94,7 @@ pub struct Reader<Answer> {
     nodes: unsafe extern "C" fn(*const u8, usize, *const u8, usize, *const u8, usize, &mut Record<Answer>) -> u8,
 }
 
-pub const PARTS: Reader<Words> = Reader { text: sorbilgan_parts, nodes: sorbilgan_parts_by };
+pub const PARTS: Reader<RawParts> = Reader { text: sorbilgan_parts, nodes: sorbilgan_parts_by };
 /// Microseconds since 1970-01-01.
 pub const INSTANT: Reader<i64> = Reader { text: sorbilgan_instant, nodes: sorbilgan_instant_by };
 /// Days since 1970-01-01.

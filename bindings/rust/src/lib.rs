@@ -1,11 +1,11 @@
 //! Dates and times read and written by templates of PostgreSQL's `to_timestamp` patterns.
 //!
-//! This crate calls libsorbilgan.a, which is proved: each answer is the one that a short definition gives, for every template and input of any
-//! bytes and length, and no input makes it trap or hang. What is proved is listed in the repository's `docs/PROMISES.md`; this crate's own
-//! lines are tested, not proved.
+//! This crate calls libsorbilgan.a, which is proved: each answer is the one that a short definition gives, for every
+//! template and input of any bytes and length, and no input makes it trap or hang. What is proved is listed in the
+//! repository's `docs/PROMISES.md`; this crate's own lines are tested, not proved.
 //!
-//! A [`Template`] is compiled once and reads any number of lines, with no allocation. What it reads is [`Parts`], or a [`Refusal`] that says why
-//! not:
+//! A [`Template`] is compiled once and reads any number of lines, with no allocation. What it reads is [`Parts`], or
+//! a [`Refusal`] that says why not:
 //!
 //! ```
 //! use sorbilgan::{Cause, Template};
@@ -35,9 +35,11 @@
 //! # Ok::<(), sorbilgan::Refusal>(())
 //! ```
 //!
-//! The functions [`read`], [`instant`], [`date`], [`write()`] and [`format()`] do the same for a template that is used once.
+//! The functions [`read`], [`instant`], [`date`], [`write()`] and [`format()`] do the same for a template that is
+//! used once.
 //!
-//! Where a template or an input is asked for, text and bytes are both taken: a learner's line need not be UTF-8 to be answered.
+//! Where a template or an input is asked for, text and bytes are both taken: a learner's line need not be UTF-8 to be
+//! answered.
 
 #![deny(unsafe_code)]
 #![warn(missing_docs)]

@@ -49,8 +49,8 @@ impl Moment {
     }
 }
 
-/// The moment of what was read, unless that has an offset or a precision, which a moment has not. Whether its numbers are a moment is left to
-/// the writer.
+/// The moment of what was read, unless that has an offset or a precision, which a moment has not. Whether its numbers
+/// are a moment is left to the writer.
 ///
 /// ```
 /// use sorbilgan::{format, read, Moment};

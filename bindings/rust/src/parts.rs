@@ -1,11 +1,11 @@
-use crate::ffi::Words;
+use crate::ffi::RawParts;
 use crate::Moment;
 
 /// What is read: the parts of a moment.
 ///
-/// A part that the template does not name, or names and finds to be 0, has the value that it would have at the start of year 0: month and day 1, all
-/// others 0. The ranges are proved: month 1 to 12, day 1 to 31, hour 0 to 23, minute and second 0 to 59, microseconds 0 to 999,999; and where
-/// year, month and day are all read, the month has that day.
+/// A part that the template does not name, or names and finds to be 0, has the value that it would have at the start
+/// of year 0: month and day 1, all others 0. The ranges are proved: month 1 to 12, day 1 to 31, hour 0 to 23, minute
+/// and second 0 to 59, microseconds 0 to 999,999; and where year, month and day are all read, the month has that day.
 ///
 /// ```
 /// use sorbilgan::{read, Parts};
@@ -33,24 +33,25 @@ pub struct Parts {
     pub second: i32,
     /// The microsecond.
     pub micros: i32,
-    /// The digits that `FF1` to `FF6` ask for; 0 without them. An instant is rounded to them, the microsecond here is not.
+    /// The digits that `FF1` to `FF6` ask for; 0 without them. An instant is rounded to them, the microsecond here is
+    /// not.
     pub precision: i32,
     /// The offset in seconds east, where there is one.
     pub offset: Option<i32>,
 }
 
-impl From<Words> for Parts {
-    fn from(words: Words) -> Parts {
+impl From<RawParts> for Parts {
+    fn from(raw: RawParts) -> Parts {
         Parts {
-            year: words.year as i32,
-            month: words.month as i32,
-            day: words.day as i32,
-            hour: words.hour as i32,
-            minute: words.minute as i32,
-            second: words.second as i32,
-            micros: words.micros as i32,
-            precision: words.precision as i32,
-            offset: (words.zoned != 0).then_some(words.offset as i32),
+            year: raw.year as i32,
+            month: raw.month as i32,
+            day: raw.day as i32,
+            hour: raw.hour as i32,
+            minute: raw.minute as i32,
+            second: raw.second as i32,
+            micros: raw.micros as i32,
+            precision: raw.precision as i32,
+            offset: (raw.zoned != 0).then_some(raw.offset as i32),
         }
     }
 }

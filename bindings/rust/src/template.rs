@@ -4,7 +4,8 @@ use std::str::{self, FromStr};
 
 /// A template, compiled: it reads and writes any number of texts.
 ///
-/// It has its text and nodes on the heap, each as long as it is; reading and writing allocate nothing and copy neither. Threads may share it.
+/// It has its text and nodes on the heap, each as long as it is; reading and writing allocate nothing and copy
+/// neither. Threads may share it.
 ///
 /// ```
 /// use sorbilgan::Template;
@@ -24,7 +25,8 @@ pub struct Template {
 }
 
 impl Template {
-    /// Compiles a template. Any text of at most [`TEMPLATE_LIMIT`](crate::TEMPLATE_LIMIT) bytes is one: what is no pattern is a literal.
+    /// Compiles a template. Any text of at most [`TEMPLATE_LIMIT`](crate::TEMPLATE_LIMIT) bytes is one: what is no
+    /// pattern is a literal.
     ///
     /// # Errors
     ///
@@ -117,7 +119,8 @@ impl Template {
         reader.by_nodes(&self.nodes, self.text.as_bytes(), input)
     }
 
-    /// Writes a moment to the front of a buffer and answers the length of the text. The bytes behind it stay as they were.
+    /// Writes a moment to the front of a buffer and answers the length of the text. The bytes after it stay as they
+    /// were.
     ///
     /// # Errors
     ///
@@ -139,7 +142,8 @@ impl Template {
         ffi::write_by(&self.nodes, self.text.as_bytes(), moment, text).map(|length| length as usize)
     }
 
-    /// The text of a moment. One over [`INPUT_LIMIT`](crate::INPUT_LIMIT) bytes, which could not be read back, is refused; [`Template::write`] has no such limit.
+    /// The text of a moment. One over [`INPUT_LIMIT`](crate::INPUT_LIMIT) bytes, which could not be read back, is
+    /// refused; [`Template::write`] has no such limit.
     ///
     /// # Errors
     ///

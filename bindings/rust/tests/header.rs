@@ -1,4 +1,5 @@
-//! include/sorbilgan.h says what this crate says: the numbers of the refusals, and the functions that `src/ffi.rs` declares, which other tests call.
+//! include/sorbilgan.h says what this crate says: the numbers of the refusals, and the functions that `src/ffi.rs`
+//! declares, which other tests call.
 
 use sorbilgan::Cause;
 use std::collections::BTreeMap;
@@ -19,7 +20,7 @@ fn the_same_causes() {
     assert_eq!(found, wanted);
 }
 
-/// A type of Rust and its name in C; in an argument it stands around the argument's name.
+/// A type of Rust and its name in C; in an argument it is around the argument's name.
 const TYPES: [(&str, &str); 11] = [
     ("*const u8", "const char *"),
     ("*const u8", "const uint8_t *"),
@@ -28,7 +29,7 @@ const TYPES: [(&str, &str); 11] = [
     ("u8", "uint8_t"),
     ("i32", "int32_t"),
     ("i64", "int64_t"),
-    ("&mut Record<Words>", "struct sorbilgan_parts_answer *"),
+    ("&mut Record<RawParts>", "struct sorbilgan_parts_answer *"),
     ("&mut Record<i64>", "struct sorbilgan_value_answer *"),
     ("&mut [u8; NODES]", "uint8_t [SORBILGAN_NODES]"),
     ("&mut [u8; NAME]", "char [SORBILGAN_NAME]"),
@@ -46,7 +47,7 @@ fn c_type(argument: &str) -> String {
         + room
 }
 
-/// Each function's arguments, and behind them its answer.
+/// Each function's arguments, and after them its answer.
 type Functions = BTreeMap<String, Vec<String>>;
 
 fn of_header() -> Functions {

@@ -61,7 +61,7 @@ fn writers(text: &'static str) -> [Writer; 2] {
 }
 
 #[test]
-fn bytes_behind_the_text_stay() {
+fn bytes_after_the_text_stay() {
     for write in writers("DD.MM.YYYY") {
         for room in 10..20 {
             let mut buffer = vec![b'#'; room];

@@ -5,7 +5,7 @@ use oracle::answers::{Moment, records};
 use oracle::hex;
 use std::fmt::{self, Debug, Display};
 
-/// What stands in a record or a buffer before a call, so that a word or byte that is left out shows.
+/// What a record or a buffer holds before a call, so that a number or byte that is left out shows.
 const UNSET: i64 = -0x5a5a_5a5a_5a5a_5a5b;
 const FILLER: u8 = 0xa5;
 
@@ -85,7 +85,8 @@ pub fn read(template: &Template, input: &[u8]) -> Agreement<[i64; 3]> {
     Ok([parts[0], instant[0], date[0]])
 }
 
-/// What is written by a template for a moment, into a buffer of `room` bytes: the number and the text. Behind the text the buffer is as it was.
+/// What is written by a template for a moment, into a buffer of `room` bytes: the number and the text. Behind the
+/// text the buffer is as it was.
 pub fn write(template: &Template, moment: &Moment, room: usize) -> Agreement<(i64, String)> {
     let (wanted, text) = records::written(template.text, moment, room);
     let mut wanted_buffer = vec![FILLER; room];
@@ -101,7 +102,7 @@ pub fn write(template: &Template, moment: &Moment, room: usize) -> Agreement<(i6
     Ok((wanted[0], text))
 }
 
-/// The names of the patterns, and none behind the last.
+/// The names of the patterns, and none after the last.
 pub fn patterns() -> Agreement<()> {
     for place in 0..=u8::MAX {
         let wanted = records::pattern(place).as_bytes();

@@ -1,4 +1,5 @@
-//! The functions that the static library exports, with slices for pointers and lengths. Each fills its record and returns the record's first word.
+//! The functions that the static library exports, with slices for pointers and lengths. Each fills its record and
+//! returns the record's first word.
 
 use oracle::answers::Moment;
 

@@ -1,4 +1,4 @@
-//! Memory of which the end is known: behind it lies a page that nobody may touch.
+//! Memory of which the end is known: after it comes a page that nobody may touch.
 
 use std::ffi::{c_int, c_long, c_void};
 
@@ -19,7 +19,7 @@ const NO_ACCESS: c_int = 0;
 const READ_AND_WRITE: c_int = 3;
 const PRIVATE_AND_ANONYMOUS: c_int = 0x22;
 
-/// A page of memory, kept for good, and the page behind it.
+/// A page of memory, kept for good, and the page after it.
 pub struct Guarded(&'static mut [u8]);
 
 impl Default for Guarded {

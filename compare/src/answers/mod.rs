@@ -71,8 +71,8 @@ fn same(one: &FmtNode, other: &FmtNode) -> bool {
         && (one.key.is_some() || std::ptr::eq(one.chars, other.chars))
 }
 
-/// Where each node's name or character starts. The node of a pattern does not say so: its name ends where the template, cut
-/// short, first has this node after the same nodes as the whole template.
+/// Where each node's name or character starts. The node of a pattern does not say so: its name ends where the
+/// template, cut short, first has this node after the same nodes as the whole template.
 fn starts(template: &[u8], nodes: &[FmtNode]) -> Vec<usize> {
     let mut starts = Vec::new();
     for cut in 1..=template.len() {

@@ -1,4 +1,5 @@
-//! The numbered answers to a template and an input: what the module reads, or a refusal told from the text of its error.
+//! The numbered answers to a template and an input: what the module reads, or a refusal told from the text of its
+//! error.
 
 use super::*;
 use std::fmt;
@@ -128,8 +129,9 @@ fn refusal(error: &EngineError, template: &str, input: &str) -> Refusal {
     Refusal { number, pattern, figures }
 }
 
-/// The pattern at which reading stopped, where the error does not name it as the template spells it: the last one of the shortest
-/// beginning of the node list that gives the same error. These refusals do not depend on the node that follows.
+/// The pattern at which reading stopped, where the error does not name it as the template spells it: the last one of
+/// the shortest beginning of the node list that gives the same error. These refusals do not depend on the node that
+/// follows.
 fn stopped_at(error: &EngineError, template: &str, input: &str) -> &'static str {
     let nodes = parse(template.as_bytes());
     let (end, nodes) = nodes.split_last().unwrap();

@@ -56,7 +56,7 @@ pub fn compiled(template: &[u8]) -> i64 {
     }
 }
 
-/// The name of the pattern at a place of the table; empty behind the last.
+/// The name of a pattern by its number; empty after the last.
 pub fn pattern(place: u8) -> &'static str {
     DCH_KEYWORDS.get(usize::from(place)).map_or("", |key| key.name)
 }

@@ -22,7 +22,8 @@ pub fn written(template: &[u8], moment: &[u8]) -> String {
     shown(attempt(template, numbers_of(moment), INPUT_LIMIT), |text| text)
 }
 
-/// What the written text must be read as, where a line's template is full: the moment, then its microseconds and days since 1970-01-01. Else `-`.
+/// What the written text must be read as, where a line's template is full: the moment, then its microseconds and days
+/// since 1970-01-01. Else `-`.
 pub fn back(line: &[u8]) -> String {
     let (template, moment) = cut(line);
     let accepted = reading::line(line, written).starts_with("0 ");
@@ -88,8 +89,9 @@ pub fn to_char(template: &str, micros: i64) -> String {
     to_char_timestamp(micros, template).expect("a date pattern writes every timestamp").unwrap_or_default()
 }
 
-/// The text by to_char, but for two patterns that the writer writes otherwise: markers in capitals whatever the pattern's case, and
-/// SSSSS filled with zeros. The template is cut around them, and what to_char writes for such a pattern alone is changed.
+/// The text by to_char, but for two patterns that the writer writes otherwise: markers in capitals whatever the
+/// pattern's case, and SSSSS filled with zeros. The template is cut around them, and what to_char writes for such a
+/// pattern alone is changed.
 fn text(template: &str, micros: i64) -> String {
     let nodes = parse(template.as_bytes());
     let otherwise = |node: &FmtNode| {

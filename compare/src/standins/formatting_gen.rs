@@ -1,4 +1,5 @@
-//! The vocabulary of date templates: facts of PostgreSQL's formatting.c. Number templates are left out, their tables are empty.
+//! The vocabulary of date templates: facts of PostgreSQL's formatting.c. Number templates are left out, their tables
+//! are empty.
 
 // PostgreSQL tells the patterns am and AM apart by case alone.
 #![allow(non_upper_case_globals)]
@@ -11,7 +12,7 @@ pub struct FmtKeyword {
     pub date_mode: u8,
 }
 
-/// What stands before a pattern (`prefix`) or after it.
+/// What comes before a pattern (`prefix`) or after it.
 pub struct FmtSuffix {
     pub name: &'static str,
     pub flag: u8,
@@ -210,7 +211,7 @@ pub static WORDS_MONTHS_ABBREV: [&str; 12] =
 pub static WORDS_DAYS_FULL: [&str; 7] = ["Sunday", "Monday", "Tuesday", "Wednesday", "Thursday", "Friday", "Saturday"];
 pub static WORDS_DAYS_ABBREV: [&str; 7] = ["Sun", "Mon", "Tue", "Wed", "Thu", "Fri", "Sat"];
 
-// December first, so that no numeral stands before a longer one that it begins.
+// December first, so that no numeral comes before a longer one that it begins.
 pub static WORDS_RM_MONTHS_UPPER: [&str; 12] =
     ["XII", "XI", "X", "IX", "VIII", "VII", "VI", "V", "IV", "III", "II", "I"];
 pub static WORDS_RM_MONTHS_LOWER: [&str; 12] =

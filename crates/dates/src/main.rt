@@ -14,15 +14,17 @@ use modes::Mode;
 // Room for any answer: the longest is a 0, a space, a text of 512 bytes and the newline.
 const LONGEST: usize = 515;
 
-// Where the answers to the lines of a text end: in the text, and in the buffer. `long` says that the next line began before the text.
+// Where the answers to the lines of a text end: in the text, and in the buffer. `long` says that the next line began
+// before the text.
 struct Answered {
     from: usize,
     at: usize,
     long: bool,
 }
 
-// What is left between two reads: the bytes kept of an unfinished line, whether it is too long, the answers not yet written, and
-// how many reads may come. A proved loop has to end, and nothing says that the input does: so the reads are counted.
+// What is left between two reads: the bytes kept of an unfinished line, whether it is too long, the answers not yet
+// written, and how many reads may come. A proved loop has to end, and nothing says that the input does: so the reads
+// are counted.
 struct State {
     kept: usize,
     long: bool,
@@ -30,7 +32,7 @@ struct State {
     reads: u64,
 }
 
-// Reads behind the bytes that are kept; the answer is the end of all.
+// Reads after the bytes that are kept; the answer is the end of all.
 fn read_on(input: &mut [u8], kept: usize) -> usize
     requires { ⌜ kept ≤ length (now input) ⌝ }
     ensures { λ r. ⌜ r ≤ length (now (input .exit)) ⌝ }
@@ -58,7 +60,7 @@ fn answer_line(mode: Mode, line: &[u8], long: bool, out: &mut [u8], at: usize) -
 {
     let start = make_room(out, at);
     let end = answer::answer(mode, line, long, out, start);
-    lines::put_byte(out, end, b'\n')
+    line_buffers::put_byte(b'\n', out, end)
 }
 
 // Answers the lines that end in a text.
@@ -67,7 +69,7 @@ fn answer_lines(mode: Mode, text: &[u8], long: bool, out: &mut [u8], at: usize) 
     ensures { λ r. ⌜ r .at ≤ length (now (out .exit)) ⌝ }
 {
     let mut s = Answered { from: 0, at, long };
-    let mut end = lines::find(text, 0, b'\n');
+    let mut end = line_buffers::find(text, 0, b'\n');
     while end < text.len() {
         let from = s.from;
         let next = answer_line(mode, &text[from..end], s.long, out, s.at);
@@ -76,7 +78,7 @@ fn answer_lines(mode: Mode, text: &[u8], long: bool, out: &mut [u8], at: usize) 
             at: next,
             long: false,
         };
-        end = lines::find(text, end + 1, b'\n');
+        end = line_buffers::find(text, end + 1, b'\n');
     }
     s
 }
@@ -89,15 +91,10 @@ fn turn(mode: Mode, input: &mut [u8], out: &mut [u8], s: State) -> State
     let kept = s.kept;
     let end = read_on(input, kept);
     if end == kept {
-        return State {
-            kept,
-            long: s.long,
-            at: s.at,
-            reads: 0,
-        };
+        return State { reads: 0, ..s };
     }
     let a = answer_lines(mode, &input[0..end], s.long, out, s.at);
-    let k = lines::keep(input, a.from, end, a.long);
+    let k = line_buffers::keep(input, a.from, end, a.long);
     State {
         kept: k.count,
         long: k.long,

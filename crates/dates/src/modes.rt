@@ -9,34 +9,34 @@ pub enum Mode {
     Write,
 }
 
-// The mode that a word names, if any.
+// The mode of a name, if it is one.
 pub enum Choice {
     Of(Mode),
     Unknown,
 }
 
-fn choice_of(word: &[u8]) -> Choice {
-    if check::same(word, b"parts") {
+fn choice_of(name: &[u8]) -> Choice {
+    if check::same(name, b"parts") {
         return Choice::Of(Mode::Parts);
     }
-    if check::same(word, b"instants") {
+    if check::same(name, b"instants") {
         return Choice::Of(Mode::Instants);
     }
-    if check::same(word, b"days") {
+    if check::same(name, b"days") {
         return Choice::Of(Mode::Days);
     }
-    if check::same(word, b"write") {
+    if check::same(name, b"write") {
         return Choice::Of(Mode::Write);
     }
     Choice::Unknown
 }
 
-// By the first argument; an argument longer than the buffer is read as an empty word.
+// By the first argument; an argument longer than the buffer is read as an empty name.
 pub fn chosen() -> Choice {
     if os::arg_count() < 2 {
         return Choice::Of(Mode::Parts);
     }
-    let mut word = [0u8; 16];
-    let len = os::arg(1, &mut word);
-    choice_of(&word[0..len])
+    let mut name = [0u8; 16];
+    let len = os::arg(1, &mut name);
+    choice_of(&name[0..len])
 }

@@ -1,21 +1,23 @@
--- What is written is read back from the buffer. Assumes nothing.
+-- From the writer's promise of the buffer to that of `write_and_read`. Assumes nothing.
+-- `not-written`: where the writer refuses, its refusal is the answer.
+-- `room`: the text is within the buffer.
+-- `read`: reading as many bytes from the front of the buffer as were written gives the whole promise.
 use mathlib.Core.Path.{_≡_, sym, _∙_}
-use mathlib.Core.Bool.{true, not, _&&_}
 use mathlib.Core.List.{List, _++_}
 use Prim.Native.Nat.{ℕ, _≤_}
 use native.Mathlib.Omega.{arith}
 use lib.ListN.{length, take, drop, length-append}
 use lib.Seq.{take-append-seam}
-use Rattle.writer.specs.Text.{textOf}
-use Rattle.writer.specs.Writer.{Wrote, bufferAfter, writtenTo}
-use Rattle.pieces.specs.declared.Moment.{Moment}
-use Rattle.writer.specs.declared.Unwritten.{Unwritten}
-use Rattle.writer.specs.declared.Written.{Written}
-use Rattle.writer.specs.declared.Written.the-variants.{Length, Refused}
-use Rattle.writer.proofs.Room.{to-measured}
+use Rattle.write_text.specs.Text.{textOf}
+use Rattle.write_text.specs.Writer.{Wrote, bufferAfter, writtenTo}
+use Rattle.write_pieces.specs.declared.Moment.{Moment}
+use Rattle.write_text.specs.declared.Unwritten.{Unwritten}
+use Rattle.write_text.specs.declared.Written.{Written}
+use Rattle.write_text.specs.declared.Written.the-variants.{Length, Refused}
+use Rattle.write_text.proofs.Room.{to-measured}
 use Rattle.readback.specs.ReadBack.{WroteAndRead, againOf, readAgain}
 use Rattle.readback.specs.declared.Again.{Again}
-use Rattle.readback.specs.declared.Again.the-variants.{Unread}
+use Rattle.readback.specs.declared.Again.the-variants.{NotWritten}
 use Rattle.readback.proofs.ReadBack.{every-back}
 
 module _ (t : List ℕ) (m : Moment) {before after : List ℕ} where
@@ -23,29 +25,30 @@ module _ (t : List ℕ) (m : Moment) {before after : List ℕ} where
   promised : (r : Again) → r ≡ againOf t m (length before) → after ≡ bufferAfter (writtenTo t m (length before)) (textOf t m) before
       → WroteAndRead t m before after r
   unfolding againOf
-  promised r e b = record {
-    is = e;
-    buffer = b;
-    back = λ full is h.
-        let k = every-back t m full is in
-        let w = k .written before h in
-        (e ∙ rw (w .0, k .read .parts, k .read .instant, k .read .day), b ∙ w .1, k);
+  promised r answer buffer = record {
+    is = answer;
+    buffer = buffer;
+    back = λ full is enough.
+        let back = every-back t m full is in
+        let written = back .written before enough in
+        (answer ∙ rw (written .0, back .read .parts, back .read .instant, back .read .day), buffer ∙ written .1, back);
   }
 
   module _ {w : Written} (wrote : Wrote t m before after w) where
-    -- nothing was written
-    pub unread : {why : Unwritten} → w ≡ Refused why → WroteAndRead t m before after (Unread why)
+    pub not-written : {why : Unwritten} → w ≡ Refused why → WroteAndRead t m before after (NotWritten why)
     unfolding againOf
-    unread {why} e = let f = sym (wrote .is) ∙ e in promised (Unread why) (rw f) (wrote .buffer ∙ rw (f, e))
+    not-written {why} refused =
+        let as-defined = sym (wrote .is) ∙ refused in
+        promised (NotWritten why) (rw as-defined) (wrote .buffer ∙ rw (as-defined, refused))
 
-    module _ {n : ℕ} (e : w ≡ Length n) where
+    module _ {n : ℕ} (written : w ≡ Length n) where
       known : n ≡ length (textOf t m)
-      known = to-measured (length before) t m n (sym (wrote .is) ∙ e) .0
+      known = to-measured (length before) t m n (sym (wrote .is) ∙ written) .0
 
       after-is : after ≡ textOf t m ++ drop n before
-      after-is = wrote .buffer ∙ rw e
+      after-is = wrote .buffer ∙ rw written
 
-      -- the text stands in front
+      -- the buffer begins with the text
       text-in-front : take n after ≡ textOf t m
       text-in-front = rw (after-is, known) (take-append-seam (textOf t m) _)
 
@@ -54,6 +57,6 @@ module _ (t : List ℕ) (m : Moment) {before after : List ℕ} where
 
       pub read : (r : Again) → r ≡ readAgain t (take n after) (Length (length (take n after))) → WroteAndRead t m before after r
       unfolding againOf
-      read r q =
-          let f = sym (wrote .is) ∙ e in
-          promised r (q ∙ rw (text-in-front, f, known)) (wrote .buffer ∙ rw (f, e))
+      read r answer =
+          let as-defined = sym (wrote .is) ∙ written in
+          promised r (answer ∙ rw (text-in-front, as-defined, known)) (wrote .buffer ∙ rw (as-defined, written))

@@ -1,4 +1,8 @@
--- Pieces that go together: each occurs once, has a field of its own, and a date mode that the others do not contradict. Assumes nothing.
+-- Pieces that go together: each occurs once, has a field of its own, and a date mode that the others do not contradict.
+-- `together` is the test of it. Assumes nothing. For a piece p that is next, after the pieces done:
+-- `absent`: its field is not set yet. `unmixed`: no other date mode is set.
+-- `stored`: what it sets, after what those done set, is what all of them set.
+-- `fits-next`: with p among the pieces done, the pieces done and those to come are still all.
 use mathlib.Core.Path.{_≡_, refl}
 use mathlib.Core.Bool.{Bool, true, false, not, _&&_, _||_, false≢true, and-false}
 use mathlib.Core.List.{List, [], _∷_}
@@ -8,14 +12,14 @@ use borrow.Author.Tests.{eqb-true, eq-eqb, ne-eqb, ltb-true, ltb-false, lt-ltb, 
 use lib.Dec.{eqb, leb, ltb}
 use lib.IntN.{pos}
 use lib.ListN.{replicate, getD-replicate, List·getD-eq-default}
-use Rattle.notation.specs.Choice.{if_then_else_}
-use Rattle.notation.proofs.Cases.{both}
-use Rattle.notation.proofs.Table.{allFrom, entry}
-use Rattle.tasks.specs.Fields.{mode, get, noFields}
-use Rattle.reader.specs.Reader.{mixes}
-use Rattle.writer.specs.Full.{times}
-use Rattle.pieces.specs.declared.Moment.{Moment}
-use Rattle.readback.specs.Settings.{Kept, always, own, Setting, settings, valueOf, filledBy, expected}
+use Rattle.base_notation.specs.Choice.{if_then_else_}
+use Rattle.base_notation.proofs.Cases.{both}
+use Rattle.base_notation.proofs.Table.{allFrom, entry}
+use Rattle.read_fields.specs.Fields.{mode, get, noFields}
+use Rattle.read_input.specs.Reader.{mixes}
+use Rattle.write_text.specs.Full.{times}
+use Rattle.write_pieces.specs.declared.Moment.{Moment}
+use Rattle.readback.proofs.Settings.{Kept, always, own, Setting, settings, valueOf, filledBy, expected}
 use Rattle.readback.proofs.Filled.{has, among, inPairs, other, held, one-more}
 use Rattle.readback.proofs.Known.{taskFor, modeFor}
 
@@ -31,9 +35,11 @@ isMode c own = eqb c 0
 abbrev oneMode : List ℕ → ℕ → Bool
 oneMode all p = among (has all) (λ (r : Setting). not (eqb (r .field) mode) || isMode (modeFor p) (r .kept)) 0 settings
 
+-- a piece that occurs does so once, with its own field and its date mode
 abbrev goes : List ℕ → ℕ → Bool
 goes all p = not (has all p) || (leb (times p all) 1 && (clear all p && oneMode all p))
 
+-- each piece goes so, and no two settings of one field differ
 abbrev pub together : List ℕ → Bool
 together all = inPairs (has all) settings && allFrom (λ (p x : ℕ). goes all p) 0 (replicate 16 0)
 
@@ -44,7 +50,7 @@ no-field k =
       | false ↦ λ w. List·getD-eq-default (replicate 24 (pos 0)) (pos 0) (ltb-false k 24 w)
     ]) refl
 
--- a date mode that was set
+-- a date mode that was set and is the piece's is no other
 mode-kept : (c : ℕ) (v : Kept) (p : ℕ) (m : Moment) → isMode c v ≡ true → mixes c (valueOf v p m) ≡ false
 mode-kept c v p m e = by (eqb c 0) refl v e
   where
@@ -59,9 +65,10 @@ own-times : (p : ℕ) (ps : List ℕ) → times p (p ∷ ps) ≡ suc (times p ps
 unfolding times
 own-times p ps = rw (eq-eqb p p refl)
 
--- the pieces done, the piece p, and those that follow are all
+-- the pieces done, the piece p, and those that follow it are all
 module _ (all : List ℕ) (c : together all ≡ true) (m : Moment) (done : List ℕ) (p : ℕ) (ps : List ℕ) (small : p < 16)
     (fits : (q : ℕ) → times q done + times q (p ∷ ps) ≡ times q all) where
+  -- p is one of all, so it passes the test
   here : has all p ≡ true
   here = lt-ltb 0 (times p all) (omega (arith, fits p, own-times p ps))
 
@@ -71,32 +78,31 @@ module _ (all : List ℕ) (c : together all ≡ true) (m : Moment) (done : List 
   needs : (leb (times p all) 1 ≡ true) × (clear all p && oneMode all p ≡ true)
   needs = both (leb (times p all) 1) _ (other (has all p) _ here (entry (λ (p x : ℕ). goes all p) 0 (replicate 16 0) (pairs .1) p small))
 
+  -- it was not read before
   unread : times p done ≡ 0
   unread = omega (arith, leb-true (times p all) 1 (needs .0), fits p, own-times p ps)
 
+  -- a piece that is done is one of all, and is not p
   sub : (q : ℕ) → has done q ≡ true → has all q ≡ true
   sub q e = lt-ltb 0 (times q all) (omega (arith, ltb-true 0 (times q done) e, fits q))
 
   sub-other : (q : ℕ) → has done q ≡ true → (has all q && not (eqb q p)) ≡ true
   sub-other q e =
-      let n : eqb q p ≡ false = ne-eqb q p (λ x. let z : times q done ≡ 0 = rw x unread in omega (arith, ltb-true 0 (times q done) e)) in
-      rw (sub q e, n)
+      let another : eqb q p ≡ false = ne-eqb q p (λ x. let z : times q done ≡ 0 = rw x unread in omega (arith, ltb-true 0 (times q done) e)) in
+      rw (sub q e, another)
 
-  -- the piece's field is not set
   pub absent : get (expected done m) (taskFor p .field) ≡ pos 0
   unfolding expected
   absent =
       held m (λ q. has all q && not (eqb q p)) done sub-other (λ z. z ≡ pos 0) (taskFor p .field) (λ r. false) (λ r e. absurd (false≢true e)) 0 settings
       (both (clear all p) _ (needs .1) .0) noFields (no-field (taskFor p .field))
 
-  -- no other date mode is set
   pub unmixed : mixes (modeFor p) (get (expected done m) mode) ≡ false
   unfolding expected
   unmixed =
       held m (has all) done sub (λ z. mixes (modeFor p) z ≡ false) mode (λ (r : Setting). isMode (modeFor p) (r .kept))
       (λ r e. mode-kept (modeFor p) (r .kept) (r .piece) m e) 0 settings (both (clear all p) _ (needs .1) .1) noFields (and-false (not (eqb (modeFor p) 0)))
 
-  -- what the piece sets
   pub stored : filledBy settings (p ∷ []) m (expected done m) ≡ expected (p ∷ done) m
   unfolding expected
   stored = one-more m (has all) done sub p here unread settings (pairs .0) noFields

@@ -1,4 +1,8 @@
--- The pieces of a full template are those of a date group, a time group and US, in any order. Assumes nothing.
+-- The pieces of a full template are those of a date group, a time group and US, in some order. Assumes nothing.
+-- `EachFull`: a property of the pieces of each date group with each time group and US.
+-- `grouped`: pieces that are full occur as often as in one of these lists, which has each property of all (`Grouped`).
+-- `pieces-below`: the pieces of sound nodes are below 16.
+-- `expected-same`: what pieces set depends on how often each occurs, and on nothing else.
 use mathlib.Core.Path.{_≡_, _∙_, refl, sym}
 use mathlib.Core.Bool.{Bool, true, false, false≢true}
 use mathlib.Core.List.{List, [], _∷_, _++_}
@@ -6,15 +10,15 @@ use Prim.Native.Nat.{ℕ, zero, suc, _≤_}
 use native.Mathlib.Omega.{arith}
 use borrow.Author.Tests.{eqb-true, ltb-true, ltb-false, lt-ltb, ne-eqb}
 use lib.Dec.{eqb, ltb}
-use Rattle.notation.proofs.Cases.{both}
-use Rattle.notation.proofs.Table.{allFrom}
-use Rattle.gregorian.proofs.Dates.{Each, each}
-use Rattle.patterns.specs.Search.{countFrom}
-use Rattle.template.specs.declared.Node.{Node}
-use Rattle.writer.specs.Full.{pieces, dateGroups, timeGroups, times, sameFrom, same, anyOf, areFull}
-use Rattle.pieces.specs.Pieces.{micros, pieceOf}
-use Rattle.pieces.specs.declared.Moment.{Moment}
-use Rattle.readback.specs.Settings.{expected}
+use Rattle.base_notation.proofs.Cases.{both}
+use Rattle.base_notation.proofs.Table.{allFrom}
+use Rattle.calendar_gregorian.proofs.Dates.{Each, each}
+use Rattle.template_patterns.specs.Search.{countFrom}
+use Rattle.template_nodes.specs.declared.Node.{Node}
+use Rattle.write_text.specs.Full.{pieces, dateGroups, timeGroups, times, sameFrom, same, anyOf, areFull}
+use Rattle.write_pieces.specs.Pieces.{micros, pieceOf}
+use Rattle.write_pieces.specs.declared.Moment.{Moment}
+use Rattle.readback.proofs.Settings.{expected}
 use Rattle.readback.proofs.Filled.{order-free}
 use Rattle.readback.proofs.Sound.{Sound, a-literal, a-pattern, AllSound, pieces-literal, pieces-pattern}
 
@@ -23,7 +27,7 @@ abbrev pub AllOf : (List ℕ → Type 0) → List (List ℕ) → Type 0
 AllOf P [] = Unit {0}
 AllOf P (g ∷ gs) = P g × AllOf P gs
 
--- the list that passes a test has the properties of each
+-- where one of the lists passes a test, there is one that has every property of all of them
 any-of {ℓ}
     : (A : Type ℓ) (gs : List (List ℕ)) (test : List ℕ → Bool) → anyOf gs test ≡ true
     → ((g : List ℕ) → ((P : List ℕ → Type 0) → AllOf P gs → P g) → test g ≡ true → A) → A
@@ -34,7 +38,7 @@ any-of A (g ∷ gs) test e k = by (test g) refl (λ q. any-of A gs test q (λ x 
     by true q rest = k g (λ P a. a .0) q
     by false q rest = rest (rw q at e)
 
--- a property of the pieces of each date group with each time group and US
+-- the pieces of two groups and US
 abbrev pub joined : List ℕ → List ℕ → List ℕ
 joined date time = date ++ time ++ micros ∷ []
 
@@ -48,8 +52,8 @@ EachFull P = AllOf (Timed P) dateGroups
 same-each : (ps qs : List ℕ) (n i : ℕ) → sameFrom (countFrom i (suc n)) ps qs ≡ true → Each (λ q. times q ps ≡ times q qs) i n
 same-each ps qs zero i e = eqb-true _ _ (both (eqb (times i ps) (times i qs)) _ e .0)
 same-each ps qs (suc n) i e =
-    let w = both (eqb (times i ps) (times i qs)) _ e in
-    (eqb-true _ _ (w .0), same-each ps qs n (suc i) (w .1))
+    let split = both (eqb (times i ps) (times i qs)) _ e in
+    (eqb-true _ _ (split .0), same-each ps qs n (suc i) (split .1))
 
 -- pieces are below 16
 abbrev pub below16 : List ℕ → Bool
@@ -59,9 +63,10 @@ none-above : (ps : List ℕ) (i q : ℕ) → allFrom (λ (i p : ℕ). ltb p 16) 
 unfolding times
 none-above [] i q e h = refl
 none-above (p ∷ ps) i q e h =
-    let w = both (ltb p 16) _ e in
-    rw (ne-eqb q p (omega (arith, ltb-true p 16 (w .0)))) (none-above ps (suc i) q (w .1) h)
+    let split = both (ltb p 16) _ e in
+    rw (ne-eqb q p (omega (arith, ltb-true p 16 (split .0)))) (none-above ps (suc i) q (split .1) h)
 
+-- so each number occurs as often
 pub same-times : (ps qs : List ℕ) → below16 ps ≡ true → below16 qs ≡ true → same ps qs ≡ true → (q : ℕ) → times q ps ≡ times q qs
 same-times ps qs b c e q =
     (elim (ltb q 16) as (λ w. ltb q 16 ≡ w → times q ps ≡ times q qs) [
@@ -104,7 +109,6 @@ pieces-below t (n ∷ ns) i a = by (a .0) (λ j. pieces-below t ns j (a .1))
     by (a-literal l) ih = rw (pieces-literal t n ns l) (ih i)
     by (a-pattern k) ih = rw (pieces-pattern t n ns k, lt-ltb (pieceOf (n .pattern)) 16 (k .reads .piece)) (ih (suc i))
 
--- what pieces set depends on how often each occurs, and on nothing else
 pub expected-same : (m : Moment) (ps qs : List ℕ) → ((q : ℕ) → times q ps ≡ times q qs) → expected ps m ≡ expected qs m
 unfolding expected
 expected-same m ps qs e = order-free m _ ps qs e _

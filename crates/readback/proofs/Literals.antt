@@ -1,4 +1,7 @@
--- Reading a literal: a reader that is ahead by spaces and separators, as many as still pay for literals, stays so. Assumes nothing.
+-- Reading a literal. A reader may be ahead by spaces and separators, which it skipped and which still pay for literals:
+-- past the literal it is ahead so again. Assumes nothing.
+-- `Left`: what is left of the input from a place on, with its length and bytes; `left-past`: after a first part of it.
+-- `literal-step`: a reader that is ahead at a literal's text is ahead after it (`Passed`).
 use mathlib.Core.Path.{_≡_, _∙_, refl, sym, ap}
 use mathlib.Core.Bool.{Bool, true, false, _&&_, _||_, false≢true}
 use mathlib.Core.List.{List, [], _∷_, _++_}
@@ -8,18 +11,18 @@ use borrow.Author.Tests.{lt-ltb, ltb-true, ltb-false}
 use lib.Dec.{eqb, ltb}
 use lib.ListN.{length, drop, length-append, length-drop}
 use lib.Seq.{drop-drop, drop-append-seam, getD-drop}
-use Rattle.notation.specs.Text.{byteAt}
-use Rattle.notation.proofs.Cases.{both}
-use Rattle.chars.specs.Character.{lead, charLength}
-use Rattle.chars.proofs.Characters.{lead-one}
-use Rattle.chars.proofs.Classes.{wide-class}
-use Rattle.places.specs.Places.{place, literalPassed}
-use Rattle.template.specs.Template.{separator, space}
-use Rattle.template.specs.declared.Node.{Node}
+use Rattle.base_notation.specs.Text.{byteAt}
+use Rattle.base_notation.proofs.Cases.{both}
+use Rattle.base_chars.specs.Character.{lead, charLength}
+use Rattle.base_chars.proofs.Characters.{lead-one}
+use Rattle.base_chars.proofs.Classes.{wide-class}
+use Rattle.read_literals.specs.Literals.{place, literalPassed}
+use Rattle.template_nodes.specs.Template.{separator, space}
+use Rattle.template_nodes.specs.declared.Node.{Node}
 use Rattle.readback.proofs.Ahead.{Ahead, ahead-more}
 use Rattle.readback.proofs.Nodes.{isBlank, Literal}
 
--- u is left of the input from a place on
+-- u is left of the input s from at on
 pub record Left (s : List ℕ) (at : ℕ) (u : List ℕ) : Type 0 where
   pub within : at ≤ length s
   pub is : drop at s ≡ u
@@ -46,7 +49,7 @@ blank-one b e =
       | false ↦ λ w. absurd (false≢true (rw (wide-class b (ltb-false b 128 w)) at e))
     ]) refl
 
--- the reader past the literal n, behind which v is left
+-- the reader past the literal n, after which v is left: by how much it is ahead there
 pub record Passed (s : List ℕ) (n : Node) (at e : ℕ) (v : List ℕ) : Type 0 where
   pub next : ℕ
   pub is : literalPassed s n (place (at + e) e false) ≡ place (at + n .len + next) next false
@@ -67,7 +70,7 @@ module _ (s t : List ℕ) (n : Node) (l : Literal t n) (v : List ℕ) (at : ℕ)
   unfolding charLength
   own-length = rw (left-byte h 0) (omega (arith, l .long, l .size, left-length h, length-append (l .others) v))
 
-  -- where no skipped space pays, the literal takes its own bytes
+  -- a reader that is not ahead: the literal takes its own bytes
   in-place : Passed s n at 0 v
   unfolding literalPassed
   in-place = record { next = 0; is = by blankKind refl; ahead = tt }
@@ -88,18 +91,19 @@ module _ (s t : List ℕ) (n : Node) (l : Literal t n) (v : List ℕ) (at : ℕ)
     rest : l .others ++ v ≡ v
     rest = none (l .others) v (omega (arith, l .size, one-byte))
 
-    -- a skipped space pays
+    -- a byte that was skipped pays for the literal, which has one byte
     paid : literalPassed s n (place (at + suc e) (suc e) false) ≡ place (at + suc e) e false → Passed s n at (suc e) v
     paid q = record { next = e; is = q ∙ moved e (omega (arith, one-byte)); ahead = rw rest at (k .1) }
 
-    -- or the literal takes one more space or separator
+    -- a space or separator of the template takes one more of them, if there is one
     blank : blankKind ≡ true → Passed s n at (suc e) v
     unfolding literalPassed
     blank q =
         (elim (ltb (at + suc e) (length s) && isBlank (byteAt s (at + suc e))) as (λ w. (ltb (at + suc e) (length s) && isBlank (byteAt s (at + suc e))) ≡ w → Passed s n at (suc e) v) [
           | true ↦ λ w.
-              let x = both (ltb (at + suc e) (length s)) _ w in
-              let more = ahead-more (suc e) (l .b ∷ l .others ++ v) k (omega (arith, ltb-true (at + suc e) (length s) (x .0), left-length h)) (rw (left-byte h (suc e)) at (x .1)) in
+              let next-blank = both (ltb (at + suc e) (length s)) _ w in
+              let inside : suc e < length (l .b ∷ l .others ++ v) = omega (arith, ltb-true (at + suc e) (length s) (next-blank .0), left-length h) in
+              let more = ahead-more (suc e) (l .b ∷ l .others ++ v) k inside (rw (left-byte h (suc e)) at (next-blank .1)) in
               record { next = suc e; is = rw (q, w) (moved (suc e) (omega (arith, one-byte))); ahead = rw rest at (more .1) }
           | false ↦ λ w. paid (rw (q, w))
         ]) refl

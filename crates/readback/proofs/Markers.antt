@@ -1,4 +1,5 @@
--- A marker of the half of the day that was written is found among the words. Assumes nothing.
+-- A marker of the half of the day that was written is found in its list of words. Assumes nothing.
+-- `marker-found`: AM or PM. `dotted-found`: A.M. or P.M.
 use mathlib.Core.Path.{_≡_, refl}
 use mathlib.Core.Bool.{Bool, true, false}
 use mathlib.Core.List.{List, _++_}
@@ -6,15 +7,15 @@ use Prim.Native.Nat.{ℕ, _+_}
 use native.Mathlib.Omega.{arith}
 use lib.ListN.{drop}
 use lib.Seq.{getD-drop}
-use Rattle.notation.specs.Choice.{if_then_else_}
-use Rattle.notation.specs.Text.{byteAt}
-use Rattle.spelling.specs.Word.{wordAt}
-use Rattle.spelling.specs.declared.Word.the-variants.{At}
-use Rattle.patterns.specs.declared.tables.WordList.the-variants.{AmPm, AmPmLong}
-use Rattle.pieces.specs.Pieces.{markerText}
+use Rattle.base_notation.specs.Choice.{if_then_else_}
+use Rattle.base_notation.specs.Text.{byteAt}
+use Rattle.read_words.specs.Spelling.{wordAt}
+use Rattle.read_words.specs.declared.spelling.Word.the-variants.{At}
+use Rattle.template_patterns.specs.declared.tables.WordList.the-variants.{AmPm, AmPmLong}
+use Rattle.write_pieces.specs.Pieces.{markerText}
 
 module _ (s u : List ℕ) (at : ℕ) where
-  -- a byte of what stands at a place
+  -- the byte i of what is left of the input from at on
   byte : (v : List ℕ) → drop at s ≡ v → (i j : ℕ) → j ≡ at + i → byteAt s j ≡ byteAt v i
   byte v e i j q = rw (q, ← getD-drop at s i 0, e)
 

@@ -1,34 +1,43 @@
--- Reading back: for every full template and every moment the text is written, is the moment's alone, and is read as the moment. Assumes nothing.
+-- The theorem of reading back, `every-back`: for every full template and every moment the text is written, no other
+-- moment has it, and it is read as the moment. Assumes nothing. Two halves, joined here:
+-- 1. Reading the text sets exactly what the template's pieces set: `text-is-read`, `fields-read` in ReadText.
+--    A template is whole characters and known patterns (Boundaries, Nodes, Known, Texts, Sound). A pattern, read at the
+--    text of its piece, sets the fields of the piece (Settings, Numbers, Markers, PieceNumbers, Actions). A reader may
+--    be ahead by spaces and separators, and literals let it (Ahead, Literals). The pieces are those of a date group,
+--    a time group and US (Groups), and can be read in any order (Filled, Compatible). So, by induction on the nodes,
+--    the whole text is read (Simulation).
+-- 2. Fields that are set so are read as the moment: `moment-read` in MomentRead. They make the date (GroupFields,
+--    FieldSteps, DateGroups) and the time (TimeGroups).
 use mathlib.Core.Path.{_≡_, refl, sym, _∙_, ap}
 use mathlib.Core.Bool.{true}
 use mathlib.Core.List.{List}
 use Prim.Native.Nat.{ℕ, _≤_}
 use native.Mathlib.Omega.{arith}
 use borrow.Author.Tests.{le-ltb}
-use lib.IntN.{pos, natAbs}
+use lib.IntN.{natAbs}
 use lib.ListN.{length}
-use Rattle.groups.specs.Values.{by-month, by-day, by-week, of-24, of-12, by-second}
-use Rattle.groups.proofs.ReadAs.{moment-read}
-use Rattle.instants.specs.Instant.{timestampOf, dateOf}
-use Rattle.epoch.proofs.Plain.{plainParts, instant-is, day-is}
-use Rattle.parts.specs.Parts.{momentOf, partsOf, inputLimit}
-use Rattle.parts.specs.declared.Answer.{Answer}
-use Rattle.parts.specs.declared.Answer.the-variants.{Moment as Accepted, Refused}
-use Rattle.tasks.specs.declared.Reading.{Reading}
-use Rattle.writer.specs.Full.{times, isFull}
-use Rattle.pieces.specs.Moment.{moment, isMoment, IsMoment}
-use Rattle.pieces.specs.Pieces.{numberOf}
-use Rattle.writer.specs.Text.{textOf}
-use Rattle.writer.specs.Writer.{writtenTo}
-use Rattle.pieces.specs.declared.Moment.{Moment}
-use Rattle.writer.specs.declared.Written.the-variants.{Length}
-use Rattle.pieces.proofs.Moments.{Numbers, numbers}
-use Rattle.readback.specs.ReadBack.{ReadAs, Back, EveryBack}
-use Rattle.readback.specs.Settings.{ownOf, filledBy, expected}
+use Rattle.readback.proofs.GroupFields.{by-month, by-day, by-week, of-24, of-12, by-second}
+use Rattle.readback.proofs.MomentRead.{moment-read}
+use Rattle.moment_instants.specs.ByTemplate.{timestampOf, dateOf}
+use Rattle.moment_instants.proofs.Plain.{plainParts, instant-is, day-is}
+use Rattle.moment_parts.specs.Parts.{momentOf, partsOf, inputLimit}
+use Rattle.moment_parts.specs.declared.Answer.{Answer}
+use Rattle.moment_parts.specs.declared.Answer.the-variants.{Moment as Accepted, Refused}
+use Rattle.write_text.specs.Full.{times, isFull}
+use Rattle.write_pieces.specs.Moment.{moment, isMoment}
+use Rattle.readback.proofs.MomentFacts.{IsMoment}
+use Rattle.write_pieces.specs.Pieces.{numberOf}
+use Rattle.write_text.specs.Text.{textOf}
+use Rattle.write_text.specs.Writer.{writtenTo}
+use Rattle.write_pieces.specs.declared.Moment.{Moment}
+use Rattle.write_text.specs.declared.Written.the-variants.{Length}
+use Rattle.write_pieces.proofs.Moments.{Numbers, numbers}
+use Rattle.readback.specs.ReadBack.{ReadAs, EveryBack}
+use Rattle.readback.proofs.Settings.{ownOf, filledBy, expected}
 use Rattle.readback.proofs.Groups.{EachFull}
 use Rattle.readback.proofs.ReadText.{full-is, text-is-utf8, text-within, text-is-read, fields-read}
 
--- the numbers of a moment, as whole numbers
+-- the numbers of a moment in its ranges, as natural numbers
 is-moment : {m : Moment} → Numbers m
     → IsMoment (natAbs (m .year)) (natAbs (m .month)) (natAbs (m .day)) (natAbs (m .hour)) (natAbs (m .minute)) (natAbs (m .second)) (natAbs (m .micros))
 is-moment n = record {
@@ -39,6 +48,7 @@ is-moment n = record {
   micros = omega (arith, n .micros-to);
 }
 
+-- a moment is made of these numbers
 plain : (m : Moment) → Numbers m
     → m ≡ moment (natAbs (m .year)) (natAbs (m .month)) (natAbs (m .day)) (natAbs (m .hour)) (natAbs (m .minute)) (natAbs (m .second)) (natAbs (m .micros))
 plain m n = λ i. record {
@@ -51,7 +61,7 @@ plain m n = λ i. record {
   micros = n .micros .is i;
 }
 
--- what each date group sets with each time group and US is read as the moment
+-- what each date group sets with each time group and US is read as the moment: the fields are computed and compared
 each-read : {y mo d h mi s us : ℕ} → IsMoment y mo d h mi s us
     → EachFull (λ all. momentOf (expected all (moment y mo d h mi s us)) ≡ Accepted (plainParts y mo d h mi s us))
 unfolding expected filledBy times ownOf numberOf
@@ -93,6 +103,7 @@ module _ (t : List ℕ) (full : isFull t ≡ true) where
         )
         (fields-read t full is (λ f. momentOf f ≡ Accepted (plainParts y mo d h mi s us)) (each-read is))
 
+    -- and so do the other two answers
     text-read : ReadAs t (textOf t now) now
     unfolding timestampOf dateOf
     text-read = record {
@@ -102,6 +113,7 @@ module _ (t : List ℕ) (full : isFull t ≡ true) where
     }
 
   module _ (m : Moment) (is : isMoment m ≡ true) where
+    -- the seven numbers are natural numbers in their ranges
     n : Numbers m
     n = numbers m is
 
@@ -136,16 +148,16 @@ momentIn (Accepted p) other = record {
 }
 momentIn (Refused why) other = other
 
--- for every full template and every moment
+-- reading back: two moments with the same text are the same, since each is what the text is read as
 pub every-back : EveryBack
 every-back t m full is = record {
   written = λ before h. rw (all-written t full m is (length before) h) (refl, refl);
   within = length-within t full m is;
   same = λ n other. (
-    λ e.
+    λ same-text.
         ap (λ a. momentIn a m)
-        (sym (read-back t full m is .parts) ∙ ap (partsOf t) e ∙ read-back t full n other .parts),
-    λ e. ap (textOf t) e,
+        (sym (read-back t full m is .parts) ∙ ap (partsOf t) same-text ∙ read-back t full n other .parts),
+    λ same-moment. ap (textOf t) same-moment,
   );
   read = read-back t full m is;
 }

@@ -1,5 +1,8 @@
--- Reading back, first half: the text of a moment by a full template is UTF-8 within the limit, and reading it sets what the template's pieces set.
--- Assumes nothing.
+-- Reading back, first half: the text of a moment by a full template, and what reading it sets. Assumes nothing.
+-- `full-is`: what the test of a full template says (`Full`).
+-- `text-is-utf8`, `text-within`: the text is UTF-8, and within the limit of an input.
+-- `text-is-read`: reading it by the template accepts it, and sets exactly what the template's pieces set.
+-- `fields-read`: what holds of what each date group sets with each time group and US holds of the fields that are read.
 use mathlib.Core.Path.{_≡_, refl}
 use mathlib.Core.Bool.{Bool, true, _&&_}
 use mathlib.Core.List.{List, []}
@@ -8,20 +11,21 @@ use native.Mathlib.Omega.{arith}
 use borrow.Author.Tests.{eqb-true, leb-true}
 use lib.Dec.{eqb, leb}
 use lib.ListN.{length}
-use Rattle.notation.proofs.Cases.{both}
-use Rattle.chars.specs.Utf8.{wellFormed}
-use Rattle.parts.specs.Parts.{templateLimit, inputLimit}
-use Rattle.tasks.specs.Fields.{noFields}
-use Rattle.reader.specs.Reader.{readAll}
-use Rattle.tasks.specs.declared.Fields.{Fields}
-use Rattle.template.specs.Template.{nodesOf}
-use Rattle.writer.specs.Full.{pieces, times, areFull, isFull}
-use Rattle.pieces.specs.Moment.{moment, IsMoment}
-use Rattle.pieces.specs.Pieces.{micros}
-use Rattle.writer.specs.Text.{nodesText, textOf}
-use Rattle.writer.specs.Writer.{allWritten, firstUnwritten}
-use Rattle.pieces.specs.declared.Moment.{Moment}
-use Rattle.readback.specs.Settings.{filledBy, expected}
+use Rattle.base_notation.proofs.Cases.{both}
+use Rattle.base_chars.specs.Utf8.{wellFormed}
+use Rattle.moment_parts.specs.Parts.{templateLimit, inputLimit}
+use Rattle.read_fields.specs.Fields.{noFields}
+use Rattle.read_input.specs.Reader.{readAll}
+use Rattle.read_fields.specs.declared.Fields.{Fields}
+use Rattle.template_nodes.specs.Template.{nodesOf}
+use Rattle.write_text.specs.Full.{pieces, times, areFull, isFull}
+use Rattle.write_pieces.specs.Moment.{moment}
+use Rattle.readback.proofs.MomentFacts.{IsMoment}
+use Rattle.write_pieces.specs.Pieces.{micros}
+use Rattle.write_text.specs.Text.{nodesText, textOf}
+use Rattle.write_text.specs.Writer.{allWritten, firstUnwritten}
+use Rattle.write_pieces.specs.declared.Moment.{Moment}
+use Rattle.readback.proofs.Settings.{filledBy, expected}
 use Rattle.readback.proofs.Compatible.{together}
 use Rattle.readback.proofs.Groups.{EachFull, Grouped, grouped, pieces-below, expected-same}
 use Rattle.readback.proofs.Nodes.{good-nodes}
@@ -41,7 +45,6 @@ none-expected : (m : Moment) → expected [] m ≡ noFields
 unfolding expected filledBy times
 none-expected m = refl
 
--- what the test of a full template says
 pub record Full (t : List ℕ) : Type 0 where
   pub short : length t ≤ templateLimit
   pub text : wellFormed t ≡ true
@@ -51,10 +54,10 @@ pub record Full (t : List ℕ) : Type 0 where
 pub full-is : (t : List ℕ) → isFull t ≡ true → Full t
 unfolding isFull
 full-is t e =
-    let a = both (leb (length t) templateLimit) _ e in
-    let b = both (wellFormed t) _ (a .1) in
-    let c = both (eqb (firstUnwritten (nodesOf t)) allWritten) _ (b .1) in
-    record { short = leb-true _ _ (a .0); text = b .0; known = eqb-true _ _ (c .0); full = c .1 }
+    let short = both (leb (length t) templateLimit) _ e in
+    let text = both (wellFormed t) _ (short .1) in
+    let known = both (eqb (firstUnwritten (nodesOf t)) allWritten) _ (text .1) in
+    record { short = leb-true _ _ (short .0); text = text .0; known = eqb-true _ _ (known .0); full = known .1 }
 
 module _ (t : List ℕ) (is-full : isFull t ≡ true) where
   checks : Full t
@@ -73,7 +76,6 @@ module _ (t : List ℕ) (is-full : isFull t ≡ true) where
     abbrev now : Moment
     now = moment y mo d h mi s us
 
-    -- the text is UTF-8
     pub text-is-utf8 : wellFormed (textOf t now) ≡ true
     unfolding textOf
     text-is-utf8 = text-utf8 t now (nodesOf t) sound
@@ -88,7 +90,6 @@ module _ (t : List ℕ) (is-full : isFull t ≡ true) where
     by-groups : expected (pieces (nodesOf t)) now ≡ expected (groups .all) now
     by-groups = expected-same now (pieces (nodesOf t)) (groups .all) (groups .as-often)
 
-    -- reading it by the template accepts, and sets exactly what the template's pieces set
     pub text-is-read : Ends (expected (pieces (nodesOf t)) now) (readAll t (textOf t now) (nodesOf t))
     unfolding textOf readAll times
     text-is-read =
@@ -96,6 +97,5 @@ module _ (t : List ℕ) (is-full : isFull t ≡ true) where
         (simulated t (nodesText t now (nodesOf t)) is (groups .all) (goes .0) (nodesOf t) sound true 0 0 [] (record { within = omega arith; is = refl }) tt
         (λ q. omega (arith, groups .as-often q)))
 
-    -- so what holds of what each date group sets with each time group holds of the fields that are read
     pub fields-read : (P : Fields → Type 0) → EachFull (λ all. P (expected all now)) → P (readAll t (textOf t now) (nodesOf t) .fields)
     fields-read P a = rw (text-is-read .fields, by-groups) (groups .pick (λ all. P (expected all now)) a)

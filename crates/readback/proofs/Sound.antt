@@ -1,4 +1,11 @@
--- The nodes of a template that is written, literals and known patterns, and their text. Assumes nothing.
+-- The nodes of a template that the writer writes, and their text. Assumes nothing.
+-- `Sound`: a node is a literal, or a bare pattern that the writer knows (`Pattern`).
+-- `sound-nodes`: all nodes are so, if there is none that the writer does not write.
+-- `pieces-literal`, `pieces-pattern`, `literal-text`, `pattern-text`: the pieces from a node on, and its text.
+-- `pattern-written`: the text of a pattern is that of a piece of its size.
+-- `text-utf8`, `text-length`: the whole text is UTF-8, and longer than the nodes by at most 4 bytes for each US.
+-- `stops`: after a number that is read with all its digits, no digit follows in the text.
+-- `blank-text`: where the text is nothing but spaces and separators, there is no piece.
 use mathlib.Core.Path.{_≡_, _∙_, refl, sym}
 use mathlib.Core.Bool.{Bool, true, false, not, false≢true}
 use mathlib.Core.List.{List, [], _∷_, _++_}
@@ -7,24 +14,24 @@ use native.Mathlib.Omega.{arith}
 use borrow.Author.Tests.{eqb-true, eq-eqb, lt-ltb, ltb-false, not-true}
 use lib.Dec.{eqb, ltb}
 use lib.ListN.{length, length-append}
-use Rattle.notation.specs.Choice.{if_then_else_}
-use Rattle.notation.proofs.Cases.{both}
-use Rattle.chars.specs.Class.{isDigit}
-use Rattle.chars.specs.Utf8.{wellFormed}
-use Rattle.chars.proofs.Characters.{lead-one}
-use Rattle.chars.proofs.Classes.{digit-bounds}
-use Rattle.chars.proofs.WellFormed.{empty-text, append-text}
-use Rattle.fields.specs.Suffix.{endsNumber, isFree}
-use Rattle.patterns.specs.Patterns.{nameOf}
-use Rattle.reader.specs.Reader.{headOf}
-use Rattle.strtol.specs.Runs.{leading, digits}
-use Rattle.template.specs.Template.{action}
-use Rattle.template.specs.declared.Node.{Node}
-use Rattle.writer.specs.Full.{pieces, times}
-use Rattle.pieces.specs.Pieces.{micros, pieceOf, pieceText}
-use Rattle.writer.specs.Text.{nodeText, nodesText, literalText}
-use Rattle.writer.specs.Writer.{allWritten, firstUnwritten, isWritten, named}
-use Rattle.pieces.specs.declared.Moment.{Moment}
+use Rattle.base_notation.specs.Choice.{if_then_else_}
+use Rattle.base_notation.proofs.Cases.{both}
+use Rattle.base_chars.specs.Class.{isDigit}
+use Rattle.base_chars.specs.Utf8.{wellFormed}
+use Rattle.base_chars.proofs.Characters.{lead-one}
+use Rattle.base_chars.proofs.Classes.{digit-bounds}
+use Rattle.base_chars.proofs.WellFormed.{empty-text, append-text}
+use Rattle.read_integers.specs.Suffix.{endsNumber, isFree}
+use Rattle.template_patterns.specs.Patterns.{nameOf}
+use Rattle.read_input.specs.Reader.{headOf}
+use Rattle.base_strtol.specs.Runs.{leading, digits}
+use Rattle.template_nodes.specs.Template.{action}
+use Rattle.template_nodes.specs.declared.Node.{Node}
+use Rattle.write_text.specs.Full.{pieces, times}
+use Rattle.write_pieces.specs.Pieces.{micros, pieceOf, pieceText}
+use Rattle.write_text.specs.Text.{nodeText, nodesText, literalText}
+use Rattle.write_text.specs.Writer.{allWritten, firstUnwritten, isWritten, named}
+use Rattle.write_pieces.specs.declared.Moment.{Moment}
 use Rattle.readback.proofs.Ahead.{Ahead, ink-ahead, ink-some, ahead-all}
 use Rattle.readback.proofs.Known.{Reads, known, sizeFor, excess}
 use Rattle.readback.proofs.Nodes.{Literal, Good, is-literal, is-named, AllGood, lengths}
@@ -47,20 +54,21 @@ AllSound t [] = Unit {0}
 AllSound t (n ∷ ns) = Sound t n × AllSound t ns
 
 module _ (t : List ℕ) where
+  -- a good node that is written is sound
   sound : (n : Node) → isWritten n ≡ true → Good t n → Sound t n
   sound n e (is-literal l) = a-literal l
   sound n e (is-named g) =
-      let w = both (not (eqb (pieceOf (n .pattern)) 0)) _ (rw (eq-eqb (n .kind) action (g .is-action)) at e) in
-      let p : pieceOf (n .pattern) ≡ 0 → ⊥ = λ q. false≢true (rw (eq-eqb (pieceOf (n .pattern)) 0 q) at (w .0)) in
+      let tests = both (not (eqb (pieceOf (n .pattern)) 0)) _ (rw (eq-eqb (n .kind) action (g .is-action)) at e) in
+      let has-piece : pieceOf (n .pattern) ≡ 0 → ⊥ = λ q. false≢true (rw (eq-eqb (pieceOf (n .pattern)) 0 q) at (tests .0)) in
       a-pattern (record {
         is-action = g .is-action;
-        bare = eqb-true _ _ (w .1);
+        bare = eqb-true _ _ (tests .1);
         size = g .size;
-        some = omega (arith, p);
-        reads = known (n .pattern) (g .known) p;
+        some = omega (arith, has-piece);
+        reads = known (n .pattern) (g .known) has-piece;
       })
 
-  -- only a pattern is not written
+  -- with no unwritten node from this one on, this one is written, and none after it is unwritten
   written : (n : Node) (rest : ℕ) → Good t n → (if isWritten n then rest else named (n .pattern)) ≡ allWritten → (isWritten n ≡ true) × (rest ≡ allWritten)
   written n rest g e = by (isWritten n) refl g e
     where
@@ -73,10 +81,9 @@ module _ (t : List ℕ) where
   unfolding firstUnwritten
   sound-nodes [] g e = tt
   sound-nodes (n ∷ ns) g e =
-      let w = written n (firstUnwritten ns) (g .0) e in
-      (sound n (w .0) (g .0), sound-nodes ns (g .1) (w .1))
+      let is-written = written n (firstUnwritten ns) (g .0) e in
+      (sound n (is-written .0) (g .0), sound-nodes ns (g .1) (is-written .1))
 
-  -- the pieces from a node on
   pub pieces-literal : (n : Node) (ns : List Node) → Literal t n → pieces (n ∷ ns) ≡ pieces ns
   unfolding pieces
   pieces-literal n ns l = rw (l .no-action)
@@ -86,7 +93,6 @@ module _ (t : List ℕ) where
   pieces-pattern n ns k = rw (eq-eqb (n .kind) action (k .is-action))
 
   module _ (m : Moment) where
-    -- the text of a node
     pub literal-text : (n : Node) → Literal t n → (nodeText t m n ≡ literalText t n)
     unfolding nodeText
     literal-text n l = rw (l .no-action)
@@ -98,7 +104,6 @@ module _ (t : List ℕ) where
     pub pattern-written : (n : Node) → (k : Pattern n) → Written (sizeFor (pieceOf (n .pattern))) (nodeText t m n)
     pattern-written n k = rw (pattern-text n k) (piece-written m (pieceOf (n .pattern)) (k .some) (omega (arith, k .reads .piece)))
 
-    -- the text is UTF-8
     node-utf8 : (n : Node) → Sound t n → wellFormed (nodeText t m n) ≡ true
     node-utf8 n (a-literal l) = rw (literal-text n l) (l .whole)
     node-utf8 n (a-pattern k) = pattern-written n k .text
@@ -108,6 +113,7 @@ module _ (t : List ℕ) where
     text-utf8 [] a = empty-text
     text-utf8 (n ∷ ns) a = append-text (nodeText t m n) (nodesText t m ns) (node-utf8 n (a .0)) ∙ text-utf8 ns (a .1)
 
+    -- US alone may be longer than its name, by 4 bytes
     excesses : (p : ℕ) (ps : List ℕ) → excess p + 4 * times micros ps ≡ 4 * times micros (p ∷ ps)
     unfolding times
     excesses p ps = by (eqb micros p)
@@ -116,7 +122,6 @@ module _ (t : List ℕ) where
         by true = omega arith
         by false = omega arith
 
-    -- it is longer than the template by at most 4 bytes for each US
     pub text-length : (ns : List Node) → AllSound t ns → length (nodesText t m ns) ≤ lengths ns + 4 * times micros (pieces ns)
     unfolding nodesText
     text-length [] a = omega arith
@@ -129,7 +134,6 @@ module _ (t : List ℕ) where
             rw (pieces-pattern n ns k)
             (omega (arith, pattern-written n k .long, k .reads .size, k .size, excesses (pieceOf (n .pattern)) (pieces ns)))
 
-    -- no digit follows a number of any width
     pub stops : (n : Node) → n .suffix ≡ 0 → (ns : List Node) → AllSound t ns → isFree t n (headOf ns) ≡ true → digits (nodesText t m ns) ≡ 0
     unfolding nodesText leading endsNumber
     stops n z [] a e = refl
@@ -151,7 +155,6 @@ module _ (t : List ℕ) where
             rw (pattern-text x k)
             (word-stops m (nodesText t m ns) (pieceOf (x .pattern)) (ltb-false _ _ (not-true _ word)) (omega (arith, k .reads .piece)))
 
-    -- a text of spaces and separators has no piece
     pub blank-text : (ns : List Node) → AllSound t ns → Ahead (length (nodesText t m ns)) (nodesText t m ns) → pieces ns ≡ []
     unfolding nodesText pieces
     blank-text [] a k = refl

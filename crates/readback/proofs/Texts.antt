@@ -1,4 +1,7 @@
--- The text of a piece: its length, its first byte, and that it is ASCII. Assumes nothing.
+-- The text of a piece. Assumes nothing.
+-- `piece-written`: it has the piece's size, is UTF-8 and begins with neither a space nor a separator (`Written`).
+-- `number-text`: of a number piece it is the number in as many digits as its width, which is not 0 (`width-some`).
+-- `word-stops`: of a marker it begins with no digit.
 use mathlib.Core.Path.{_≡_, _∙_, refl, sym}
 use mathlib.Core.Bool.{Bool, true, false}
 use mathlib.Core.List.{List, [], _∷_, _++_}
@@ -7,20 +10,20 @@ use native.Mathlib.Omega.{arith}
 use borrow.Author.Tests.{ne-eqb, eqb-false}
 use lib.Dec.{eqb}
 use lib.ListN.{length}
-use Rattle.notation.specs.Choice.{if_then_else_}
-use Rattle.chars.specs.Class.{digit, classOf}
-use Rattle.chars.specs.Range.{_‥_}
-use Rattle.chars.specs.Utf8.{sequence, wellFormed, wellFormedAfter}
-use Rattle.chars.proofs.Classes.{the-class, digit-bounds}
-use Rattle.chars.proofs.Ranges.{inside}
-use Rattle.chars.proofs.Sequences.{ascii}
-use Rattle.chars.proofs.WellFormed.{empty-text, past-sequence-at}
-use Rattle.gregorian.proofs.Dates.{each}
-use Rattle.strtol.specs.Decimal.{decimal}
-use Rattle.strtol.specs.Runs.{leading, digits}
-use Rattle.strtol.proofs.Decimals.{AllDigits, decimal-length, decimal-digits}
-use Rattle.pieces.specs.Pieces.{marker, dottedMarker, widthOf, numberOf, markerText, isMorning, pieceText}
-use Rattle.pieces.specs.declared.Moment.{Moment}
+use Rattle.base_notation.specs.Choice.{if_then_else_}
+use Rattle.base_chars.specs.Class.{digit, classOf}
+use Rattle.base_chars.specs.Range.{_‥_}
+use Rattle.base_chars.specs.Utf8.{sequence, wellFormed, wellFormedAfter}
+use Rattle.base_chars.proofs.Classes.{the-class, digit-bounds}
+use Rattle.base_chars.proofs.Ranges.{inside}
+use Rattle.base_chars.proofs.Sequences.{ascii}
+use Rattle.base_chars.proofs.WellFormed.{empty-text, past-sequence-at}
+use Rattle.calendar_gregorian.proofs.Dates.{each}
+use Rattle.base_strtol.specs.Decimal.{decimal}
+use Rattle.base_strtol.specs.Runs.{leading, digits}
+use Rattle.base_strtol.proofs.Decimals.{AllDigits, decimal-length, decimal-digits}
+use Rattle.write_pieces.specs.Pieces.{marker, dottedMarker, widthOf, numberOf, markerText, isMorning, pieceText}
+use Rattle.write_pieces.specs.declared.Moment.{Moment}
 use Rattle.readback.proofs.Ahead.{inked}
 use Rattle.readback.proofs.Known.{sizeFor}
 
@@ -28,7 +31,7 @@ use Rattle.readback.proofs.Known.{sizeFor}
 digits-text : (u : List ℕ) → AllDigits u → wellFormed u ≡ true
 digits-text [] h = empty-text
 digits-text (b ∷ u) h =
-    let w = digit-bounds b (h .0) in
+    let bounds = digit-bounds b (h .0) in
     sym (past-sequence-at (b ∷ u) 0 1 (sym (ascii b u (inside (0 ‥ 127) b (omega arith) (omega arith))))) ∙ digits-text u (h .1)
 
 -- and neither spaces nor separators
@@ -36,7 +39,7 @@ digits-inked : (u : List ℕ) → 0 < length u → AllDigits u → inked u ≡ t
 digits-inked [] z h = absurd (omega arith)
 digits-inked (b ∷ u) z h = rw (the-class (classOf b) digit (h .0))
 
--- what holds of the text of a piece of a size
+-- what holds of the text of a piece, by the piece's size
 pub record Written (size : ℕ) (u : List ℕ) : Type 0 where
   pub long : length u ≡ size
   pub text : wellFormed u ≡ true
@@ -83,7 +86,6 @@ module _ (m : Moment) where
   marker-stops false true u = refl
   marker-stops false false u = refl
 
-  -- a marker is no digit
   pub word-stops : (u : List ℕ) (p : ℕ) → 14 ≤ p → p ≤ 15 → digits (pieceText p m ++ u) ≡ 0
   unfolding pieceText
   word-stops u = each (λ p. digits (pieceText p m ++ u) ≡ 0) 14 1 (marker-stops false (isMorning m) u, marker-stops true (isMorning m) u)

@@ -1,3 +1,2 @@
--- What reading a written text sets.
-pub mod Settings
+-- What is promised of reading back.
 pub mod ReadBack

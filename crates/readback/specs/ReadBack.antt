@@ -1,27 +1,27 @@
--- Reading back: what it is for a text to be read as a moment, and what is promised of every full template and every moment.
+-- Reading back: what it is for a text to be read as a moment, and what is promised of every full template and moment.
 use mathlib.Core.Path.{_≡_}
 use mathlib.Core.Bool.{true}
 use mathlib.Core.List.{List, _++_}
 use Prim.Native.Nat.{ℕ, _≤_}
 use lib.IntN.{ℤ, pos, natAbs}
 use lib.ListN.{length, drop}
-use Rattle.instants.specs.Instant.{timestampOf, dateOf}
-use Rattle.epoch.specs.Plain.{daysSince1970, microsSince1970}
-use Rattle.epoch.specs.declared.Day.the-variants.{Number}
-use Rattle.epoch.specs.declared.Instant.the-variants.{Micros}
-use Rattle.parts.specs.Parts.{partsOf, inputLimit}
-use Rattle.parts.specs.declared.Answer.the-variants.{Moment as Accepted}
-use Rattle.clock.specs.declared.Offset.the-variants.{Absent}
-use Rattle.parts.specs.declared.Parts.{Parts}
-use Rattle.writer.specs.Full.{isFull}
-use Rattle.pieces.specs.Moment.{isMoment}
-use Rattle.writer.specs.Text.{textOf}
-use Rattle.writer.specs.Writer.{writtenTo, bufferAfter}
-use Rattle.pieces.specs.declared.Moment.{Moment}
-use Rattle.writer.specs.declared.Written.{Written}
-use Rattle.writer.specs.declared.Written.the-variants.{Length, Refused}
+use Rattle.moment_instants.specs.ByTemplate.{timestampOf, dateOf}
+use Rattle.moment_instants.specs.Plain.{daysSince1970, microsSince1970}
+use Rattle.moment_instants.specs.declared.epoch.Day.the-variants.{Number}
+use Rattle.moment_instants.specs.declared.epoch.Instant.the-variants.{Micros}
+use Rattle.moment_parts.specs.Parts.{partsOf, inputLimit}
+use Rattle.moment_parts.specs.declared.Answer.the-variants.{Moment as Accepted}
+use Rattle.moment_time.specs.declared.Offset.the-variants.{Absent}
+use Rattle.moment_parts.specs.declared.Parts.{Parts}
+use Rattle.write_text.specs.Full.{isFull}
+use Rattle.write_pieces.specs.Moment.{isMoment}
+use Rattle.write_text.specs.Text.{textOf}
+use Rattle.write_text.specs.Writer.{writtenTo, bufferAfter}
+use Rattle.write_pieces.specs.declared.Moment.{Moment}
+use Rattle.write_text.specs.declared.Written.{Written}
+use Rattle.write_text.specs.declared.Written.the-variants.{Length, Refused}
 use Rattle.readback.specs.declared.Again.{Again}
-use Rattle.readback.specs.declared.Again.the-variants.{Read, Unread}
+use Rattle.readback.specs.declared.Again.the-variants.{Read, NotWritten}
 
 -- the parts of a moment: its seven numbers, precision 0 and no offset
 abbrev pub partsIn : Moment → Parts
@@ -53,7 +53,7 @@ pub record ReadAs (t text : List ℕ) (m : Moment) : Type 0 where
 
 -- what is promised of a full template and a moment m
 pub record Back (t : List ℕ) (m : Moment) : Type 0 where
-  -- a buffer at least as long as the text, whatever it holds: the text is written, and every byte behind it stays
+  -- a buffer at least as long as the text, whatever it holds: the text is written, and every byte after it stays
   pub written : (before : List ℕ) → length (textOf t m) ≤ length before
       → (writtenTo t m (length before) ≡ Length (length (textOf t m)))
       × (bufferAfter (writtenTo t m (length before)) (textOf t m) before ≡ textOf t m ++ drop (length (textOf t m)) before)
@@ -68,15 +68,17 @@ pub record Back (t : List ℕ) (m : Moment) : Type 0 where
 abbrev pub EveryBack : Type 0
 EveryBack = (t : List ℕ) (m : Moment) → isFull t ≡ true → isMoment m ≡ true → Back t m
 
--- what writing and reading back answers: what the three answers to the text are, or why nothing is written
+-- what writing and reading back answers: the three answers to the text, or why nothing was written
 abbrev pub readAgain : List ℕ → List ℕ → Written → Again
 readAgain t text (Length n) = Read n (partsOf t text) (timestampOf t text) (dateOf t text)
-readAgain t text (Refused why) = Unread why
+readAgain t text (Refused why) = NotWritten why
 
+-- the same, by a template, a moment and the length of the buffer
 unfoldable pub againOf : List ℕ → Moment → ℕ → Again
 againOf t m room = readAgain t (textOf t m) (writtenTo t m room)
 
--- r is the answer, and after the buffer; of a full template, a moment and enough space: the text's length and the moment by all three answers
+-- r is the answer, and `after` the buffer. Of a full template, a moment and a buffer that is long enough, the answer is
+-- the text's length and the moment, by all three answers
 pub record WroteAndRead (t : List ℕ) (m : Moment) (before after : List ℕ) (r : Again) : Type 0 where
   pub is : r ≡ againOf t m (length before)
   pub buffer : after ≡ bufferAfter (writtenTo t m (length before)) (textOf t m) before

@@ -1,17 +1,17 @@
 // Writing a moment and reading it back: the promise that both keep, as the contract of one function.
 ghost use mathlib.Core.Path.{_≡_};
 ghost use lib.ListN.{length};
-ghost use Rattle.writer.specs.declared.Written.the-variants.{Length};
+ghost use Rattle.write_text.specs.declared.Written.the-variants.{Length};
 ghost use Rattle.readback.specs.ReadBack.{WroteAndRead, readAgain};
-use epoch::Day;
-use epoch::Instant;
-use parts::Answer;
-use pieces::Moment;
-use writer::Unwritten;
-use writer::Written;
+use moment_instants::Day;
+use moment_instants::Instant;
+use moment_parts::Answer;
+use write_pieces::Moment;
+use write_text::Unwritten;
+use write_text::Written;
 
 pub enum Again {
-    // The text's length, and what reading it gave, by each answer.
+    // The text's length, and the three answers to it.
     Read {
         length: usize,
         parts: Answer,
@@ -19,27 +19,27 @@ pub enum Again {
         day: Day,
     },
     // Nothing was written.
-    Unread(Unwritten),
+    NotWritten(Unwritten),
 }
 
-// A text read by each answer.
+// A text's length, and the three answers to it.
 fn read_by_all(t: &[u8], text: &[u8]) -> Again
     ensures { λ r. ⌜ r ≡ readAgain (now (t .entry)) (now (text .entry)) (Length (length (now (text .entry)))) ⌝ }
 {
     Again::Read {
         length: text.len(),
-        parts: parts::to_timestamp_parts(t, text),
-        instant: instants::to_timestamp_text(t, text),
-        day: instants::to_date_text(t, text),
+        parts: moment_parts::to_timestamp_parts(t, text),
+        instant: moment_instants::to_timestamp_text(t, text),
+        day: moment_instants::to_date_text(t, text),
     }
 }
 
-// Writes a moment by a template into the buffer and reads the text back, by the same template, in all three answers.
+// Writes a moment by a template into the buffer, and reads the text by the same template, by all three answers.
 pub fn write_and_read(t: &[u8], m: Moment, out: &mut [u8]) -> Again
     ensures { λ r. ⌜ WroteAndRead (now (t .entry)) m (now (out .entry)) (now (out .exit)) r ⌝ }
 {
-    match writer::write(t, m, out) {
+    match write_text::write(t, m, out) {
         Written::Length(n) => read_by_all(t, &out[..n]),
-        Written::Refused(why) => Again::Unread(why),
+        Written::Refused(why) => Again::NotWritten(why),
     }
 }

@@ -1,6 +1,6 @@
 // Questions about days, weeks and years.
 use crate::questions::Values;
-use question_words::Numbers;
+use line_questions::Numbers;
 
 fn wide(n: i32) -> i64 {
     n as i64
@@ -10,20 +10,20 @@ fn one(n: i32) -> Values {
     Values::One(wide(n))
 }
 
-fn of_date(d: julian::Date) -> Values {
+fn of_date(d: calendar_julian::Date) -> Values {
     Values::Three(wide(d.year), wide(d.month), wide(d.day))
 }
 
 // Questions about a day, by its Julian number, or about a year.
 fn of_one(name: &[u8], n: i32) -> Values {
     if check::same(name, b"j2date") {
-        return of_date(julian::pg_j2date(n));
+        return of_date(calendar_julian::pg_j2date(n));
     }
     if check::same(name, b"j2day") {
-        return one(julian::pg_j2day(n));
+        return one(calendar_julian::pg_j2day(n));
     }
     if check::same(name, b"is_leap") {
-        return Values::One(gregorian::pg_is_leap(n) as i64);
+        return Values::One(calendar_gregorian::pg_is_leap(n) as i64);
     }
     Values::None
 }
@@ -31,7 +31,7 @@ fn of_one(name: &[u8], n: i32) -> Values {
 // The question about a week of a year.
 fn of_two(name: &[u8], year: i32, week: i32) -> Values {
     if check::same(name, b"isoweek2j") {
-        return one(julian::pg_isoweek2j(year, week));
+        return one(calendar_julian::pg_isoweek2j(year, week));
     }
     Values::None
 }
@@ -39,16 +39,16 @@ fn of_two(name: &[u8], year: i32, week: i32) -> Values {
 // Questions about a date.
 fn of_three(name: &[u8], y: i32, m: i32, d: i32) -> Values {
     if check::same(name, b"date2j") {
-        return one(julian::pg_date2j(y, m, d));
+        return one(calendar_julian::pg_date2j(y, m, d));
     }
     if check::same(name, b"date2isoweek") {
-        return one(julian::pg_date2isoweek(y, m, d));
+        return one(calendar_julian::pg_date2isoweek(y, m, d));
     }
     if check::same(name, b"date2isoyear") {
-        return one(julian::pg_date2isoyear(y, m, d));
+        return one(calendar_julian::pg_date2isoyear(y, m, d));
     }
     if check::same(name, b"days_from_civil") {
-        return Values::One(gregorian::days_from_civil(y, m, d));
+        return Values::One(calendar_gregorian::days_from_civil(y, m, d));
     }
     Values::None
 }

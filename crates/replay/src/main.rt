@@ -1,5 +1,5 @@
-// Answers questions about the ported functions: each line of standard input is one, and its answer is a line. A question that is
-// unknown or malformed is answered by `?`.
+// Answers questions about the ported functions: each line of standard input is one, and its answer is a line. A
+// question that is unknown or malformed is answered by `?`.
 mod calendar;
 mod questions;
 mod text;
@@ -12,15 +12,17 @@ use libc::STDOUT_FILENO;
 // Room for any answer: the longest is that of `parse`, 256 nodes of 15 bytes, and its newline.
 const LONGEST: usize = 4096;
 
-// Where the answers to the lines of a text end: in the text, and in the buffer. `long` says that the next line began before the text.
+// Where the answers to the lines of a text end: in the text, and in the buffer. `long` says that the next line began
+// before the text.
 struct Answered {
     from: usize,
     at: usize,
     long: bool,
 }
 
-// What is left between two reads: the bytes kept of an unfinished line, whether it is too long, the answers not yet written, and
-// how many reads may come. A proved loop has to end, and nothing says that the input does: so the reads are counted.
+// What is left between two reads: the bytes kept of an unfinished line, whether it is too long, the answers not yet
+// written, and how many reads may come. A proved loop has to end, and nothing says that the input does: so the reads
+// are counted.
 struct State {
     kept: usize,
     long: bool,
@@ -28,7 +30,7 @@ struct State {
     reads: u64,
 }
 
-// Reads behind the bytes that are kept; the answer is the end of all.
+// Reads after the bytes that are kept; the answer is the end of all.
 fn read_on(input: &mut [u8], kept: usize) -> usize
     requires { ⌜ kept ≤ length (now input) ⌝ }
     ensures { λ r. ⌜ r ≤ length (now (input .exit)) ⌝ }
@@ -57,10 +59,10 @@ fn answer_line(line: &[u8], long: bool, out: &mut [u8], at: usize) -> usize
     let start = make_room(out, at);
     if long {
         let end = questions::unknown(out, start);
-        return lines::put_byte(out, end, b'\n');
+        return line_buffers::put_byte(b'\n', out, end);
     }
     let end = questions::answer(line, out, start);
-    lines::put_byte(out, end, b'\n')
+    line_buffers::put_byte(b'\n', out, end)
 }
 
 // Answers the lines that end in a text.
@@ -69,7 +71,7 @@ fn answer_lines(text: &[u8], long: bool, out: &mut [u8], at: usize) -> Answered
     ensures { λ r. ⌜ r .at ≤ length (now (out .exit)) ⌝ }
 {
     let mut s = Answered { from: 0, at, long };
-    let mut end = lines::find(text, 0, b'\n');
+    let mut end = line_buffers::find(text, 0, b'\n');
     while end < text.len() {
         let from = s.from;
         let next = answer_line(&text[from..end], s.long, out, s.at);
@@ -78,7 +80,7 @@ fn answer_lines(text: &[u8], long: bool, out: &mut [u8], at: usize) -> Answered
             at: next,
             long: false,
         };
-        end = lines::find(text, end + 1, b'\n');
+        end = line_buffers::find(text, end + 1, b'\n');
     }
     s
 }
@@ -91,15 +93,10 @@ fn turn(input: &mut [u8], out: &mut [u8], s: State) -> State
     let kept = s.kept;
     let end = read_on(input, kept);
     if end == kept {
-        return State {
-            kept,
-            long: s.long,
-            at: s.at,
-            reads: 0,
-        };
+        return State { reads: 0, ..s };
     }
     let a = answer_lines(&input[0..end], s.long, out, s.at);
-    let k = lines::keep(input, a.from, end, a.long);
+    let k = line_buffers::keep(input, a.from, end, a.long);
     State {
         kept: k.count,
         long: k.long,

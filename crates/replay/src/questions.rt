@@ -3,8 +3,8 @@ ghost use Prim.Native.Nat.{_≤_, max};
 ghost use lib.ListN.{length};
 use crate::calendar;
 use crate::text;
-use lines::put_decimal;
-use question_words::read_numbers;
+use line_buffers::put_decimal;
+use line_questions::read_numbers;
 
 // The numbers of an answer; none where the question is unknown or malformed.
 pub enum Values {
@@ -16,26 +16,26 @@ pub enum Values {
 pub fn unknown(out: &mut [u8], at: usize) -> usize
     ensures { λ r. ⌜ r ≤ max at (length (now (out .entry))) ⌝ }
 {
-    lines::put_byte(out, at, b'?')
+    line_buffers::put_byte(b'?', out, at)
 }
 
-// A number behind a separator.
-pub fn put_after(out: &mut [u8], at: usize, separator: u8, value: i64) -> usize
+// A number after a separator.
+pub fn put_after(separator: u8, value: i64, out: &mut [u8], at: usize) -> usize
     ensures { λ r. ⌜ r ≤ max at (length (now (out .entry))) ⌝ }
 {
-    let next = lines::put_byte(out, at, separator);
-    put_decimal(out, next, value)
+    let next = line_buffers::put_byte(separator, out, at);
+    put_decimal(value, out, next)
 }
 
-fn put_values(out: &mut [u8], at: usize, values: Values) -> usize
+fn put_values(values: Values, out: &mut [u8], at: usize) -> usize
     ensures { λ r. ⌜ r ≤ max at (length (now (out .entry))) ⌝ }
 {
     match values {
-        Values::One(a) => put_decimal(out, at, a),
+        Values::One(a) => put_decimal(a, out, at),
         Values::Three(a, b, c) => {
-            let first = put_decimal(out, at, a);
-            let second = put_after(out, first, b' ', b);
-            put_after(out, second, b' ', c)
+            let first = put_decimal(a, out, at);
+            let second = put_after(b' ', b, out, first);
+            put_after(b' ', c, out, second)
         }
         Values::None => unknown(out, at),
     }
@@ -59,10 +59,10 @@ fn values_of(name: &[u8], line: &[u8], end: usize) -> Values {
 pub fn answer(line: &[u8], out: &mut [u8], at: usize) -> usize
     ensures { λ r. ⌜ r ≤ max at (length (now (out .entry))) ⌝ }
 {
-    let end = lines::find(line, 0, b' ');
+    let end = line_buffers::find(line, 0, b' ');
     let name = &line[0..end];
     if check::same(name, b"parse") {
         return text::parse(line, end, out, at);
     }
-    put_values(out, at, values_of(name, line, end))
+    put_values(values_of(name, line, end), out, at)
 }

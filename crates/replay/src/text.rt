@@ -4,11 +4,11 @@ ghost use lib.ListN.{length};
 use crate::questions::Values;
 use crate::questions::put_after;
 use crate::questions::unknown;
-use lines::put_decimal;
-use question_words::read_bytes;
-use question_words::read_place;
-use template::NODES;
-use template::Node;
+use line_buffers::put_decimal;
+use line_questions::read_bytes;
+use line_questions::read_place;
+use template_nodes::NODES;
+use template_nodes::Node;
 
 // The most bytes of a text, and those of a template.
 const TEXT: usize = 512;
@@ -26,7 +26,7 @@ pub fn strtol(line: &[u8], from: usize) -> Values {
         return Values::None;
     }
     let count = bytes.count;
-    let n = strtol::c_strtol(&text[0..count], start.at);
+    let n = base_strtol::c_strtol(&text[0..count], start.at);
     Values::Three(n.value, n.end as i64, n.overflow as i64)
 }
 
@@ -41,7 +41,7 @@ pub fn mblen(line: &[u8], from: usize) -> Values {
         return Values::None;
     }
     let count = bytes.count;
-    Values::One(chars::pg_mblen(&text[0..count], place.at) as i64)
+    Values::One(base_chars::pg_mblen(&text[0..count], place.at) as i64)
 }
 
 pub fn utf8(line: &[u8], from: usize) -> Values {
@@ -51,41 +51,41 @@ pub fn utf8(line: &[u8], from: usize) -> Values {
         return Values::None;
     }
     let count = bytes.count;
-    Values::One(chars::is_utf8(&text[0..count]) as i64)
+    Values::One(base_chars::is_utf8(&text[0..count]) as i64)
 }
 
-fn put_fields(out: &mut [u8], at: usize, node: Node) -> usize
+fn put_fields(node: Node, out: &mut [u8], at: usize) -> usize
     ensures { λ r. ⌜ r ≤ max at (length (now (out .entry))) ⌝ }
 {
-    let start = put_after(out, at, b':', node.start as i64);
-    let len = put_after(out, start, b':', node.len as i64);
-    let pattern = put_after(out, len, b':', node.pattern as i64);
-    put_after(out, pattern, b':', node.suffix as i64)
+    let start = put_after(b':', node.start as i64, out, at);
+    let len = put_after(b':', node.len as i64, out, start);
+    let pattern = put_after(b':', node.pattern as i64, out, len);
+    put_after(b':', node.suffix as i64, out, pattern)
 }
 
 // A node, and a space before it unless it is the first.
-fn put_node(out: &mut [u8], at: usize, first: bool, node: Node) -> usize
+fn put_node(first: bool, node: Node, out: &mut [u8], at: usize) -> usize
     ensures { λ r. ⌜ r ≤ max at (length (now (out .entry))) ⌝ }
 {
     let kind = node.kind as i64;
     if first {
-        let next = put_decimal(out, at, kind);
-        return put_fields(out, next, node);
+        let next = put_decimal(kind, out, at);
+        return put_fields(node, out, next);
     }
-    let next = put_after(out, at, b' ', kind);
-    put_fields(out, next, node)
+    let next = put_after(b' ', kind, out, at);
+    put_fields(node, out, next)
 }
 
-fn put_nodes(out: &mut [u8], at: usize, t: &[u8]) -> usize
+fn put_nodes(t: &[u8], out: &mut [u8], at: usize) -> usize
     requires { ⌜ length (now t) ≤ 256 ⌝ }
     ensures { λ r. ⌜ r ≤ max at (length (now (out .entry))) ⌝ }
 {
     let mut nodes = [0u8; NODES];
-    let count = template::parse_format(t, &mut nodes);
+    let count = template_nodes::parse_format(t, &mut nodes);
     let mut next = at;
     let mut i: usize = 0;
     while i < count {
-        next = put_node(out, next, i == 0, template::node_at(&nodes, i));
+        next = put_node(i == 0, template_nodes::node_at(&nodes, i), out, next);
         i += 1;
     }
     next
@@ -103,5 +103,5 @@ pub fn parse(line: &[u8], from: usize, out: &mut [u8], at: usize) -> usize
     if TEMPLATE < count {
         return unknown(out, at);
     }
-    put_nodes(out, at, &text[0..count])
+    put_nodes(&text[0..count], out, at)
 }

@@ -1,4 +1,6 @@
--- What compiling answers, by its tests. Assumes nothing.
+-- What compiling answers, by its tests.
+-- `long`: -1 for a template over its limit. `ill-formed`: -2 for one that is not UTF-8.
+-- `parsed`: else the bytes of its nodes, as `parse_format` stored them. Assumes nothing.
 use mathlib.Core.Path.{_≡_, refl}
 use mathlib.Core.Bool.{true, false}
 use mathlib.Core.List.{List}
@@ -10,10 +12,10 @@ use lib.ListN.{length}
 use mir.Facts.{toZ-pos}
 use mir.Syntax.{w64}
 use mir.Val.{toZ}
-use Rattle.chars.specs.Utf8.{wellFormed}
-use Rattle.template.proofs.Encoding.{encoded-length}
-use Rattle.template.specs.Bytes.{Parsed}
-use Rattle.template.specs.Template.{nodesOf}
+use Rattle.base_chars.specs.Utf8.{wellFormed}
+use Rattle.template_nodes.proofs.Encoding.{encoded-length}
+use Rattle.template_nodes.specs.Bytes.{Parsed}
+use Rattle.template_nodes.specs.Template.{nodesOf}
 use Rattle.sorbilgan.specs.Compiled.{CompiledTo, compiledTo}
 
 module _ (t before : List ℕ) where

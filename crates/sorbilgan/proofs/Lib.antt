@@ -1,3 +1,7 @@
+-- Laws of the exported functions.
+-- a compiled template answers as the template itself
 pub mod Once
+-- what compiling answers, case by case
 mod Compiling
+-- seven numbers that are passed as i32 are those of the moment
 mod Passed

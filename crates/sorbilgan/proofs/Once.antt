@@ -1,20 +1,22 @@
--- What is read and written by a compiled template is what the template gives. Assumes nothing.
+-- A template that is compiled once.
+-- `compile-once`: what is read and written by a compiled template is what the template gives each time, since the nodes
+-- read from the bytes are those that were put there. Assumes nothing.
 use mathlib.Core.Path.{_≡_, _∙_, ap}
 use mathlib.Core.List.{List}
 use Prim.Native.Nat.{ℕ, _≤_}
 use native.Mathlib.Omega.{arith}
 use borrow.Author.Tests.{le-ltb}
 use lib.ListN.{length}
-use Rattle.instants.specs.Instant.{dateOf, dayBy, instantBy, timestampOf}
-use Rattle.parts.specs.Parts.{partsBy, partsOf}
-use Rattle.parts.proofs.Limits.{by-nodes}
-use Rattle.template.specs.Bytes.{nodesIn}
-use Rattle.template.specs.Template.{nodesOf}
-use Rattle.template.specs.declared.Node.{Node}
-use Rattle.template.proofs.Encoding.{encoded-length, nodes-back}
-use Rattle.template.proofs.Nodes.{count-within}
-use Rattle.writer.specs.Text.{textOf}
-use Rattle.writer.specs.Writer.{writtenIn, writtenTo}
+use Rattle.moment_instants.specs.ByTemplate.{dateOf, dayBy, instantBy, timestampOf}
+use Rattle.moment_parts.specs.Parts.{partsBy, partsOf}
+use Rattle.moment_parts.proofs.Limits.{by-nodes}
+use Rattle.template_nodes.specs.Bytes.{nodesIn}
+use Rattle.template_nodes.specs.Template.{nodesOf}
+use Rattle.template_nodes.specs.declared.Node.{Node}
+use Rattle.template_nodes.proofs.Encoding.{encoded-length, nodes-back}
+use Rattle.template_nodes.proofs.Nodes.{count-within}
+use Rattle.write_text.specs.Text.{textOf}
+use Rattle.write_text.specs.Writer.{writtenIn, writtenTo}
 use Rattle.sorbilgan.specs.Compiled.{compiled}
 use Rattle.sorbilgan.specs.Once.{CompileOnce}
 

@@ -1,4 +1,5 @@
--- A moment's numbers as they are passed. Assumes nothing.
+-- A moment's numbers as they are passed.
+-- `moment-passed`: each fits 32 bits, so the moment of what is passed is the moment. Assumes nothing.
 use mathlib.Core.Path.{_≡_}
 use lib.IntN.{ℤ}
 use mir.Facts.{toZ-ofZ}

@@ -6,16 +6,13 @@ use Prim.Native.Nat.{ℕ}
 use lib.Dec.{ltb}
 use lib.IntN.{ℤ, pos, negsuc}
 use lib.ListN.{length, drop}
-use Rattle.notation.specs.Choice.{if_then_else_}
-use Rattle.notation.specs.Text.{utf8}
-use Rattle.chars.specs.Character.{charLength, lead}
-use Rattle.chars.specs.Class.{classOf}
-use Rattle.chars.specs.Utf8.{sequence, wellFormed, wellFormedAfter}
-use Rattle.parts.specs.Parts.{templateLimit}
-use Rattle.patterns.specs.Affixes.{bitAt}
-use Rattle.patterns.specs.Search.{patternAt}
-use Rattle.template.specs.Bytes.{encoded}
-use Rattle.template.specs.Template.{action, charPlace, kindOf, literalAt, nodesFrom, nodesOf, plainAt, stepAt}
+use Rattle.base_notation.specs.Choice.{if_then_else_}
+use Rattle.base_notation.specs.Text.{utf8}
+use Rattle.base_chars.specs.Utf8.{sequence, wellFormed, wellFormedAfter}
+use Rattle.moment_parts.specs.Parts.{templateLimit}
+use Rattle.template_nodes.specs.Examples.{nodes-compute}
+use Rattle.template_nodes.specs.Bytes.{encoded}
+use Rattle.template_nodes.specs.Template.{action, nodesOf}
 
 -- the bytes of a template's nodes
 abbrev pub compiled : List ℕ → List ℕ
@@ -28,7 +25,7 @@ compiledTo t =
     else if not (wellFormed t) then negsuc 1
     else pos (length (compiled t))
 
--- the bytes in front and every byte behind them as it was; refused: the buffer as it was
+-- the bytes in front and every byte after them as it was; refused: the buffer as it was
 abbrev pub nodesAfter : ℤ → List ℕ → List ℕ → List ℕ
 nodesAfter (pos n) nodes before = nodes ++ drop n before
 nodesAfter (negsuc n) nodes before = before
@@ -44,5 +41,5 @@ pub worked
     × (compiledTo (utf8 "DD") ≡ pos 6)
     × (compiledTo [] ≡ pos 0)
     × (compiledTo (0xff ∷ []) ≡ negsuc 1)
-unfolding compiledTo encoded nodesOf nodesFrom stepAt plainAt charPlace literalAt patternAt bitAt charLength lead kindOf classOf wellFormedAfter sequence
+unfolding compiledTo encoded nodes-compute wellFormedAfter sequence
 worked = (refl, refl, refl, refl)

@@ -1,5 +1,9 @@
 -- The exported functions.
+-- what compiling answers, and the buffer after it
 pub mod Compiled
+-- a pattern's name in five bytes
 pub mod Name
+-- the record of a write, and the text's buffer after it
 pub mod Writing
+-- the promise that a compiled template answers as the template itself
 pub mod Once

@@ -4,13 +4,13 @@ use mathlib.Core.Bool.{true}
 use mathlib.Core.List.{List}
 use Prim.Native.Nat.{ℕ, _≤_}
 use lib.ListN.{length}
-use Rattle.chars.specs.Utf8.{wellFormed}
-use Rattle.instants.specs.Instant.{dateOf, dayBy, instantBy, timestampOf}
-use Rattle.parts.specs.Parts.{partsBy, partsOf, templateLimit}
-use Rattle.template.specs.Bytes.{nodesIn}
-use Rattle.writer.specs.Text.{textOf}
-use Rattle.writer.specs.Writer.{textIn, writtenIn, writtenTo}
-use Rattle.pieces.specs.declared.Moment.{Moment}
+use Rattle.base_chars.specs.Utf8.{wellFormed}
+use Rattle.moment_instants.specs.ByTemplate.{dateOf, dayBy, instantBy, timestampOf}
+use Rattle.moment_parts.specs.Parts.{partsBy, partsOf, templateLimit}
+use Rattle.template_nodes.specs.Bytes.{nodesIn}
+use Rattle.write_text.specs.Text.{textOf}
+use Rattle.write_text.specs.Writer.{textIn, writtenIn, writtenTo}
+use Rattle.write_pieces.specs.declared.Moment.{Moment}
 use Rattle.sorbilgan.specs.Compiled.{compiled}
 
 -- the answers to every input, moment and buffer

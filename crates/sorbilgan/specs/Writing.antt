@@ -1,17 +1,17 @@
--- Writing into a lent buffer: the record that tells the answer, and the buffer after it.
+-- Writing into a lent buffer: the record of the answer, and the buffer after it.
 use mathlib.Core.Path.{_≡_, refl}
 use mathlib.Core.List.{List, [], _∷_}
 use Prim.Native.Nat.{ℕ}
 use lib.IntN.{ℤ, pos}
 use lib.ListN.{length}
-use Rattle.writer.specs.Report.{unwrittenReport}
-use Rattle.writer.specs.Text.{textOf}
-use Rattle.writer.specs.Writer.{bufferAfter, textIn, writtenIn, writtenTo}
-use Rattle.pieces.specs.declared.Moment.{Moment}
-use Rattle.writer.specs.declared.Unwritten.the-variants.{NoRoom}
-use Rattle.writer.specs.declared.Written.{Written}
-use Rattle.writer.specs.declared.Written.the-variants.{Length, Refused}
-use Rattle.records.specs.Words.{Told, accepted, valueWords}
+use Rattle.write_text.specs.Report.{unwrittenReport}
+use Rattle.write_text.specs.Text.{textOf}
+use Rattle.write_text.specs.Writer.{bufferAfter, textIn, writtenIn, writtenTo}
+use Rattle.write_pieces.specs.declared.Moment.{Moment}
+use Rattle.write_text.specs.declared.Unwritten.the-variants.{NoRoom}
+use Rattle.write_text.specs.declared.Written.{Written}
+use Rattle.write_text.specs.declared.Written.the-variants.{Length, Refused}
+use Rattle.sorbilgan_records.specs.Records.{Recorded, accepted, valueRecord}
 
 -- seven numbers as a moment
 abbrev pub moment : ℤ → ℤ → ℤ → ℤ → ℤ → ℤ → ℤ → Moment
@@ -19,25 +19,25 @@ moment year month day hour minute second micros =
     record { year = year; month = month; day = day; hour = hour; minute = minute; second = second; micros = micros }
 
 -- the value is the length of the text
-unfoldable pub writtenWords : Written → List ℤ
-writtenWords (Length n) = valueWords accepted (pos n)
-writtenWords (Refused why) = valueWords (unwrittenReport why) (pos 0)
+unfoldable pub writtenRecord : Written → List ℤ
+writtenRecord (Length n) = valueRecord accepted (pos n)
+writtenRecord (Refused why) = valueRecord (unwrittenReport why) (pos 0)
 
--- the record and the number tell the answer w, and `after` is the buffer of the text
-pub record ToldWritten (w : Written) (text before after : List ℕ) (words : List ℤ) (r : ℕ) : Type 0 where
+-- the record and the number are those of the answer w, and `after` is the buffer of the text
+pub record RecordedWritten (w : Written) (text before after : List ℕ) (filled : List ℤ) (r : ℕ) : Type 0 where
   pub buffer : after ≡ bufferAfter w text before
-  pub told : Told (writtenWords w) words r
+  pub recorded : Recorded (writtenRecord w) filled r
 
 -- by a template, and by the nodes that the bytes c hold
-abbrev pub ToldWrite : List ℕ → Moment → List ℕ → List ℕ → List ℤ → ℕ → Type 0
-ToldWrite t m before = ToldWritten (writtenTo t m (length before)) (textOf t m) before
+abbrev pub RecordedWrite : List ℕ → Moment → List ℕ → List ℕ → List ℤ → ℕ → Type 0
+RecordedWrite t m before = RecordedWritten (writtenTo t m (length before)) (textOf t m) before
 
-abbrev pub ToldWriteBy : List ℕ → List ℕ → Moment → List ℕ → List ℕ → List ℤ → ℕ → Type 0
-ToldWriteBy c t m before = ToldWritten (writtenIn c t m (length before)) (textIn c t m) before
+abbrev pub RecordedWriteBy : List ℕ → List ℕ → Moment → List ℕ → List ℕ → List ℤ → ℕ → Type 0
+RecordedWriteBy c t m before = RecordedWritten (writtenIn c t m (length before)) (textIn c t m) before
 
 -- ten bytes written, and no room for them
 pub worked
-    : (writtenWords (Length 10) ≡ pos 0 ∷ pos 112 ∷ pos 0 ∷ pos 0 ∷ pos 10 ∷ [])
-    × (writtenWords (Refused (NoRoom 10)) ≡ pos 21 ∷ pos 112 ∷ pos 10 ∷ pos 0 ∷ pos 0 ∷ [])
-unfolding writtenWords unwrittenReport
+    : (writtenRecord (Length 10) ≡ pos 0 ∷ pos 112 ∷ pos 0 ∷ pos 0 ∷ pos 10 ∷ [])
+    × (writtenRecord (Refused (NoRoom 10)) ≡ pos 21 ∷ pos 112 ∷ pos 10 ∷ pos 0 ∷ pos 0 ∷ [])
+unfolding writtenRecord unwrittenReport
 worked = (refl, refl)

@@ -11,7 +11,8 @@ pub fn file(path: &str) -> Vec<u8> {
     fs::read(&path).unwrap_or_else(|why| panic!("{}: {why}", path.display()))
 }
 
-/// The template and what stands behind the first TAB. A line that is longer than both may be is left whole, and is then too long as a template.
+/// The template and what follows the first TAB. A line that is longer than both may be is left whole, and is then too
+/// long as a template.
 pub fn cut(line: &[u8]) -> (&[u8], &[u8]) {
     match line.iter().position(|byte| *byte == b'\t') {
         Some(at) if line.len() <= 769 => (&line[..at], &line[at + 1..]),
@@ -23,7 +24,7 @@ pub fn cut(line: &[u8]) -> (&[u8], &[u8]) {
 pub fn answer(mode: &str, line: &[u8]) -> String {
     let (template, rest) = cut(line);
     let once = match mode {
-        "parts" => shown(read(template, rest).map(words)),
+        "parts" => shown(read(template, rest).map(numbers)),
         "instants" => shown(instant(template, rest)),
         "days" => shown(date(template, rest)),
         "write" => shown(format(template, &moment(rest))),
@@ -38,7 +39,7 @@ pub fn answer(mode: &str, line: &[u8]) -> String {
 
 fn compiled(template: &Template, mode: &str, rest: &[u8]) -> String {
     match mode {
-        "parts" => shown(template.read(rest).map(words)),
+        "parts" => shown(template.read(rest).map(numbers)),
         "instants" => shown(template.instant(rest)),
         "days" => shown(template.date(rest)),
         _ => shown(template.format(&moment(rest))),
@@ -56,15 +57,15 @@ fn shown(answer: Result<impl Display, Refusal>) -> String {
     }
 }
 
-fn words(p: Parts) -> String {
+fn numbers(p: Parts) -> String {
     let offset = p.offset.map_or("none".to_string(), |seconds| seconds.to_string());
     let numbers = [p.year, p.month, p.day, p.hour, p.minute, p.second, p.micros, p.precision];
     format!("{} {offset}", numbers.map(|number| number.to_string()).join(" "))
 }
 
 /// Seven numbers with a space between two; anything else is no moment.
-pub fn moment(words: &[u8]) -> Moment {
-    let numbers: Option<Vec<i32>> = words.split(|byte| *byte == b' ').map(number).collect();
+pub fn moment(text: &[u8]) -> Moment {
+    let numbers: Option<Vec<i32>> = text.split(|byte| *byte == b' ').map(number).collect();
     match numbers.as_deref() {
         Some(&[year, month, day, hour, minute, second, micros]) => {
             Moment { year, month, day, hour, minute, second, micros }
@@ -73,8 +74,8 @@ pub fn moment(words: &[u8]) -> Moment {
     }
 }
 
-/// Behind the spaces of C, of which only a vertical tab is none of Rust's.
-fn number(word: &[u8]) -> Option<i32> {
-    let spaces = word.iter().take_while(|byte| byte.is_ascii_whitespace() || **byte == 0x0b).count();
-    str::from_utf8(&word[spaces..]).ok()?.parse().ok()
+/// After the spaces of C, of which only a vertical tab is none of Rust's.
+fn number(item: &[u8]) -> Option<i32> {
+    let spaces = item.iter().take_while(|byte| byte.is_ascii_whitespace() || **byte == 0x0b).count();
+    str::from_utf8(&item[spaces..]).ok()?.parse().ok()
 }

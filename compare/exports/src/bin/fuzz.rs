@@ -95,7 +95,7 @@ fn by_any_nodes(nodes: &[u8], template: &[u8], input: &[u8], of_text: &mut Guard
     let [number, .., length] =
         record(|out: &mut archive::Value| archive::write_by(nodes, template, &moment(input), text, out));
     assert!(number == 0 || length == 0);
-    assert!(text[length as usize..].iter().all(|byte| *byte == FILLER), "a byte behind the text is written");
+    assert!(text[length as usize..].iter().all(|byte| *byte == FILLER), "a byte after the text is written");
 }
 
 fn record<const WORDS: usize>(export: impl FnOnce(&mut [i64; WORDS]) -> u8) -> [i64; WORDS] {

@@ -1,4 +1,4 @@
--- `sorbilgan::sorbilgan_date` meets its contract. Assumes nothing.
+-- `sorbilgan::sorbilgan_date` meets its contract: `put_day` records what `to_date_text` answers. Assumes nothing.
 use borrow.Author.Needs.{needs}
 use Rattle.sorbilgan.proofs.sorbilgan_date.Statement.{statement}
 use Rattle.sorbilgan.proofs.sorbilgan_date.Tie as tie

@@ -1,4 +1,4 @@
--- `sorbilgan::sorbilgan_date_by` meets its contract. Assumes nothing.
+-- `sorbilgan::sorbilgan_date_by` meets its contract: `put_day` records what `day_by` answers. Assumes nothing.
 use borrow.Author.Needs.{needs}
 use Rattle.sorbilgan.proofs.sorbilgan_date_by.Statement.{statement}
 use Rattle.sorbilgan.proofs.sorbilgan_date_by.Tie as tie

@@ -1,4 +1,5 @@
--- `sorbilgan::sorbilgan_instant` meets its contract. Assumes nothing.
+-- `sorbilgan::sorbilgan_instant` meets its contract: `put_instant` records what `to_timestamp_text` answers.
+-- Assumes nothing.
 use borrow.Author.Needs.{needs}
 use Rattle.sorbilgan.proofs.sorbilgan_instant.Statement.{statement}
 use Rattle.sorbilgan.proofs.sorbilgan_instant.Tie as tie

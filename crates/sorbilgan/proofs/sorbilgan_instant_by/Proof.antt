@@ -1,4 +1,5 @@
--- `sorbilgan::sorbilgan_instant_by` meets its contract. Assumes nothing.
+-- `sorbilgan::sorbilgan_instant_by` meets its contract: `put_instant` records what `instant_by` answers.
+-- Assumes nothing.
 use borrow.Author.Needs.{needs}
 use Rattle.sorbilgan.proofs.sorbilgan_instant_by.Statement.{statement}
 use Rattle.sorbilgan.proofs.sorbilgan_instant_by.Tie as tie

@@ -1,4 +1,5 @@
--- `sorbilgan::sorbilgan_parts` meets its contract. Assumes nothing.
+-- `sorbilgan::sorbilgan_parts` meets its contract: `put_parts` records what `to_timestamp_parts` answers.
+-- Assumes nothing.
 use borrow.Author.Needs.{needs}
 use Rattle.sorbilgan.proofs.sorbilgan_parts.Statement.{statement}
 use Rattle.sorbilgan.proofs.sorbilgan_parts.Tie as tie

@@ -1,4 +1,4 @@
--- `sorbilgan::sorbilgan_parts_by` meets its contract. Assumes nothing.
+-- `sorbilgan::sorbilgan_parts_by` meets its contract: `put_parts` records what `parts_by` answers. Assumes nothing.
 use borrow.Author.Needs.{needs}
 use Rattle.sorbilgan.proofs.sorbilgan_parts_by.Statement.{statement}
 use Rattle.sorbilgan.proofs.sorbilgan_parts_by.Tie as tie

@@ -1,6 +1,6 @@
 -- `replay::calendar::wide` is safe: 64 bits hold every number of 32. Assumes nothing.
 use borrow.Author.Needs.{needs}
-use Rattle.gregorian.proofs.Signed.{wide-fits}
+use Rattle.calendar_gregorian.proofs.Signed.{wide-fits}
 use Rattle.replay.proofs.calendar.wide.Statement.{statement}
 use Rattle.replay.proofs.calendar.wide.Tie as tie
 

@@ -1,4 +1,5 @@
--- `replay::text::put_nodes` is safe, ends and stays within the buffer. Assumes nothing.
+-- `replay::text::put_nodes` is safe, ends and stays within the buffer: each turn puts one of the nodes that were
+-- parsed. Assumes nothing.
 use mathlib.Core.Path.{_≡_}
 use Prim.Native.Nat.{_-_, _≤_, max}
 use native.Mathlib.Omega.{arith}
@@ -8,10 +9,10 @@ use Rattle.replay.proofs.text.put_nodes.Statement.{statement}
 use Rattle.replay.proofs.text.put_nodes.Tie as tie
 
 abbrev Inv-loop : tie.InvT-loop
-Inv-loop out₀ at t nodes count next₀ i₀ out next i = (i ≤ count) × (length out ≡ length out₀) × (next ≤ max at (length out₀))
+Inv-loop t out₀ at nodes count next₀ i₀ out next i = (i ≤ count) × (length out ≡ length out₀) × (next ≤ max at (length out₀))
 
 abbrev μ-loop : tie.MeasureT-loop
-μ-loop out₀ at t nodes count next₀ i₀ out next i = count - i
+μ-loop t out₀ at nodes count next₀ i₀ out next i = count - i
 
 pub put-nodes-spec : {M : Type 1} → statement M
 put-nodes-spec =

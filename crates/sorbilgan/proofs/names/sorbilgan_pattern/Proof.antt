@@ -1,10 +1,11 @@
--- `sorbilgan::names::sorbilgan_pattern` meets its contract. Assumes nothing.
+-- `sorbilgan::names::sorbilgan_pattern` meets its contract: it stores the five letters that `letter` gives, and past
+-- the table there is no name. Assumes nothing.
 use mathlib.Core.Path.{_≡_, ap}
 use mathlib.Core.List.{[], _∷_}
 use Prim.Native.Nat.{ℕ, _≤_}
 use borrow.Author.Needs.{needs}
 use lib.ListN.{List·getD-eq-default}
-use Rattle.patterns.specs.Patterns.{Pattern, nameOf, patterns}
+use Rattle.template_patterns.specs.Patterns.{Pattern, nameOf, patterns}
 use Rattle.sorbilgan.proofs.names.sorbilgan_pattern.Statement.{statement}
 use Rattle.sorbilgan.proofs.names.sorbilgan_pattern.Tie as tie
 
@@ -12,19 +13,29 @@ use Rattle.sorbilgan.proofs.names.sorbilgan_pattern.Tie as tie
 none-past : (k : ℕ) → 112 ≤ k → nameOf k ≡ []
 none-past k h = ap (λ (p : Pattern). p .name) (List·getD-eq-default patterns _ h)
 
+-- past the table
 returns : tie.Need-returns
-returns c = let e = none-past (c .before .before .args .place) (c .before .if1 .taken) in record { is = rw e; name = rw e }
+returns c =
+    let no-name = none-past (c .before .before .args .number) (c .before .if1 .taken) in
+    record { is = rw no-name; name = rw no-name }
 
+-- a pattern of the table
 returns-2 : tie.Need-returns-2
 returns-2 c =
-    let five = c .before .before .before in
-    let four = five .before .before in
-    let three = four .before .before in
-    let two = three .before .before in
-    let one = two .before .before in
+    let at-fifth = c .before .before .before in
+    let at-fourth = at-fifth .before .before in
+    let at-third = at-fourth .before .before in
+    let at-second = at-third .before .before in
+    let at-first = at-second .before .before in
     record {
       is = c .name-length .ensures;
-      name = λ i. one .letter .ensures i ∷ two .letter2 .ensures i ∷ three .letter3 .ensures i ∷ four .letter4 .ensures i ∷ five .letter5 .ensures i ∷ [];
+      name = λ i.
+          at-first .letter .ensures i
+          ∷ at-second .letter2 .ensures i
+          ∷ at-third .letter3 .ensures i
+          ∷ at-fourth .letter4 .ensures i
+          ∷ at-fifth .letter5 .ensures i
+          ∷ [];
     }
 
 pub sorbilgan-pattern-spec : {M : Type 1} → statement M

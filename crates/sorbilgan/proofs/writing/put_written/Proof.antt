@@ -1,29 +1,33 @@
--- `sorbilgan::writing::put_written` meets its contract. Assumes nothing.
+-- `sorbilgan::writing::put_written` meets its contract: in each case `put_value` stores that case's record, and a
+-- length within 63 bits keeps its value as an i64. Assumes nothing.
+use mathlib.Core.Path.{refl, ap}
 use Prim.Native.Nat.{_<_, _^_}
 use native.Mathlib.Omega.{arith}
 use borrow.Author.Needs.{needs}
 use mir.Facts.{toZ-pos}
 use mir.Syntax.{w64}
-use Rattle.sorbilgan.specs.Writing.{writtenWords}
+use Rattle.sorbilgan_records.proofs.Values.{value-recorded}
+use Rattle.sorbilgan.specs.Writing.{writtenRecord}
 use Rattle.sorbilgan.proofs.writing.put_written.Statement.{statement}
 use Rattle.sorbilgan.proofs.writing.put_written.Tie as tie
 
 length-fits : (c : tie.After-w) → c .w .given .0 .0 < 2 ^ 63
 length-fits c = c .before .before .pre _ (c .w .given .1)
 
+-- a text was written
 returns : tie.Need-returns
-unfolding writtenWords
+unfolding writtenRecord
 returns c =
-    let a = c .before .before in
-    let k = a .before .before in
-    let p = rw (a .alone .ensures, toZ-pos w64 (length-fits k)) at (c .put-value .ensures) in
-    rw (k .w .given .1) p
+    let after-alone = c .before .before in
+    let at-length = after-alone .before .before in
+    value-recorded (after-alone .alone .ensures) (toZ-pos w64 (length-fits at-length)) (ap writtenRecord (at-length .w .given .1)) (c .put-value .ensures)
 
+-- a refusal
 returns-2 : tie.Need-returns-2
-unfolding writtenWords
+unfolding writtenRecord
 returns-2 c =
-    let r = c .before .before in
-    rw (r .before .before .w2 .given .1) (rw (r .report-of .ensures) at (c .put-value2 .ensures))
+    let after-report = c .before .before in
+    value-recorded (after-report .report-of .ensures) refl (ap writtenRecord (after-report .before .before .w2 .given .1)) (c .put-value2 .ensures)
 
 pub put-written-spec : {M : Type 1} → statement M
 put-written-spec =

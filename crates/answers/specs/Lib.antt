@@ -1,2 +1,0 @@
--- What a refusal reports.
-pub mod Report

@@ -1,0 +1,16 @@
+-- a byte in a range: the test and the comparisons
+pub mod Ranges
+-- the class of a byte by comparisons
+pub mod Classes
+-- sets of numbers below 128, given by bits
+pub mod Sets
+-- the length of a character: 1 to 4, within the text
+pub mod Characters
+-- the row of Unicode's table that a first byte picks
+pub mod Rows
+-- several bytes in one range, tested at once
+pub mod Runs
+-- the sequence that a list begins with: its length, and what follows it
+pub mod Sequences
+-- well-formed texts: taken apart, joined, and walked from character to character
+pub mod WellFormed

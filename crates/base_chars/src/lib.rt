@@ -1,0 +1,219 @@
+// Bytes and characters of a text in UTF-8.
+ghost use mathlib.Core.List.{[], _∷_};
+ghost use mathlib.Core.Path.{_≡_};
+ghost use mathlib.Core.Bool.{_||_};
+ghost use Prim.Native.Nat.{_+_, _<_, _≤_};
+ghost use lib.ListN.{length, drop, replicate};
+ghost use Rattle.base_notation.specs.Choice.{if_then_else_};
+ghost use Rattle.base_notation.specs.Text.{byteAt};
+ghost use Rattle.base_chars.specs.Character.{lead, Measured};
+ghost use Rattle.base_chars.specs.Class.{isSpace, isDigit, isLetter, isSeparator};
+ghost use Rattle.base_chars.specs.Range.{_‥_};
+ghost use Rattle.base_chars.specs.Sets.{inSet};
+ghost use Rattle.base_chars.specs.Utf8.{begins, sequence, wellFormed, Passed};
+
+// C's isspace in the C locale.
+pub fn is_space_c(b: u8) -> bool
+    ensures { λ r. ⌜ r ≡ isSpace b ⌝ }
+{
+    b == b' ' || (9 <= b && b <= 13)
+}
+
+// An ASCII digit.
+pub fn is_digit_c(b: u8) -> bool
+    ensures { λ r. ⌜ r ≡ isDigit b ⌝ }
+{
+    b'0' <= b && b <= b'9'
+}
+
+// An ASCII letter.
+pub fn is_alpha_c(b: u8) -> bool
+    ensures { λ r. ⌜ r ≡ isLetter b ⌝ }
+{
+    if b < b'a' {
+        b'A' <= b && b <= b'Z'
+    } else {
+        b <= b'z'
+    }
+}
+
+// Printable ASCII that is no space, letter or digit.
+pub fn is_separator_char(b: u8) -> bool
+    ensures { λ r. ⌜ r ≡ isSeparator b ⌝ }
+{
+    if b <= b' ' {
+        return false;
+    }
+    if 0x7f <= b {
+        return false;
+    }
+    !is_alpha_c(b) && !is_digit_c(b)
+}
+
+// Whether k is in a set of numbers below 128, which is given by the bits of two 64-bit numbers.
+pub fn in_set(low: u64, high: u64, k: u8) -> bool
+    ensures { λ r. ⌜ r ≡ inSet low high k ⌝ }
+{
+    if k < 64 {
+        return (low >> k) % 2 == 1;
+    }
+    if k < 128 {
+        return (high >> (k - 64)) % 2 == 1;
+    }
+    false
+}
+
+// A space or a separator.
+pub fn is_blank(b: u8) -> bool
+    ensures { λ r. ⌜ r ≡ (isSpace b || isSeparator b) ⌝ }
+{
+    in_set(0xfc00ffff00003e00, 0x78000001f8000001, b)
+}
+
+// The byte at a place, 0 past the end.
+pub fn byte_at(t: &[u8], at: usize) -> u8
+    ensures { λ r. ⌜ r ≡ byteAt (now (t .entry)) at ⌝ }
+{
+    if at < t.len() { t[at] } else { 0 }
+}
+
+// The length of a character by its first byte.
+fn lead_of(b: u8) -> usize
+    ensures { λ r. ⌜ r ≡ lead b ⌝ }
+{
+    if b < 0xc0 {
+        return 1;
+    }
+    if b < 0xe0 {
+        return 2;
+    }
+    if b < 0xf0 {
+        return 3;
+    }
+    if b < 0xf8 { 4 } else { 1 }
+}
+
+// PostgreSQL's pg_utf_mblen of the character at `s[i]`, cut at the end of `s`. Past the end it is 0.
+pub fn pg_mblen(s: &[u8], i: usize) -> usize
+    ensures { λ r. ⌜ Measured (now (s .entry)) i r ⌝ }
+{
+    if s.len() <= i {
+        return 0;
+    }
+    let n = lead_of(s[i]);
+    let left = s.len() - i;
+    if n <= left { n } else { left }
+}
+
+// Whether there is a byte from `lo` to `hi` at a place.
+fn in_range(s: &[u8], at: usize, lo: u8, hi: u8) -> bool
+    ensures { λ r. ⌜ r ≡ begins (lo ‥ hi ∷ []) (drop at (now (s .entry))) ⌝ }
+{
+    if s.len() <= at {
+        return false;
+    }
+    let b = s[at];
+    lo <= b && b <= hi
+}
+
+// The length of a sequence of two bytes whose first is at a place: 0 unless a continuation follows.
+fn two(s: &[u8], at: usize) -> usize
+    requires { ⌜ at < length (now s) ⌝ }
+    ensures { λ r. ⌜ r ≡ (if begins (0x80 ‥ 0xbf ∷ []) (drop (at + 1) (now (s .entry))) then 2 else 0) ⌝ }
+{
+    if in_range(s, at + 1, 0x80, 0xbf) {
+        2
+    } else {
+        0
+    }
+}
+
+// The same for three bytes, the second from `lo` to `hi`.
+fn three(s: &[u8], at: usize, lo: u8, hi: u8) -> usize
+    requires { ⌜ at < length (now s) ⌝ }
+    ensures { λ r. ⌜ r ≡ (if begins (lo ‥ hi ∷ 0x80 ‥ 0xbf ∷ []) (drop (at + 1) (now (s .entry))) then 3 else 0) ⌝ }
+{
+    if in_range(s, at + 1, lo, hi) {
+        if in_range(s, at + 2, 0x80, 0xbf) {
+            return 3;
+        }
+    }
+    0
+}
+
+// The same for four bytes.
+fn four(s: &[u8], at: usize, lo: u8, hi: u8) -> usize
+    requires { ⌜ at < length (now s) ⌝ }
+    ensures { λ r. ⌜ r ≡ (if begins (lo ‥ hi ∷ 0x80 ‥ 0xbf ∷ 0x80 ‥ 0xbf ∷ []) (drop (at + 1) (now (s .entry))) then 4 else 0) ⌝ }
+{
+    if in_range(s, at + 1, lo, hi) {
+        if in_range(s, at + 2, 0x80, 0xbf) {
+            if in_range(s, at + 3, 0x80, 0xbf) {
+                return 4;
+            }
+        }
+    }
+    0
+}
+
+// The length of the sequence at a place, 0 where none begins. The arms are the rows of Unicode's table.
+fn sequence_at(s: &[u8], at: usize) -> usize
+    requires { ⌜ at < length (now s) ⌝ }
+    ensures { λ r. ⌜ r ≡ sequence (drop at (now (s .entry))) ⌝ }
+{
+    match s[at] {
+        0x00..=0x7f => 1,
+        0xc2..=0xdf => two(s, at),
+        0xe0 => three(s, at, 0xa0, 0xbf),
+        0xe1..=0xec => three(s, at, 0x80, 0xbf),
+        0xed => three(s, at, 0x80, 0x9f),
+        0xee..=0xef => three(s, at, 0x80, 0xbf),
+        0xf0 => four(s, at, 0x90, 0xbf),
+        0xf1..=0xf3 => four(s, at, 0x80, 0xbf),
+        0xf4 => four(s, at, 0x80, 0x8f),
+        _ => 0,
+    }
+}
+
+// Whether the eight bytes from a place on are all ASCII.
+fn eight_ascii(s: &[u8], at: usize) -> bool
+    requires { ⌜ at + 8 ≤ length (now s) ⌝ }
+    ensures { λ r. ⌜ r ≡ begins (replicate 8 (0x00 ‥ 0x7f)) (drop at (now (s .entry))) ⌝ }
+{
+    let high = s[at + 4] | (s[at + 5] | (s[at + 6] | s[at + 7]));
+    (s[at] | (s[at + 1] | (s[at + 2] | (s[at + 3] | high)))) < 0x80
+}
+
+// The place after the blocks of eight ASCII bytes in front.
+fn ascii_blocks(s: &[u8]) -> usize
+    ensures { λ r. ⌜ Passed (now (s .entry)) r ⌝ }
+{
+    let mut i = 0;
+    while 8 <= s.len() - i {
+        if eight_ascii(s, i) {
+            i += 8;
+        } else {
+            return i;
+        }
+    }
+    i
+}
+
+// Whether `s` is well-formed UTF-8, as a Rust `str` is: no overlong form, no surrogate, nothing above U+10FFFF.
+pub fn is_utf8(s: &[u8]) -> bool
+    ensures { λ r. ⌜ r ≡ wellFormed (now (s .entry)) ⌝ }
+{
+    let mut i = ascii_blocks(s);
+    while i < s.len() {
+        if s[i] < 0x80 {
+            i += 1;
+        } else {
+            let n = sequence_at(s, i);
+            if n == 0 {
+                return false;
+            }
+            i += n;
+        }
+    }
+    true
+}

@@ -1,2 +1,0 @@
--- Laws of offsets.
-pub mod Offsets

@@ -1,2 +1,0 @@
--- The time of day and the offset.
-pub mod Time

@@ -1,4 +1,0 @@
--- Laws of dates.
-pub mod Held
-pub mod Bits
-pub mod Marks

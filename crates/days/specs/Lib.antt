@@ -1,2 +1,0 @@
--- The date that fields make.
-pub mod Dates

@@ -1,5 +1,0 @@
-mod Order
-mod Range
-pub mod Seconds
-mod Rounding
-pub mod Plain

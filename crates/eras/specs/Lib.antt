@@ -1,2 +1,0 @@
--- The year that fields make.
-pub mod Year

@@ -1,4 +1,0 @@
--- Laws of fields.
-pub mod Setting
-pub mod Ranges
-pub mod Numbers

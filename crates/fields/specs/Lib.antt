@@ -1,4 +1,0 @@
--- Fields of the input.
-pub mod Number
-pub mod Suffix
-pub mod Setting

@@ -1,4 +1,0 @@
--- The calendar, plainly.
-pub mod Gregorian
-pub mod IsoWeek
-pub mod Civil

@@ -1,2 +1,0 @@
--- What the groups of a full template set.
-pub mod Values

@@ -1,1 +1,0 @@
-// What the groups of a full template make of a moment: laws alone.

@@ -1,2 +1,0 @@
--- Instants and dates.
-pub mod Instant

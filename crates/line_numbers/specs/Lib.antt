@@ -1,0 +1,3 @@
+-- The items of a line.
+-- numbers of 64 and of 32 bits, and bytes in hexadecimal digits
+pub mod Numbers

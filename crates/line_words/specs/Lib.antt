@@ -1,2 +1,0 @@
--- The words of a line.
-pub mod Words

@@ -1,4 +1,0 @@
--- Lines of text in lent buffers.
-pub mod Output
-pub mod Decimal
-pub mod Input

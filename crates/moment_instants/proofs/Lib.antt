@@ -1,0 +1,12 @@
+-- Laws of instants and days.
+
+-- the order of whole numbers: a sum is below a bound where one summand is below the bound less the other
+mod Order
+-- sums tested against the ends of the 64-bit range before they are made
+mod Range
+-- the seconds of a moment's parts, and their microseconds, fit 64 bits
+pub mod Seconds
+-- rounding half away from 2000
+mod Rounding
+-- for the years 1 to 9999 the instant and the day are the calendar's
+pub mod Plain

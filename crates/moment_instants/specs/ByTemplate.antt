@@ -1,0 +1,35 @@
+-- The instant and the day of an input by a template, as to_timestamp and to_date give them.
+use mathlib.Core.Path.{_≡_, refl}
+use mathlib.Core.List.{List}
+use Prim.Native.Nat.{ℕ}
+use Rattle.base_refusals.specs.declared.Refusal.the-variants.{FieldOverflow}
+use Rattle.moment_instants.specs.Instant.{dayOf, instantOf}
+use Rattle.moment_instants.specs.declared.epoch.Day.{Day}
+use Rattle.moment_instants.specs.declared.epoch.Day.the-variants.{Refused as NoDay}
+use Rattle.moment_instants.specs.declared.epoch.Instant.{Instant}
+use Rattle.moment_instants.specs.declared.epoch.Instant.the-variants.{Refused as NoInstant}
+use Rattle.moment_instants.specs.declared.epoch.Undated.the-variants.{Unread}
+use Rattle.moment_parts.specs.Parts.{partsOf}
+use Rattle.moment_parts.specs.declared.Answer.{Answer}
+use Rattle.moment_parts.specs.declared.Answer.the-variants.{Moment, Refused}
+
+-- the instant and the day of an answer
+abbrev pub instantBy : Answer → Instant
+instantBy (Refused why) = NoInstant (Unread why)
+instantBy (Moment p) = instantOf p
+
+abbrev pub dayBy : Answer → Day
+dayBy (Refused why) = NoDay (Unread why)
+dayBy (Moment p) = dayOf p
+
+-- the instant and the day of an input by a template
+unfoldable pub timestampOf : List ℕ → List ℕ → Instant
+timestampOf t s = instantBy (partsOf t s)
+
+unfoldable pub dateOf : List ℕ → List ℕ → Day
+dateOf t s = dayBy (partsOf t s)
+
+-- what is not read has neither, for the same cause
+pub worked
+    : (instantBy (Refused FieldOverflow) ≡ NoInstant (Unread FieldOverflow)) × (dayBy (Refused FieldOverflow) ≡ NoDay (Unread FieldOverflow))
+worked = (refl, refl)

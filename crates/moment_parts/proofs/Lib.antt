@@ -1,0 +1,6 @@
+-- Laws of the parts answer.
+
+-- every answer is a moment in range, or a refusal by its number
+pub mod Ranges
+-- the answer by its first tests: limits, and UTF-8
+pub mod Limits

@@ -1,0 +1,8 @@
+-- The parts of a moment.
+
+-- the answer to a template and an input: the parts of a moment, or a refusal
+pub mod Parts
+-- the range of each part, and the numbers of refusals
+pub mod Ranges
+-- worked examples: the table P1 to P15
+pub mod Examples

@@ -1,0 +1,144 @@
+// The parts of a moment from the fields that a template read: do_to_timestamp of PostgreSQL's formatting.c.
+ghost use mathlib.Core.Path.{_≡_};
+ghost use Prim.Native.Nat.{_≤_};
+ghost use lib.ListN.{length};
+ghost use Rattle.template_nodes.specs.Bytes.{nodesIn};
+ghost use Rattle.moment_parts.specs.Parts.{checkedMoment, momentOf, partsBy, partsOf, thenFields};
+use base_refusals::Refusal;
+use moment_date::Dated;
+use moment_date::Days;
+use moment_date::date_in_range;
+use moment_date::dated_of;
+use moment_sums::Value;
+use moment_time::Offset;
+use moment_time::Zoned;
+use moment_time::clock_hour;
+use moment_time::micros_of;
+use moment_time::minute_of;
+use moment_time::offset_of;
+use moment_time::second_of;
+use moment_time::time_in_range;
+use read_fields::Fields;
+use read_fields::Reading;
+use read_fields::Verdict;
+use read_fields::field;
+use template_nodes::NODE;
+use template_nodes::NODES;
+
+pub struct Parts {
+    pub year: i32,
+    pub month: i32,
+    pub day: i32,
+    pub hour: i32,
+    pub minute: i32,
+    pub second: i32,
+    pub micros: i32,
+    pub precision: i32,
+    pub offset: Offset,
+}
+
+pub enum Answer {
+    Moment(Parts),
+    Refused(Refusal),
+}
+
+// The moment of a date, an hour and microseconds. The checks in order: date, time, offset.
+pub fn checked_moment(f: Fields, r: Days, hour: i32, micros: i32) -> Answer
+    ensures { λ a. ⌜ a ≡ checkedMoment f r hour micros ⌝ }
+{
+    let precision = f.values[field::FF];
+    let minute = minute_of(f);
+    let second = second_of(f);
+    if !date_in_range(r) {
+        return Answer::Refused(Refusal::FieldOverflow);
+    }
+    if !time_in_range(hour, minute, second, micros) {
+        return Answer::Refused(Refusal::FieldOverflow);
+    }
+    match offset_of(f) {
+        Zoned::At(offset) => Answer::Moment(Parts {
+            year: r.year,
+            month: r.month,
+            day: r.day,
+            hour,
+            minute,
+            second,
+            micros,
+            precision,
+            offset,
+        }),
+        Zoned::Refused(why) => Answer::Refused(why),
+    }
+}
+
+// The moment that the fields make: the hour, the date and the fraction, each refused in this order.
+pub fn moment_of(f: Fields) -> Answer
+    ensures { λ a. ⌜ a ≡ momentOf f ⌝ }
+{
+    match clock_hour(f) {
+        Value::Is(hour) => match dated_of(f) {
+            Dated::Date(r) => match micros_of(f) {
+                Value::Is(micros) => checked_moment(f, r, hour, micros),
+                Value::Not(why) => Answer::Refused(why),
+            },
+            Dated::Refused(why) => Answer::Refused(why),
+        },
+        Value::Not(why) => Answer::Refused(why),
+    }
+}
+
+// The limits, in bytes.
+pub const TEMPLATE_LIMIT: usize = 256;
+
+pub const INPUT_LIMIT: usize = 512;
+
+// The answer once the fields are read.
+fn answered(r: Reading) -> Answer
+    ensures { λ a. ⌜ a ≡ thenFields (r .verdict) (r .fields) ⌝ }
+{
+    let verdict = r.verdict;
+    let fields = r.fields;
+    match verdict {
+        Verdict::Read => moment_of(fields),
+        Verdict::Refused(why) => Answer::Refused(why),
+    }
+}
+
+// The parts of an input within its limit.
+fn parts_within(c: &[u8], t: &[u8], s: &[u8]) -> Answer
+    requires { ⌜ length (now s) ≤ 512 ⌝ }
+    ensures { λ a. ⌜ a ≡ partsBy (nodesIn (now (c .entry))) (now (t .entry)) (now (s .entry)) ⌝ }
+{
+    if !base_chars::is_utf8(s) {
+        return Answer::Refused(Refusal::NotUtf8);
+    }
+    answered(read_input::dch_from_char(c, t, s))
+}
+
+// The parts of an input by the nodes that any bytes hold. t is the template that they were made from.
+pub fn parts_by(c: &[u8], t: &[u8], s: &[u8]) -> Answer
+    ensures { λ a. ⌜ a ≡ partsBy (nodesIn (now (c .entry))) (now (t .entry)) (now (s .entry)) ⌝ }
+{
+    if INPUT_LIMIT < s.len() {
+        return Answer::Refused(Refusal::TooLong);
+    }
+    parts_within(c, t, s)
+}
+
+// The parts of an input by a template.
+pub fn to_timestamp_parts(t: &[u8], s: &[u8]) -> Answer
+    ensures { λ a. ⌜ a ≡ partsOf (now (t .entry)) (now (s .entry)) ⌝ }
+{
+    if TEMPLATE_LIMIT < t.len() {
+        return Answer::Refused(Refusal::TooLong);
+    }
+    if INPUT_LIMIT < s.len() {
+        return Answer::Refused(Refusal::TooLong);
+    }
+    if !base_chars::is_utf8(t) {
+        return Answer::Refused(Refusal::NotUtf8);
+    }
+    let mut nodes = [0u8; NODES];
+    let end = NODE * template_nodes::parse_format(t, &mut nodes);
+    parts_within(&nodes[..end], t, s)
+}

@@ -1,0 +1,3 @@
+-- The year that fields make.
+-- the year, with a century and before Christ
+pub mod Year

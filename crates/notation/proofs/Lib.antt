@@ -1,4 +1,0 @@
-pub mod Bytes
-pub mod Cases
-pub mod Magnitudes
-pub mod Table

@@ -1,3 +1,0 @@
--- Notation that every crate's definitions share.
-pub mod Choice
-pub mod Text

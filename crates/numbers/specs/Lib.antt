@@ -1,2 +1,0 @@
--- Patterns that read a number.
-pub mod Numbers

@@ -1,3 +1,0 @@
--- Laws of the parts answer.
-pub mod Ranges
-pub mod Limits

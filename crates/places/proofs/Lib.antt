@@ -1,2 +1,0 @@
--- Laws of spaces and literals.
-pub mod Literals

@@ -1,2 +1,0 @@
--- Where reading stands in the input.
-pub mod Places

@@ -1,2 +1,0 @@
--- Laws of numbers that are cast.
-mod Casts

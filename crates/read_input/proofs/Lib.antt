@@ -1,0 +1,7 @@
+-- Laws of reading.
+-- a pattern by the verdict on what it read
+pub mod Verdicts
+-- without FX no more spaces are skipped than the input has bytes
+pub mod Payable
+-- the loop over the nodes
+pub mod Turns

@@ -1,0 +1,3 @@
+-- Where reading is in the input.
+-- the place after spaces, after a field and after a literal
+pub mod Literals

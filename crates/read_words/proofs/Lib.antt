@@ -1,0 +1,5 @@
+-- Laws of words.
+-- the word in a row of a table, compared byte after byte
+mod Letters
+-- the words of a list, searched in the rows of its table
+pub mod Words

@@ -1,0 +1,5 @@
+-- Words in either case, and patterns that read one.
+-- the first word of a list at a place of the input
+pub mod Spelling
+-- the number of a word, and the field that it goes into
+pub mod Words

@@ -1,4 +1,0 @@
--- Laws of reading.
-pub mod Verdicts
-pub mod Payable
-pub mod Turns

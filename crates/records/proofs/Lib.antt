@@ -1,2 +1,0 @@
--- Laws of the words that are stored.
-mod Stored

@@ -1,2 +1,0 @@
--- Answers as records.
-pub mod Words

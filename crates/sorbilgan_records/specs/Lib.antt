@@ -1,0 +1,3 @@
+-- Answers as records.
+-- the entries of the records of parts, instants and days
+pub mod Records

@@ -1,3 +1,0 @@
--- Laws of words.
-mod Spelling
-pub mod Words

@@ -1,2 +1,0 @@
--- Words in either case.
-pub mod Word

@@ -1,9 +1,0 @@
-pub mod Joined
-pub mod Leading
-pub mod Decimals
-pub mod Digits
-pub mod Negated
-pub mod Places
-pub mod FewDigits
-pub mod Signs
-pub mod Unsigned

@@ -1,3 +1,0 @@
--- What reading each pattern does.
-pub mod Fields
-pub mod Tasks

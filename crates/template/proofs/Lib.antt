@@ -1,5 +1,0 @@
--- Laws of the compiler.
-pub mod Steps
-pub mod Nodes
-pub mod Encoding
-pub mod Turns

@@ -1,0 +1,52 @@
+-- Nodes as bytes: a compiled template is lent as the bytes of its nodes, six each.
+use mathlib.Core.Path.{_≡_, refl}
+use mathlib.Core.List.{List, [], _∷_, _++_}
+use Prim.Native.Nat.{ℕ, zero, suc, _+_, _*_, _/_, _%_, _≤_}
+use lib.ListN.{length, drop}
+use Rattle.base_notation.specs.Text.{byteAt}
+use Rattle.template_nodes.specs.Template.{character, literal, pattern}
+use Rattle.template_nodes.specs.declared.Node.{Node}
+
+-- its start, the low byte first, its length, kind, pattern and suffix
+abbrev pub bytesOf : Node → List ℕ
+bytesOf n = n .start % 256 ∷ n .start / 256 ∷ n .len ∷ n .kind ∷ n .pattern ∷ n .suffix ∷ []
+
+unfoldable pub encoded : List Node → List ℕ
+encoded [] = []
+encoded (n ∷ ns) = bytesOf n ++ encoded ns
+
+-- the node of the bytes from a place on
+abbrev pub nodeFrom : List ℕ → ℕ → Node
+nodeFrom c at =
+    record {
+      start = byteAt c at + byteAt c (at + 1) * 256;
+      len = byteAt c (at + 2);
+      kind = byteAt c (at + 3);
+      pattern = byteAt c (at + 4);
+      suffix = byteAt c (at + 5);
+    }
+
+-- the bytes of the most nodes that a template has
+abbrev pub nodesLimit : ℕ
+nodesLimit = 1536
+
+-- n nodes
+unfoldable pub nodesTo : ℕ → List ℕ → List Node
+nodesTo zero c = []
+nodesTo (suc n) c = nodeFrom c 0 ∷ nodesTo n (drop 6 c)
+
+-- the nodes of any bytes; up to five bytes left over after them make none
+unfoldable pub nodesIn : List ℕ → List Node
+nodesIn c = nodesTo (length c / 6) c
+
+-- the buffer `after` has the nodes' bytes in front, and after them what it had before;
+-- r is how many nodes they are, at most 256
+pub record Parsed (ns : List Node) (before after : List ℕ) (r : ℕ) : Type 0 where
+  pub is : after ≡ encoded ns ++ drop (6 * length ns) before
+  pub count : r ≡ length ns
+  pub few : r ≤ 256
+
+-- two nodes, and five bytes over
+pub worked : nodesIn (encoded (pattern 0 4 54 1 ∷ literal character 300 2 ∷ []) ++ 7 ∷ 7 ∷ 7 ∷ 7 ∷ 7 ∷ []) ≡ pattern 0 4 54 1 ∷ literal character 300 2 ∷ []
+unfolding nodesIn nodesTo encoded
+worked = refl

@@ -1,0 +1,7 @@
+-- What a template compiles to.
+-- the nodes of a template, step by step
+pub mod Template
+-- templates and their nodes, worked out
+pub mod Examples
+-- nodes as bytes, six each
+pub mod Bytes

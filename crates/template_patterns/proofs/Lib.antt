@@ -1,0 +1,11 @@
+-- Laws of the tables.
+-- each byte of a row
+pub mod Rows
+-- the lengths and bytes of the names, and a name compared byte after byte
+pub mod Names
+-- the prefix or suffix at a place
+pub mod Affixes
+-- the search from the index's entry on finds the first pattern
+pub mod Search
+-- the sets of patterns that are read as digits or have a date mode
+pub mod Sets

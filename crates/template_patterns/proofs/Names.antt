@@ -1,0 +1,108 @@
+-- The names of the patterns, by one computed test each, and a name compared byte after byte. Assumes nothing.
+-- `name-length`: a name has 1 to 5 bytes. `name-is`: the names and the patterns have the same name at a number.
+-- `at-letter`, `at-space`: a byte of a name's row is the name's, or a space past it. `row-head`: a row's first byte.
+-- `matches-on`, `matches-not`, `matches-all`: a name is at a place if each byte is the same.
+-- `matches-by-length`: it is there exactly if `lengthAt` is not 0.
+use mathlib.Core.Path.{_≡_, refl, _∙_, sym, ap}
+use mathlib.Core.Bool.{Bool, true, false, _&&_, not}
+use mathlib.Core.List.{List, [], _∷_}
+use Prim.Native.Nat.{ℕ, _+_, _*_, _<_, _≤_}
+use native.Mathlib.Nat.{add-suc}
+use native.Mathlib.Numerals.{add-one}
+use native.Mathlib.Omega.{arith}
+use borrow.Author.Tests.{ne-eqb, eq-eqb, eqb-false, leb-true, ltb-true, ltb-false, not-true}
+use lib.Dec.{eqb, leb, ltb}
+use lib.ListN.{length, getD, drop, drop-of-length-le, List·getD-map}
+use lib.Seq.{drop-cons}
+use Rattle.base_notation.proofs.Cases.{both}
+use Rattle.base_notation.proofs.Table.{allFrom, entry}
+use Rattle.base_notation.specs.Choice.{if_then_else_}
+use Rattle.base_notation.specs.Text.{byteAt}
+use Rattle.template_patterns.specs.Patterns.{Pattern, patterns, names, nameOf, patternOf}
+use Rattle.template_patterns.specs.Rows.{filled}
+use Rattle.template_patterns.specs.Search.{matchesAt, lengthAt, nameTable}
+use Rattle.template_patterns.proofs.Rows.{row-byte, in-name, past-name}
+
+-- the name of number k, by either table
+pub name-is : (k : ℕ) → getD names k [] ≡ nameOf k
+name-is k = List·getD-map (λ (p : Pattern). p .name) patterns k _
+
+-- the two computed tests
+abbrev sized : ℕ → List ℕ → Bool
+sized k n = leb 1 (length n) && leb (length n) 5
+
+abbrev spaceless : ℕ → List ℕ → Bool
+spaceless k n = allFrom (λ (j c : ℕ). not (eqb c 32)) 0 n
+
+-- the first byte of a name
+abbrev pub head : ℕ → ℕ
+head k = byteAt (nameOf k) 0
+
+module _ (k : ℕ) (here : k < 112) where
+  pub name-length : (1 ≤ length (nameOf k)) × (length (nameOf k) ≤ 5)
+  name-length =
+      let bounds = both (leb 1 (length (nameOf k))) _ (rw (name-is k) at (entry sized [] names refl k here)) in
+      (leb-true _ _ (bounds .0), leb-true _ _ (bounds .1))
+
+  pub no-space : (j : ℕ) → j < length (nameOf k) → getD (nameOf k) j 0 ≡ 32 → ⊥
+  no-space j h =
+      let passed : spaceless k (nameOf k) ≡ true = rw (name-is k) at (entry spaceless [] names refl k here) in
+      eqb-false _ _ (not-true _ (entry (λ (j c : ℕ). not (eqb c 32)) 0 (nameOf k) passed j h))
+
+  -- byte j of the name's row
+  pub name-byte : (j : ℕ) → j < 5 → getD nameTable (5 * k + j) 0 ≡ getD (filled 5 (nameOf k)) j 0
+  unfolding nameTable
+  name-byte j h = rw (← name-is k) (row-byte 5 names 0 k j refl here h)
+
+  -- a space of the row is past the name
+  pub at-space : (j : ℕ) → j < 5 → getD nameTable (5 * k + j) 0 ≡ 32 → length (nameOf k) ≤ j
+  at-space j h e = split (ltb j (length (nameOf k))) refl
+    where
+      split : (b : Bool) → ltb j (length (nameOf k)) ≡ b → length (nameOf k) ≤ j
+      split true q =
+          let in-it = ltb-true _ _ q in
+          absurd (no-space j in-it (sym (in-name 5 (nameOf k) j in-it) ∙ sym (name-byte j h) ∙ e))
+      split false q = ltb-false _ _ q
+
+  -- any other byte of the row is the name's
+  pub at-letter : (j : ℕ) → j < 5 → (getD nameTable (5 * k + j) 0 ≡ 32 → ⊥) → (j < length (nameOf k)) × (getD nameTable (5 * k + j) 0 ≡ getD (nameOf k) j 0)
+  at-letter j h n = split (ltb j (length (nameOf k))) refl
+    where
+      split : (b : Bool) → ltb j (length (nameOf k)) ≡ b → (j < length (nameOf k)) × (getD nameTable (5 * k + j) 0 ≡ getD (nameOf k) j 0)
+      split true q = let in-it = ltb-true _ _ q in (in-it, name-byte j h ∙ in-name 5 (nameOf k) j in-it)
+      split false q = absurd (n (name-byte j h ∙ past-name 5 (nameOf k) j (ltb-false _ _ q) h))
+
+  -- a row begins with the name's first byte
+  pub row-head : getD nameTable (5 * k) 0 ≡ head k
+  row-head =
+      let same : 5 * k + 0 ≡ 5 * k = omega arith in
+      rw same at (name-byte 0 (omega arith)) ∙ in-name 5 (nameOf k) 0 (name-length .0)
+
+  -- a name is at a place exactly if `lengthAt` is not 0
+  pub matches-by-length : (t : List ℕ) (at : ℕ) → (0 < lengthAt (nameOf k) t at → (matchesAt (nameOf k) t at ≡ true) × (lengthAt (nameOf k) t at ≡ length (nameOf k)))
+      × (lengthAt (nameOf k) t at ≤ 0 → matchesAt (nameOf k) t at ≡ false)
+  matches-by-length t at = by (matchesAt (nameOf k) t at)
+    where
+      by : (b : Bool) → (0 < (if b then length (nameOf k) else 0) → (b ≡ true) × ((if b then length (nameOf k) else 0) ≡ length (nameOf k)))
+          × ((if b then length (nameOf k) else 0) ≤ 0 → b ≡ false)
+      by true = ((λ h. (refl, refl)), (λ h. absurd (omega (arith, h, name-length))))
+      by false = ((λ h. absurd (omega (arith, h))), (λ h. refl))
+
+-- one byte of the comparison
+matchesAt-step : (name t : List ℕ) (at j : ℕ) → j < length name → matchesAt (drop j name) t (at + j) ≡ (eqb (byteAt t (at + j)) (getD name j 0) && matchesAt (drop (j + 1) name) t (at + (j + 1)))
+matchesAt-step name t at j h =
+    let same : at + j + 1 ≡ at + (j + 1) = omega arith in
+    rw (drop-cons name j 0 h, same, add-one j)
+
+module _ (name t : List ℕ) (at j : ℕ) where
+  -- the byte is another: the name is not there
+  pub matches-not : j < length name → (byteAt t (at + j) ≡ getD name j 0 → ⊥) → matchesAt (drop j name) t (at + j) ≡ false
+  matches-not h n = rw (matchesAt-step name t at j h, ne-eqb _ _ n)
+
+  -- the byte is the name's: on to the next
+  pub matches-on : j < length name → byteAt t (at + j) ≡ getD name j 0 → matchesAt (drop j name) t (at + j) ≡ matchesAt (drop (j + 1) name) t (at + (j + 1))
+  matches-on h e = rw (matchesAt-step name t at j h, eq-eqb _ _ e)
+
+  -- no byte is left: the name is there
+  pub matches-all : length name ≤ j → matchesAt (drop j name) t (at + j) ≡ true
+  matches-all h = rw (drop-of-length-le name h)

@@ -1,0 +1,11 @@
+-- The tables of PostgreSQL's formatting.c, and what is looked up in them.
+-- the date patterns: their names, whether they are read as digits, their date modes
+pub mod Patterns
+-- names laid out in rows of equal width
+pub mod Rows
+-- the pattern at a place of a template, and the index by first byte
+pub mod Search
+-- the prefixes and suffixes of a pattern
+pub mod Affixes
+-- the words of each list
+pub mod Words

@@ -1,0 +1,224 @@
+// The tables: names of patterns, the index by first byte, and word lists.
+ghost use mathlib.Core.Path.{_≡_};
+ghost use Rattle.template_patterns.specs.Search.{indexTable, nameTable};
+ghost use Rattle.template_patterns.specs.Words.{wordTable};
+ghost use Rattle.template_patterns.specs.declared.tables.WordList.the-variants.{MonthsFull};
+
+// The names of the patterns in table order, five bytes each, filled with spaces.
+const DCH_NAMES: [u8; 560] = *b"\
+    A.D. A.M. AD   AM   B.C. BC   CC   DAY  DDD  DD   DY   Day  Dy   D    \
+    FF1  FF2  FF3  FF4  FF5  FF6  FX   HH24 HH12 HH   IDDD ID   IW   IYYY \
+    IYY  IY   I    J    MI   MM   MONTHMON  MS   MonthMon  OF   P.M. PM   \
+    Q    RM   SSSSSSSSS SS   TZH  TZM  TZ   US   WW   W    Y,YYYYYYY YYY  \
+    YY   Y    a.d. a.m. ad   am   b.c. bc   cc   day  ddd  dd   dy   d    \
+    ff1  ff2  ff3  ff4  ff5  ff6  fx   hh24 hh12 hh   iddd id   iw   iyyy \
+    iyy  iy   i    j    mi   mm   monthmon  ms   of   p.m. pm   q    rm   \
+    sssssssss ss   tzh  tzm  tz   us   ww   w    y,yyyyyyy yyy  yy   y    ";
+
+// For each byte, the number of the first pattern that begins with it, or -1.
+const DCH_INDEX: [i8; 128] = [
+    -1,
+    -1,
+    -1,
+    -1,
+    -1,
+    -1,
+    -1,
+    -1,
+    -1,
+    -1,
+    -1,
+    -1,
+    -1,
+    -1,
+    -1,
+    -1,
+    -1,
+    -1,
+    -1,
+    -1,
+    -1,
+    -1,
+    -1,
+    -1,
+    -1,
+    -1,
+    -1,
+    -1,
+    -1,
+    -1,
+    -1,
+    -1,
+    -1,
+    -1,
+    -1,
+    -1,
+    -1,
+    -1,
+    -1,
+    -1,
+    -1,
+    -1,
+    -1,
+    -1,
+    -1,
+    -1,
+    -1,
+    -1,
+    -1,
+    -1,
+    -1,
+    -1,
+    -1,
+    -1,
+    -1,
+    -1,
+    -1,
+    -1,
+    -1,
+    -1,
+    -1,
+    -1,
+    -1,
+    -1,
+    -1,
+    0,
+    4,
+    6,
+    7,
+    -1,
+    14,
+    -1,
+    21,
+    24,
+    31,
+    -1,
+    -1,
+    32,
+    -1,
+    39,
+    40,
+    42,
+    43,
+    44,
+    47,
+    50,
+    -1,
+    51,
+    -1,
+    53,
+    -1,
+    -1,
+    -1,
+    -1,
+    -1,
+    -1,
+    -1,
+    58,
+    62,
+    64,
+    65,
+    -1,
+    70,
+    -1,
+    77,
+    80,
+    87,
+    -1,
+    -1,
+    88,
+    -1,
+    93,
+    94,
+    96,
+    97,
+    98,
+    101,
+    104,
+    -1,
+    105,
+    -1,
+    107,
+    -1,
+    -1,
+    -1,
+    -1,
+    -1,
+    -1,
+];
+
+// The word lists, nine bytes a word, filled with spaces.
+const WORDS_MONTHS_FULL: [u8; 108] =
+    *b"January  February March    April    May      June     July     August   SeptemberOctober  November December ";
+
+const WORDS_MONTHS_ABBREV: [u8; 108] =
+    *b"Jan      Feb      Mar      Apr      May      Jun      Jul      Aug      Sep      Oct      Nov      Dec      ";
+
+const WORDS_DAYS_FULL: [u8; 108] =
+    *b"Sunday   Monday   Tuesday  WednesdayThursday Friday   Saturday                                              ";
+
+const WORDS_DAYS_ABBREV: [u8; 108] =
+    *b"Sun      Mon      Tue      Wed      Thu      Fri      Sat                                                   ";
+
+const WORDS_AMPM: [u8; 108] =
+    *b"am       pm       AM       PM                                                                               ";
+
+const WORDS_AMPM_LONG: [u8; 108] =
+    *b"a.m.     p.m.     A.M.     P.M.                                                                             ";
+
+const WORDS_ADBC: [u8; 108] =
+    *b"ad       bc       AD       BC                                                                               ";
+
+const WORDS_ADBC_LONG: [u8; 108] =
+    *b"a.d.     b.c.     A.D.     B.C.                                                                             ";
+
+const WORDS_RM_MONTHS_LOWER: [u8; 108] =
+    *b"xii      xi       x        ix       viii     vii      vi       v        iv       iii      ii       i        ";
+
+pub enum WordList {
+    MonthsFull,
+    MonthsAbbrev,
+    DaysFull,
+    DaysAbbrev,
+    AmPm,
+    AmPmLong,
+    AdBc,
+    AdBcLong,
+    RomanMonths,
+}
+
+// The list that is asked for most has a function of its own: a choice among nine lists lays out more than one.
+pub fn months_full() -> [u8; 108]
+    ensures { λ r. ⌜ r ≡ wordTable MonthsFull ⌝ }
+{
+    WORDS_MONTHS_FULL
+}
+
+pub fn words(list: WordList) -> [u8; 108]
+    ensures { λ r. ⌜ r ≡ wordTable list ⌝ }
+{
+    match list {
+        WordList::MonthsFull => WORDS_MONTHS_FULL,
+        WordList::MonthsAbbrev => WORDS_MONTHS_ABBREV,
+        WordList::DaysFull => WORDS_DAYS_FULL,
+        WordList::DaysAbbrev => WORDS_DAYS_ABBREV,
+        WordList::AmPm => WORDS_AMPM,
+        WordList::AmPmLong => WORDS_AMPM_LONG,
+        WordList::AdBc => WORDS_ADBC,
+        WordList::AdBcLong => WORDS_ADBC_LONG,
+        WordList::RomanMonths => WORDS_RM_MONTHS_LOWER,
+    }
+}
+
+// The two tables are laid out once and lent to the search.
+pub fn dch_names() -> [u8; 560]
+    ensures { λ r. ⌜ r ≡ nameTable ⌝ }
+{
+    DCH_NAMES
+}
+
+pub fn dch_index() -> [i8; 128]
+    ensures { λ r. ⌜ r ≡ indexTable ⌝ }
+{
+    DCH_INDEX
+}

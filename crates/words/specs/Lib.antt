@@ -1,2 +1,0 @@
--- Patterns that read a word.
-pub mod Words

@@ -1,4 +1,0 @@
-mod Signs
-mod LowBits
-pub mod Fits
-pub mod Small

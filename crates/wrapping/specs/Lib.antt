@@ -1,2 +1,0 @@
--- Arithmetic of i32 that wraps.
-pub mod Wrap

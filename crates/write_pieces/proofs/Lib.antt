@@ -1,0 +1,10 @@
+-- Laws of the pieces.
+
+-- texts and digits put into a buffer
+pub mod Puts
+-- the table of the code has each pattern's piece
+pub mod PieceTable
+-- the texts of pieces, and their lengths
+pub mod Lengths
+-- the numbers of a moment, and the calendar's for its date
+pub mod Moments

@@ -1,0 +1,127 @@
+// What is written for a pattern at a moment: a number of fixed width, or a marker of the half of the day.
+mod numbers;
+mod output;
+
+ghost use mathlib.Core.Path.{_≡_};
+ghost use mathlib.Core.Bool.{true};
+ghost use Prim.Native.Nat.{_+_, _<_, _≤_};
+ghost use lib.ListN.{length};
+ghost use Rattle.write_pieces.specs.Moment.{isMoment};
+ghost use Rattle.write_pieces.specs.Output.{Put};
+ghost use Rattle.write_pieces.specs.Pieces.{markerText, pieceLength, pieceOf, pieceText};
+ghost use Rattle.write_pieces.specs.Tables.{pieceTable};
+pub use numbers::is_moment;
+pub use output::put_bytes;
+
+// A moment: seven numbers.
+pub struct Moment {
+    pub year: i32,
+    pub month: i32,
+    pub day: i32,
+    pub hour: i32,
+    pub minute: i32,
+    pub second: i32,
+    pub micros: i32,
+}
+
+// The pieces: what is written for a pattern.
+pub const NONE: u8 = 0;
+
+pub const YEAR: u8 = 1;
+
+pub const MONTH: u8 = 2;
+
+pub const DAY: u8 = 3;
+
+pub const YEAR_DAY: u8 = 4;
+
+pub const WEEK_YEAR: u8 = 5;
+
+pub const WEEK: u8 = 6;
+
+pub const WEEKDAY: u8 = 7;
+
+pub const HOUR24: u8 = 8;
+
+pub const HOUR12: u8 = 9;
+
+pub const MINUTE: u8 = 10;
+
+pub const SECOND: u8 = 11;
+
+pub const DAY_SECOND: u8 = 12;
+
+pub const MICROS: u8 = 13;
+
+pub const MARKER: u8 = 14;
+
+pub const DOTTED_MARKER: u8 = 15;
+
+// The piece of each pattern in table order, by its letter: A for 1 to O for 15, @ for none.
+const PIECES: [u8; 112] = *b"\
+    @O@N@@@@DC@@@@@@\
+    @@@@@HII@GFE@@@@\
+    JB@@@@@@ON@@L@K@\
+    @@M@@@A@@@@O@N@@\
+    @@DC@@@@@@@@@HII\
+    @GFE@@@@JB@@@@ON\
+    @@L@K@@@M@@@A@@@";
+
+// The table is laid out once and lent to what writes by it.
+pub fn table() -> [u8; 112]
+    ensures { λ r. ⌜ r ≡ pieceTable ⌝ }
+{
+    PIECES
+}
+
+// The piece of a pattern, by its number.
+pub fn piece_of(table: &[u8; 112], pattern: u8) -> u8
+    requires { ⌜ now table ≡ pieceTable ⌝ }
+    ensures { λ r. ⌜ r ≡ pieceOf pattern ⌝ }
+{
+    if pattern >= 112 {
+        return NONE;
+    }
+    table[pattern as usize] - b'@'
+}
+
+// How many bytes each piece has.
+const LENGTHS: [u8; 16] = [0, 4, 2, 2, 3, 4, 2, 1, 2, 2, 2, 2, 5, 6, 2, 4];
+
+pub fn piece_length(piece: u8) -> usize
+    requires { ⌜ piece < 16 ⌝ }
+    ensures { λ r. ⌜ r ≡ pieceLength piece ⌝ }
+{
+    LENGTHS[piece as usize] as usize
+}
+
+// A marker put into the buffer.
+fn put_marker(dotted: bool, morning: bool, out: &mut [u8], at: usize) -> usize
+    requires { ⌜ at + length (markerText dotted morning) ≤ length (now out) ⌝ }
+    ensures { λ r. ⌜ Put (now (out .entry)) at (markerText dotted morning) (now (out .exit)) r ⌝ }
+{
+    if dotted {
+        if morning {
+            return output::put_bytes(b"A.M.", out, at);
+        }
+        return output::put_bytes(b"P.M.", out, at);
+    }
+    if morning {
+        return output::put_bytes(b"AM", out, at);
+    }
+    output::put_bytes(b"PM", out, at)
+}
+
+// The text of a piece put into the buffer.
+pub fn put_piece(piece: u8, m: Moment, out: &mut [u8], at: usize) -> usize
+    requires { ⌜ (piece < 16) × (isMoment m ≡ true) × (at + length (pieceText piece m) ≤ length (now out)) ⌝ }
+    ensures { λ r. ⌜ Put (now (out .entry)) at (pieceText piece m) (now (out .exit)) r ⌝ }
+{
+    if piece == MARKER {
+        return put_marker(false, m.hour < 12, out, at);
+    }
+    if piece == DOTTED_MARKER {
+        return put_marker(true, m.hour < 12, out, at);
+    }
+    output::put_number(numbers::number_of(piece, m), piece_length(piece), out, at)
+}

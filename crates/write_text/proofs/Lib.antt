@@ -1,0 +1,10 @@
+-- Laws of writing.
+
+-- the texts of nodes, and their lengths
+pub mod Lengths
+-- a length that is answered is the text's, and no longer than the buffer
+pub mod Room
+-- what the loops over the nodes have left
+mod Turns
+-- the cases of the writer's answer
+mod Answers

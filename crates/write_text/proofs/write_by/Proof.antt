@@ -1,0 +1,112 @@
+-- `write_text::write_by` meets its contract: each answer is its case of the definition. Assumes nothing.
+use mathlib.Core.Path.{_≡_, _∙_, sym}
+use mathlib.Core.Bool.{true}
+use native.Mathlib.Omega.{arith}
+use borrow.Author.Needs.{needs}
+use borrow.Author.Tests.{not-true, not-false}
+use denote.Ref.{now}
+use lib.ListN.{length}
+use Rattle.write_pieces.specs.Moment.{isMoment}
+use Rattle.write_text.specs.Writer.{textIn}
+use Rattle.write_text.proofs.Answers.{many, not-written, no-moment, no-room, wrote}
+use Rattle.write_text.proofs.Lengths.{nodes-size}
+use Rattle.write_text.proofs.write_by.Statement.{statement}
+use Rattle.write_text.proofs.write_by.Tie as tie
+
+-- the way back: from the search to the test of the nodes' number and to the start; from the measure to the test of
+-- the patterns
+abbrev within-limit : tie.After-first-unwritten → tie.Else1
+within-limit after-search = after-search .before .before .before
+
+abbrev start : tie.After-first-unwritten → tie.Start
+start after-search = within-limit after-search .before .before .before .before
+
+abbrev all-written : tie.After-text-length → tie.Else2
+all-written after-length = after-length .before .before .before .before
+
+-- the numbers are a moment
+moment : (c : tie.Else3) → isMoment (start (c .before .before .before) .args .m) ≡ true
+moment c = sym (c .before .is-moment .ensures) ∙ not-false _ (c .if3 .left)
+
+-- what is measured is the length of the text
+needed : (after-length : tie.After-text-length)
+    → let args = start (all-written after-length .before) .args in
+    after-length .text-length .result ≡ length (textIn (now (args .c)) (now (args .t)) (args .m))
+needed after-length = after-length .text-length .ensures .0 ∙ sym (nodes-size _ _ _)
+
+-- there are too many nodes
+returns : tie.Need-returns
+returns c = let args = c .before .before .before .before .args in many (now (args .c)) (now (args .t)) (args .m) (now (args .out)) (c .if1 .taken)
+
+-- a pattern is not written
+returns-2 : tie.Need-returns-2
+returns-2 c =
+    let after-search = c .before in
+    let args = start after-search .args in
+    not-written (now (args .c)) (now (args .t)) (args .m) (now (args .out)) (within-limit after-search .if1 .left)
+    _ (after-search .first-unwritten .ensures) (c .if2 .taken)
+
+-- the numbers are no moment
+returns-3 : tie.Need-returns-3
+returns-3 c =
+    let at-patterns = c .before .before in
+    let after-search = at-patterns .before in
+    let args = start after-search .args in
+    no-moment (now (args .c)) (now (args .t)) (args .m) (now (args .out)) (within-limit after-search .if1 .left)
+    _ (after-search .first-unwritten .ensures) (at-patterns .if2 .left)
+    (sym (c .before .is-moment .ensures) ∙ not-true _ (c .if3 .taken))
+
+-- the table is the definition's, and the nodes are few
+text-length-requires : tie.Need-text-length-requires
+text-length-requires c κs =
+    let after-search = c .before .before .before .before in
+    (after-search .before .before .table .ensures, within-limit after-search .if1 .left)
+
+-- the buffer is shorter than the text
+returns-4 : tie.Need-returns-4
+returns-4 c =
+    let after-length = c .before in
+    let at-patterns = all-written after-length in
+    let after-search = at-patterns .before in
+    let args = start after-search .args in
+    no-room (now (args .c)) (now (args .t)) (args .m) (now (args .out)) (within-limit after-search .if1 .left)
+    _ (after-search .first-unwritten .ensures) (at-patterns .if2 .left)
+    (moment (after-length .before .before)) _ (needed after-length) (c .if4 .taken)
+
+-- the table is the definition's, the numbers are a moment, and there is room for the text
+put-nodes-requires : tie.Need-put-nodes-requires
+put-nodes-requires c κs =
+    let at-room = c .before .before in
+    let after-length = at-room .before in
+    let after-search = all-written after-length .before in
+    (after-search .before .before .table .ensures, moment (after-length .before .before), omega (arith, needed after-length, at-room .if4 .left))
+
+-- the text is written
+returns-5 : tie.Need-returns-5
+returns-5 c =
+    let after-put = c .before .before in
+    let at-room = after-put .before .before .before in
+    let after-length = at-room .before in
+    let at-patterns = all-written after-length in
+    let after-search = at-patterns .before in
+    let args = start after-search .args in
+    wrote (now (args .c)) (now (args .t)) (args .m) (now (args .out)) (within-limit after-search .if1 .left)
+    _ (after-search .first-unwritten .ensures) (at-patterns .if2 .left)
+    (moment (after-length .before .before)) _ (needed after-length) _ (at-room .if4 .left) (after-put .put-nodes .ensures)
+
+pub write-by-spec : {M : Type 1} → statement M
+write-by-spec =
+    tie.close
+    (tie.spec
+    returns
+    (λ c κs. search needs)
+    (λ c κs. search needs)
+    returns-2
+    (λ c κs. search needs)
+    returns-3
+    text-length-requires
+    (λ c. search needs)
+    returns-4
+    put-nodes-requires
+    (λ c. search needs)
+    returns-5)

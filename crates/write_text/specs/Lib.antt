@@ -1,0 +1,12 @@
+-- Writing a moment by a template.
+
+-- the text of a moment by a template
+pub mod Text
+-- the writer's answer, and the buffer after it
+pub mod Writer
+-- the number of each refusal
+pub mod Report
+-- the length of a text
+pub mod Measure
+-- full templates: those that a moment is read back by
+pub mod Full

@@ -1,5 +1,0 @@
--- Laws of writing.
-pub mod Lengths
-pub mod Room
-mod Turns
-mod Answers

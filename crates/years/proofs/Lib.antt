@@ -1,4 +1,0 @@
--- Laws of years.
-mod Raised
-mod Thousands
-pub mod Years

@@ -1,2 +1,0 @@
--- Years.
-pub mod Year

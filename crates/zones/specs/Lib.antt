@@ -1,2 +1,0 @@
--- Patterns that read an offset.
-pub mod Zones
