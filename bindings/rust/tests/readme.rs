@@ -27,6 +27,25 @@ fn lines() {
     assert_eq!(count, 14);
 }
 
+/// The table under "What is accepted": a template, a line, and its answer or how that begins.
+#[test]
+fn what_is_accepted() {
+    let readme = readme();
+    let section = readme.split("## What is accepted").nth(1).unwrap().split("## ").next().unwrap();
+    let mut count = 0;
+    for row in section.lines().filter(|line| line.starts_with("| `")) {
+        let cells: Vec<&str> = row.split(" | ").map(|cell| cell.trim_matches(&['|', ' ', '`'][..])).collect();
+        let line = if cells[1] == "(empty)" { "" } else { cells[1] };
+        let answer = common::answer("parts", format!("{}\t{line}", cells[0]).as_bytes());
+        match cells[2].strip_suffix("..") {
+            Some(beginning) => assert!(answer.starts_with(beginning), "{row}: {answer}"),
+            None => assert_eq!(answer, cells[2], "{row}"),
+        }
+        count += 1;
+    }
+    assert_eq!(count, 9);
+}
+
 #[test]
 fn every_refusal_has_its_row() {
     let readme = readme();
