@@ -79,9 +79,8 @@ pub fn literal_passed(s: &[u8], n: Node, p: Place) -> Place
         return char_passed(s, p);
     }
     Place {
-        at: p.at,
         extra: extra - 1,
-        fx: 0,
+        ..p
     }
 }
 

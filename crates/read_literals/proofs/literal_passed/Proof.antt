@@ -45,7 +45,8 @@ returns-5 c =
     let no-blank = c .before in
     let no-fx = no-blank .before .before .before .before in
     let args = no-fx .before .before .before .args in
-    paid (now (args .s)) (args .n) (args .p) (not-exact (args .p) (no-fx .if1 .left)) (no-blank .before .before .if2 .left) (no-blank .if3 .left) (args .p .extra - 1)
+    (λ i. record { at = args .p .at; extra = args .p .extra - 1; fx = no-fx .if1 .left i })
+    ∙ paid (now (args .s)) (args .n) (args .p) (not-exact (args .p) (no-fx .if1 .left)) (no-blank .before .before .if2 .left) (no-blank .if3 .left) (args .p .extra - 1)
     (omega (arith, c .if4 .left))
 
 pub literal-passed-spec : {M : Type 1} → statement M
