@@ -3,4 +3,5 @@
 pub mod Reader
 -- what holds of reading from node to node
 pub mod Turn
+-- worked examples
 pub mod Examples
