@@ -4,7 +4,7 @@ ghost use mathlib.Core.Path.{_≡_};
 ghost use Prim.Native.Nat.{_<_, _≤_};
 ghost use lib.Dec.{eqb};
 ghost use lib.ListN.{length};
-ghost use Rattle.read_literals.specs.Literals.{Payable, pastField, enteredBy};
+ghost use Rattle.read_literals.specs.Literals.{Payable, enteredBy};
 ghost use Rattle.read_input.specs.Reader.{Went, actionRead, mixes, performed, withMode};
 ghost use Rattle.read_fields.specs.Fields.{fieldsOf, readInto};
 ghost use Rattle.read_fields.specs.Tasks.{Assigned, exact, taskOf, taskTable};

@@ -4,7 +4,6 @@ ghost use mathlib.Core.Path.{_≡_};
 ghost use Prim.Native.Nat.{_<_, _≤_};
 ghost use lib.Dec.{eqb};
 ghost use lib.ListN.{length};
-ghost use Rattle.base_notation.specs.Text.{byteAt};
 ghost use Rattle.base_chars.specs.Class.{isLetter};
 ghost use Rattle.read_fields.specs.Fields.{fieldsOf, readInto};
 ghost use Rattle.read_fields.specs.Tasks.{noLetter};
