@@ -1,6 +1,6 @@
 //! Known answers: they show that the stand-ins serve and that errors are told apart.
 
-use crate::formatting::answers::{answer, back, cut, date, instant, line, parts, patterns, written};
+use crate::formatting::answers::{answer, back, cut, date, instant, line, parts, patterns, without_return, written};
 use crate::random::Random;
 use crate::{hex, known, moments};
 use std::collections::{HashMap, HashSet};
@@ -36,10 +36,10 @@ fn known_texts() {
 fn read_back() {
     let mut random = Random::new(1);
     let mut count = 0;
-    for asked in (0..20_000).map(|_| moments::line(&mut random)) {
+    for asked in (0..20_000).map(|_| moments::arriving(&mut random)) {
         let wanted = back(&asked);
         let [days, micros, moment] = wanted.rsplitn(3, ' ').collect::<Vec<_>>()[..] else { continue };
-        let text = line(&asked, written);
+        let text = line(without_return(&asked), written);
         let (template, _) = cut(&asked);
         let text = text[2..].as_bytes();
         assert_eq!(parts(template, text), format!("0 {moment} 0 none"), "{}", shown(&asked));

@@ -10,7 +10,7 @@ pub fn generator(name: &str) -> Option<Generator> {
     match name {
         "pairs" => Some(pairs::line),
         "readings" => Some(readings::line),
-        "moments" => Some(moments::line),
+        "moments" => Some(moments::arriving),
         _ => None,
     }
 }
@@ -23,7 +23,7 @@ pub fn list(name: &str) -> Option<(Vec<Vec<u8>>, Generator)> {
         "instants" | "days" => {
             Some((known::readings::lines().into_iter().map(|(line, ..)| line).collect(), readings::line))
         }
-        "moments" => Some((first(known::moments::lines()), moments::line)),
+        "moments" => Some((first(known::moments::lines()), moments::arriving)),
         _ => None,
     }
 }

@@ -52,6 +52,15 @@ pub fn line(random: &mut Random) -> Vec<u8> {
     line
 }
 
+/// A line as it may arrive: now and then a carriage return is before its newline.
+pub fn arriving(random: &mut Random) -> Vec<u8> {
+    let mut line = line(random);
+    if random.once_in(12) {
+        line.push(b'\r');
+    }
+    line
+}
+
 /// A full template; now and then a pattern more or less.
 fn template(random: &mut Random) -> String {
     let time = random.pick(&TIMES);

@@ -2,7 +2,7 @@
 
 mod common;
 
-use common::{answer, cut, file, moment};
+use common::{answer, cut, file, moment, without_return};
 use sorbilgan::{Parts, Template};
 use std::str;
 
@@ -51,7 +51,7 @@ fn read_back() {
             continue;
         }
         count += 1;
-        let (template, numbers) = cut(line);
+        let (template, numbers) = cut(without_return(line));
         let moment = moment(numbers);
         let template = Template::compile(template).unwrap();
         let text = template.format(&moment).unwrap();
@@ -61,5 +61,5 @@ fn read_back() {
         assert_eq!(template.instant(&text), Ok(back[7]), "{template}: {text}");
         assert_eq!(template.date(&text).map(i64::from), Ok(back[8]), "{template}: {text}");
     }
-    assert_eq!(count, 2298);
+    assert_eq!(count, 2319);
 }

@@ -12,7 +12,7 @@ pub mod records;
 mod writing;
 
 pub use fields::fields;
-pub use reading::{cut, date, instant, line, parts};
+pub use reading::{cut, date, instant, line, parts, without_return};
 #[cfg(test)]
 pub use writing::patterns;
 pub use writing::{Moment, back, micros, numbers_of, written};
@@ -38,6 +38,10 @@ pub fn answer(question: &str) -> String {
         ["parse", template] => nodes(&hex::decode(template)),
         ["mblen", at, text] => pg_mblen(&hex::decode(text), number(at)).to_string(),
         ["utf8", text] => flag(std::str::from_utf8(&hex::decode(text)).is_ok()),
+        ["parts_line", text] => line(&hex::decode(text), parts),
+        ["instants_line", text] => line(&hex::decode(text), instant),
+        ["days_line", text] => line(&hex::decode(text), date),
+        ["write_line", text] => line(without_return(&hex::decode(text)), written),
         ["parts", template, input] => reading::parts(&hex::decode(template), &hex::decode(input)),
         ["timestamp", template, input] => reading::instant(&hex::decode(template), &hex::decode(input)),
         ["date", template, input] => reading::date(&hex::decode(template), &hex::decode(input)),

@@ -16,6 +16,11 @@ pub fn line(line: &[u8], answer: impl Fn(&[u8], &[u8]) -> String) -> String {
     answer(template, input)
 }
 
+/// Where a moment is written, a carriage return at the line's end is no part of it.
+pub fn without_return(line: &[u8]) -> &[u8] {
+    line.strip_suffix(b"\r").unwrap_or(line)
+}
+
 /// The template and the input of a line: cut at the first TAB; without one the input is empty.
 pub fn cut(line: &[u8]) -> (&[u8], &[u8]) {
     let tab = line.iter().position(|&byte| byte == b'\t');

@@ -25,6 +25,7 @@ pub fn written(template: &[u8], moment: &[u8]) -> String {
 /// What the written text must be read as, where a line's template is full: the moment, then its microseconds and days
 /// since 1970-01-01. Else `-`.
 pub fn back(line: &[u8]) -> String {
+    let line = reading::without_return(line);
     let (template, moment) = cut(line);
     let accepted = reading::line(line, written).starts_with("0 ");
     match numbers_of(moment) {

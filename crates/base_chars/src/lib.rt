@@ -5,7 +5,6 @@ ghost use mathlib.Core.Bool.{_||_};
 ghost use Prim.Native.Nat.{_+_, _<_, _≤_};
 ghost use lib.ListN.{length, drop, replicate};
 ghost use Rattle.base_notation.specs.Choice.{if_then_else_};
-ghost use Rattle.base_notation.specs.Text.{byteAt};
 ghost use Rattle.base_chars.specs.Character.{lead, Measured};
 ghost use Rattle.base_chars.specs.Class.{isSpace, isDigit, isLetter, isSeparator};
 ghost use Rattle.base_chars.specs.Range.{_‥_};
@@ -68,13 +67,6 @@ pub fn is_blank(b: u8) -> bool
     ensures { λ r. ⌜ r ≡ (isSpace b || isSeparator b) ⌝ }
 {
     in_set(0xfc00ffff00003e00, 0x78000001f8000001, b)
-}
-
-// The byte at a place, 0 past the end.
-pub fn byte_at(t: &[u8], at: usize) -> u8
-    ensures { λ r. ⌜ r ≡ byteAt (now (t .entry)) at ⌝ }
-{
-    if at < t.len() { t[at] } else { 0 }
 }
 
 // The length of a character by its first byte.

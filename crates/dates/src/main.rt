@@ -1,142 +1,161 @@
-// Reads lines and answers each with a line, by the mode that the first argument names.
-mod answer;
+// Reads lines and answers each with a line, by the mode that its argument names. The answers to all lines that were read
+// are written before more is read. What cannot be read or written is reported on standard error, and ends the program.
 mod modes;
-mod reading;
 
 ghost use Prim.Native.Nat.{_≤_, _<_};
 ghost use lib.ListN.{length};
 use libc::STDERR_FILENO;
 use libc::STDIN_FILENO;
 use libc::STDOUT_FILENO;
-use modes::Choice;
-use modes::Mode;
+use line_answers::Mode;
+use line_texts::Choice;
 
-// Room for any answer: the longest is a 0, a space, a text of 512 bytes and the newline.
-const LONGEST: usize = 515;
-
-// Where the answers to the lines of a text end: in the text, and in the buffer. `long` says that the next line began
-// before the text.
-struct Answered {
-    from: usize,
-    at: usize,
-    long: bool,
-}
-
-// What is left between two reads: the bytes kept of an unfinished line, whether it is too long, the answers not yet
-// written, and how many reads may come. A proved loop has to end, and nothing says that the input does: so the reads
-// are counted.
+// What is left between two reads: the bytes kept of an unfinished line, whether its beginning was left off, whether
+// something failed, and how many reads may come. A proved loop has to end, and nothing says that the input does: so the
+// reads are counted.
 struct State {
     kept: usize,
     long: bool,
-    at: usize,
+    failed: bool,
     reads: u64,
 }
 
-// Reads after the bytes that are kept; the answer is the end of all.
-fn read_on(input: &mut [u8], kept: usize) -> usize
+// Where the input ends in its buffer after a read, unless it could not be read.
+struct Got {
+    end: usize,
+    failed: bool,
+}
+
+// What is left of a text: its lines before `from` are answered, unless the answers could not be written. `long` says that
+// the next line began before the text.
+struct Rest {
+    from: usize,
+    long: bool,
+    failed: bool,
+}
+
+// Reads after the bytes that are kept.
+fn read_on(input: &mut [u8], kept: usize) -> Got
     requires { ⌜ kept ≤ length (now input) ⌝ }
-    ensures { λ r. ⌜ r ≤ length (now (input .exit)) ⌝ }
+    ensures { λ r. ⌜ r .end ≤ length (now (input .exit)) ⌝ }
 {
     let got = libc::read(STDIN_FILENO, &mut input[kept..]);
-    kept + io::count(got, &input[kept..])
-}
-
-// Writes the answers out where there may be no room for one more.
-fn make_room(out: &[u8], at: usize) -> usize
-    requires { ⌜ at ≤ length (now out) ⌝ }
-    ensures { λ r. ⌜ r ≤ length (now (out .entry)) ⌝ }
-{
-    if LONGEST <= out.len() - at {
-        return at;
-    }
-    io::write_all(STDOUT_FILENO, &out[0..at]);
-    0
-}
-
-// Answers one line.
-fn answer_line(mode: Mode, line: &[u8], long: bool, out: &mut [u8], at: usize) -> usize
-    requires { ⌜ at ≤ length (now out) ⌝ }
-    ensures { λ r. ⌜ r ≤ length (now (out .exit)) ⌝ }
-{
-    let start = make_room(out, at);
-    let end = answer::answer(mode, line, long, out, start);
-    line_buffers::put_byte(b'\n', out, end)
-}
-
-// Answers the lines that end in a text.
-fn answer_lines(mode: Mode, text: &[u8], long: bool, out: &mut [u8], at: usize) -> Answered
-    requires { ⌜ at ≤ length (now out) ⌝ }
-    ensures { λ r. ⌜ r .at ≤ length (now (out .exit)) ⌝ }
-{
-    let mut s = Answered { from: 0, at, long };
-    let mut end = line_buffers::find(text, 0, b'\n');
-    while end < text.len() {
-        let from = s.from;
-        let next = answer_line(mode, &text[from..end], s.long, out, s.at);
-        s = Answered {
-            from: end + 1,
-            at: next,
-            long: false,
+    if got < 0 {
+        os::fail(b"dates: standard input");
+        return Got {
+            end: kept,
+            failed: true,
         };
-        end = line_buffers::find(text, end + 1, b'\n');
+    }
+    Got {
+        end: kept + io::count(got, &input[kept..]),
+        failed: false,
+    }
+}
+
+// Writes answers; the result says whether that failed.
+fn write_out(answers: &[u8]) -> bool {
+    if io::write_all(STDOUT_FILENO, answers) {
+        return false;
+    }
+    os::fail(b"dates: standard output");
+    true
+}
+
+// Answers the lines that end in a text, a buffer full of answers at a time.
+fn answer_text(mode: Mode, text: &[u8], long: bool, out: &mut [u8]) -> Rest {
+    let mut s = Rest {
+        from: 0,
+        long,
+        failed: false,
+    };
+    while s.from < text.len() {
+        let from = s.from;
+        let a = line_texts::answer_lines(mode, &text[from..], s.long, out);
+        let at = a.at;
+        if write_out(&out[0..at]) {
+            return Rest { failed: true, ..s };
+        }
+        if a.from == 0 {
+            return s;
+        }
+        s = Rest {
+            from: from + a.from,
+            long: a.long,
+            failed: false,
+        };
     }
     s
 }
 
-// Reads once and answers the lines that end there. At the end of the input no read is left.
+// Reads once and answers the lines that end there. At the end of the input, and where something failed, no read is left.
 fn turn(mode: Mode, input: &mut [u8], out: &mut [u8], s: State) -> State
-    requires { ⌜ (s .kept ≤ length (now input)) × (s .at ≤ length (now out)) × (0 < s .reads) ⌝ }
-    ensures { λ r. ⌜ (r .kept ≤ length (now (input .exit))) × (r .at ≤ length (now (out .exit))) × (r .reads < s .reads) ⌝ }
+    requires { ⌜ (s .kept ≤ length (now input)) × (0 < s .reads) ⌝ }
+    ensures { λ r. ⌜ (r .kept ≤ length (now (input .exit))) × (r .reads < s .reads) ⌝ }
 {
-    let kept = s.kept;
-    let end = read_on(input, kept);
-    if end == kept {
+    let got = read_on(input, s.kept);
+    if got.failed {
+        return State {
+            failed: true,
+            reads: 0,
+            ..s
+        };
+    }
+    if got.end == s.kept {
         return State { reads: 0, ..s };
     }
-    let a = answer_lines(mode, &input[0..end], s.long, out, s.at);
-    let k = line_buffers::keep(input, a.from, end, a.long);
+    let end = got.end;
+    let rest = answer_text(mode, &input[0..end], s.long, out);
+    let k = line_buffers::keep(input, rest.from, end, rest.long);
+    if rest.failed {
+        return State {
+            kept: k.count,
+            long: k.long,
+            failed: true,
+            reads: 0,
+        };
+    }
     State {
         kept: k.count,
         long: k.long,
-        at: a.at,
+        failed: false,
         reads: s.reads - 1,
     }
 }
 
 // Answers the last line, where it has no newline.
-fn answer_last(mode: Mode, line: &[u8], long: bool, out: &mut [u8], at: usize) -> usize
-    requires { ⌜ at ≤ length (now out) ⌝ }
-    ensures { λ r. ⌜ r ≤ length (now (out .exit)) ⌝ }
-{
-    if long {
-        return answer_line(mode, line, true, out, at);
+fn answer_last(mode: Mode, line: &[u8], long: bool, out: &mut [u8]) {
+    if !long {
+        if line.len() == 0 {
+            return;
+        }
     }
-    if line.len() == 0 {
-        return at;
-    }
-    answer_line(mode, line, false, out, at)
+    let end = line_texts::answer_line(mode, line, long, out, 0);
+    write_out(&out[0..end]);
 }
 
 fn answer_all(mode: Mode, input: &mut [u8], out: &mut [u8]) {
     let mut s = State {
         kept: 0,
         long: false,
-        at: 0,
+        failed: false,
         reads: u64::MAX,
     };
     while s.reads > 0 {
         s = turn(mode, input, out, s);
     }
+    if s.failed {
+        return;
+    }
     let kept = s.kept;
-    let end = answer_last(mode, &input[0..kept], s.long, out, s.at);
-    io::write_all(STDOUT_FILENO, &out[0..end]);
+    answer_last(mode, &input[0..kept], s.long, out);
 }
 
 fn main() {
     let Choice::Of(mode) = modes::chosen() else {
         io::write_all(
             STDERR_FILENO,
-            b"dates: the first argument is parts, instants, days or write\n",
+            b"dates: the one argument is parts, instants, days or write\n",
         );
         return;
     };

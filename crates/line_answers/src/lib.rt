@@ -1,103 +1,88 @@
-// Answers as lines of text. Each function puts its part at `at` and gives the place after it.
+// The answer to a line of input, by the mode.
+mod answers;
+mod items;
 mod moments;
 
-ghost use Prim.Native.Nat.{_≤_, max};
-ghost use lib.ListN.{length};
-use base_refusals::NO_PATTERN;
-use base_refusals::Report;
-use moment_parts::Parts;
-use moment_time::Offset;
-pub use moments::text;
+ghost use mathlib.Core.Path.{_≡_};
+ghost use Rattle.line_answers.specs.Lines.{Answered, answerLine, counted, pairAnswer, tooLongAnswer, wholeAnswer, withoutReturn};
+use base_refusals::Refusal;
 
-pub fn put_number(value: i64, out: &mut [u8], at: usize) -> usize
-    ensures { λ r. ⌜ r ≤ max at (length (now (out .entry))) ⌝ }
-{
-    let next = line_buffers::put_byte(b' ', out, at);
-    line_buffers::put_decimal(value, out, next)
+// What a line is answered with.
+pub enum Mode {
+    // Lines "template TAB input": the parts of the moment that is read, its instant, or its day.
+    Parts,
+    Instants,
+    Days,
+    // Lines "template TAB moment": the text.
+    Write,
 }
 
-pub fn put_int(value: i32, out: &mut [u8], at: usize) -> usize
-    ensures { λ r. ⌜ r ≤ max at (length (now (out .entry))) ⌝ }
+// A template and an input at their limits, and the TAB between them.
+const LINE: usize = 769;
+
+// How many bytes of a line count where a moment is written: a carriage return at the end is no part of the line.
+fn without_return(line: &[u8]) -> usize
+    ensures { λ r. ⌜ r ≡ withoutReturn (now (line .entry)) ⌝ }
 {
-    put_number(value as i64, out, at)
+    let len = line.len();
+    if len == 0 {
+        return 0;
+    }
+    if line[len - 1] == b'\r' {
+        return len - 1;
+    }
+    len
 }
 
-pub fn put_item(text: &[u8], out: &mut [u8], at: usize) -> usize
-    ensures { λ r. ⌜ r ≤ max at (length (now (out .entry))) ⌝ }
+// How many count in a mode.
+fn counted(mode: Mode, line: &[u8]) -> usize
+    ensures { λ r. ⌜ r ≡ counted mode (now (line .entry)) ⌝ }
 {
-    let next = line_buffers::put_byte(b' ', out, at);
-    line_buffers::put_bytes(text, out, next)
-}
-
-fn put_offset(offset: Offset, out: &mut [u8], at: usize) -> usize
-    ensures { λ r. ⌜ r ≤ max at (length (now (out .entry))) ⌝ }
-{
-    match offset {
-        Offset::Absent => put_item(b"none", out, at),
-        Offset::East(seconds) => put_int(seconds, out, at),
+    match mode {
+        Mode::Parts => line.len(),
+        Mode::Instants => line.len(),
+        Mode::Days => line.len(),
+        Mode::Write => without_return(line),
     }
 }
 
-fn put_date(p: Parts, out: &mut [u8], at: usize) -> usize
-    ensures { λ r. ⌜ r ≤ max at (length (now (out .entry))) ⌝ }
+fn answer_pair(mode: Mode, t: &[u8], s: &[u8], out: &mut [u8], at: usize) -> usize
+    ensures { λ r. ⌜ Answered (now (out .entry)) at (pairAnswer mode (now (t .entry)) (now (s .entry))) (now (out .exit)) r ⌝ }
 {
-    let year = put_int(p.year, out, at);
-    let month = put_int(p.month, out, year);
-    put_int(p.day, out, month)
-}
-
-fn put_time(p: Parts, out: &mut [u8], at: usize) -> usize
-    ensures { λ r. ⌜ r ≤ max at (length (now (out .entry))) ⌝ }
-{
-    let hour = put_int(p.hour, out, at);
-    let minute = put_int(p.minute, out, hour);
-    let second = put_int(p.second, out, minute);
-    put_int(p.micros, out, second)
-}
-
-pub fn put_parts(p: Parts, out: &mut [u8], at: usize) -> usize
-    ensures { λ r. ⌜ r ≤ max at (length (now (out .entry))) ⌝ }
-{
-    let number = put_accepted(out, at);
-    let date = put_date(p, out, number);
-    let time = put_time(p, out, date);
-    let precision = put_int(p.precision, out, time);
-    let offset = p.offset;
-    put_offset(offset, out, precision)
-}
-
-// The number of what is no refusal.
-pub fn put_accepted(out: &mut [u8], at: usize) -> usize
-    ensures { λ r. ⌜ r ≤ max at (length (now (out .entry))) ⌝ }
-{
-    line_buffers::put_byte(b'0', out, at)
-}
-
-// The name that fills a row up to a space.
-fn put_name(row: &[u8], out: &mut [u8], at: usize) -> usize
-    ensures { λ r. ⌜ r ≤ max at (length (now (out .entry))) ⌝ }
-{
-    let len = line_buffers::find(row, 0, b' ');
-    put_item(&row[0..len], out, at)
-}
-
-// A pattern by its name, or `-` for none.
-fn put_pattern(pattern: u8, out: &mut [u8], at: usize) -> usize
-    ensures { λ r. ⌜ r ≤ max at (length (now (out .entry))) ⌝ }
-{
-    if pattern >= NO_PATTERN {
-        return put_item(b"-", out, at);
+    match mode {
+        Mode::Parts => answers::parts(t, s, out, at),
+        Mode::Instants => answers::instant(t, s, out, at),
+        Mode::Days => answers::day(t, s, out, at),
+        Mode::Write => moments::text(t, s, out, at),
     }
-    let names = template_patterns::dch_names();
-    let from = 5 * pattern as usize;
-    put_name(&names[from..from + 5], out, at)
 }
 
-pub fn put_report(r: Report, out: &mut [u8], at: usize) -> usize
-    ensures { λ r. ⌜ r ≤ max at (length (now (out .entry))) ⌝ }
+// The line is cut at its first TAB; without one nothing follows the template.
+fn answer_whole(mode: Mode, line: &[u8], out: &mut [u8], at: usize) -> usize
+    ensures { λ r. ⌜ Answered (now (out .entry)) at (wholeAnswer mode (now (line .entry))) (now (out .exit)) r ⌝ }
 {
-    let number = line_buffers::put_decimal(r.number as i64, out, at);
-    let pattern = put_pattern(r.pattern, out, number);
-    let first = put_number(r.first, out, pattern);
-    put_number(r.second, out, first)
+    let len = line.len();
+    if LINE < len {
+        return answer_too_long(out, at);
+    }
+    let cut = line_buffers::find(line, 0, b'\t');
+    if cut < len {
+        return answer_pair(mode, &line[0..cut], &line[cut + 1..], out, at);
+    }
+    answer_pair(mode, line, b"", out, at)
+}
+
+// Puts the answer to a line at `at` and gives the place after it.
+pub fn answer(mode: Mode, line: &[u8], out: &mut [u8], at: usize) -> usize
+    ensures { λ r. ⌜ Answered (now (out .entry)) at (answerLine mode (now (line .entry))) (now (out .exit)) r ⌝ }
+{
+    let len = counted(mode, line);
+    answer_whole(mode, &line[0..len], out, at)
+}
+
+// The answer to a line that is too long; of such a line the beginning may have been left off.
+pub fn answer_too_long(out: &mut [u8], at: usize) -> usize
+    ensures { λ r. ⌜ Answered (now (out .entry)) at tooLongAnswer (now (out .exit)) r ⌝ }
+{
+    items::put_report(base_refusals::report_of(Refusal::TooLong), out, at)
 }

@@ -1,12 +1,13 @@
 -- The digits of a number, found from the last on: those of what is left, then those stored, are the number's (`Spelt`).
 -- `begun`: so it is when the last digit is stored. `more`: so it stays with one digit more, for which there is room
--- (`place`). `ended`: where nothing is left, the digits stored are the number's. Assumes nothing.
+-- (`place`). `ended`: where nothing is left, the digits stored are the number's.
+-- `digits-length`: a number below a power of ten has no more digits than the power says. Assumes nothing.
 use mathlib.Core.Path.{_≡_, _∙_, refl, sym, ap}
 use mathlib.Core.List.{List, [], _∷_, _++_, append-assoc}
 use Prim.Native.Nat.{ℕ, zero, suc, _+_, _-_, _*_, _/_, _%_, _^_, _<_, _≤_}
 use native.Mathlib.Nat.{pow-suc}
 use native.Mathlib.Omega.{arith}
-use lib.ListN.{length, drop, set, length-set, drop-of-length-le}
+use lib.ListN.{length, drop, set, length-append, length-set, drop-of-length-le}
 use lib.Seq.{drop-cons, drop-set-lt, getD-set-same}
 use Rattle.line_buffers.specs.Decimal.{digit, significant, digits}
 
@@ -28,6 +29,18 @@ enough (suc j) (suc k) (suc n) h i = rw (enough j k (suc n / 10) (tenth j (suc n
 below-power : (n : ℕ) → n < 10 ^ n
 below-power zero = omega arith
 below-power (suc n) = let h = below-power n in rw (pow-suc 10 n) (omega arith)
+
+-- no more digits than are asked for
+significant-length : (k n : ℕ) → length (significant k n) ≤ k
+unfolding significant
+significant-length zero n = omega arith
+significant-length (suc k) zero = omega arith
+significant-length (suc k) (suc n) = rw length-append (omega (arith, significant-length k (suc n / 10)))
+
+pub digits-length : (k n : ℕ) → n < 10 ^ suc k → length (digits n) ≤ suc k
+unfolding digits
+digits-length k n h =
+    rw (length-append, enough n k (n / 10) (omega (arith, below-power n)) (tenth k n h)) (omega (arith, significant-length k (n / 10)))
 
 -- of 0 there are none
 none : (k : ℕ) → significant k 0 ≡ []

@@ -1,7 +1,7 @@
 -- The magnitude of a number of 64 bits, by its sign.
 -- `positive`, `negative`: what the code casts, x or -1 - x with 1 more, fits and is the magnitude (`Cast`).
 -- `positive-text`, `negative-text`: the number in decimal is the digits of its magnitude, below 0 after a minus sign.
--- Assumes nothing.
+-- `decimal-length`: in decimal it has at most 20 bytes. Assumes nothing.
 use mathlib.Core.Path.{_≡_, ap, subst}
 use mathlib.Core.Bool.{true, false}
 use mathlib.Core.List.{_∷_}
@@ -10,10 +10,12 @@ use native.Mathlib.Omega.{arith}
 use borrow.Author.Tests.{le-ltb, ltb-true}
 use lib.Dec.{T}
 use lib.IntN.{ℤ, pos, negsuc, natAbs, _-ℤ_}
+use lib.ListN.{length}
 use lib.Signed.{ltZ, nonNeg}
 use mir.Syntax.{w64}
 use mir.Val.{Fits, SFits}
 use Rattle.line_buffers.specs.Decimal.{digits, decimal}
+use Rattle.line_buffers.proofs.Digits.{digits-length}
 
 -- y can be cast, and with n more it is the magnitude of x
 pub record Cast (x y : ℤ) (n : ℕ) : Type 0 where
@@ -40,3 +42,8 @@ positive-text (negsuc n) m h e = absurd (subst T e tt)
 pub negative-text : (x : ℤ) (n : ℕ) → n ≡ natAbs x → ltZ x (pos 0) ≡ true → decimal x ≡ 45 ∷ digits n
 negative-text (pos n) m h e = absurd (let l = ltb-true n 0 e in omega arith)
 negative-text (negsuc n) m h e = rw h
+
+-- a minus sign and 19 digits at most
+pub decimal-length : (x : ℤ) → SFits w64 x → length (decimal x) ≤ 20
+decimal-length (pos n) f = omega (arith, digits-length 18 n (omega arith))
+decimal-length (negsuc n) f = omega (arith, digits-length 18 (suc n) (omega arith))

@@ -3,3 +3,5 @@
 mod Hex
 -- numbers of 64 bits that 32 hold
 mod Narrowing
+-- the items of a text, one after another
+pub mod Items

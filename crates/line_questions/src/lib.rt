@@ -1,6 +1,8 @@
 // The items of a question: numbers, a place in a text, and the bytes of a text in hexadecimal digits, `-` for none.
-ghost use Prim.Native.Nat.{_^_, _≤_, _<_};
-ghost use lib.ListN.{length};
+ghost use mathlib.Core.Path.{_≡_};
+ghost use mathlib.Core.List.{[]};
+ghost use Rattle.line_numbers.specs.declared.Number.the-variants.{Value};
+ghost use Rattle.line_questions.specs.Items.{ReadBytes, noPlace, numbers, numbersAt, placeAt, placeOf};
 use line_numbers::Int;
 use line_numbers::Number;
 
@@ -10,18 +12,27 @@ pub struct Numbers {
     pub count: usize,
 }
 
+fn no_numbers() -> Numbers
+    ensures { λ r. ⌜ r ≡ numbers [] ⌝ }
+{
+    let values = [0i32; 3];
+    Numbers { values, count: 0 }
+}
+
 // The numbers of the items from `from` on, where the first one's separator is.
-pub fn read_numbers(line: &[u8], from: usize) -> Numbers {
+pub fn read_numbers(line: &[u8], from: usize) -> Numbers
+    ensures { λ r. ⌜ r ≡ numbersAt (now (line .entry)) from ⌝ }
+{
     let mut values = [0i32; 3];
     let mut count: usize = 0;
     let mut at = from;
     while at < line.len() {
         let end = line_buffers::find(line, at + 1, b' ');
         let Int::Value(n) = line_numbers::read_int(&line[at + 1..end]) else {
-            return Numbers { values, count: 0 };
+            return no_numbers();
         };
         if 2 < count {
-            return Numbers { values, count: 0 };
+            return no_numbers();
         }
         values[count] = n;
         count += 1;
@@ -30,11 +41,13 @@ pub fn read_numbers(line: &[u8], from: usize) -> Numbers {
     Numbers { values, count }
 }
 
+// Where a text is malformed, `count` is 0.
 pub struct Bytes {
     pub count: usize,
     pub malformed: bool,
 }
 
+// Where a place is malformed, its `end` is where its separator is.
 pub struct Place {
     pub at: usize,
     pub end: usize,
@@ -43,7 +56,7 @@ pub struct Place {
 
 // The last item of a line, before which a separator is at `from`: its bytes go into `text`.
 pub fn read_bytes(line: &[u8], from: usize, text: &mut [u8]) -> Bytes
-    ensures { λ r. ⌜ r .count ≤ length (now (text .exit)) ⌝ }
+    ensures { λ r. ⌜ ReadBytes (now (line .entry)) from (now (text .entry)) (now (text .exit)) r ⌝ }
 {
     let none = Bytes {
         count: 0,
@@ -53,32 +66,41 @@ pub fn read_bytes(line: &[u8], from: usize, text: &mut [u8]) -> Bytes
         return none;
     }
     let item = &line[from + 1..];
+    let count = line_numbers::put_hex(item, text, 0);
     if check::same(item, b"-") {
         return Bytes {
             count: 0,
             malformed: false,
         };
     }
-    let count = line_numbers::put_hex(item, text, 0);
     if item.len() % 2 == 1 {
+        return none;
+    }
+    if count != item.len() / 2 {
         return none;
     }
     Bytes {
         count,
-        malformed: count != item.len() / 2,
+        malformed: false,
     }
 }
 
-// A number that is read up to `end`, as a place.
-fn place_of(n: i64, end: usize) -> Place
-    ensures { λ r. ⌜ r .at < 2 ^ 63 ⌝ }
+fn no_place(from: usize) -> Place
+    ensures { λ r. ⌜ r ≡ noPlace from ⌝ }
+{
+    Place {
+        at: 0,
+        end: from,
+        malformed: true,
+    }
+}
+
+// The number of an item from `from` to `end`, as a place.
+fn place_of(n: i64, from: usize, end: usize) -> Place
+    ensures { λ r. ⌜ r ≡ placeOf (Value n) from end ⌝ }
 {
     if n < 0 {
-        return Place {
-            at: 0,
-            end,
-            malformed: true,
-        };
+        return no_place(from);
     }
     Place {
         at: n as usize,
@@ -89,19 +111,14 @@ fn place_of(n: i64, end: usize) -> Place
 
 // The next item of a line as a place in a text, and where that item ends.
 pub fn read_place(line: &[u8], from: usize) -> Place
-    ensures { λ r. ⌜ r .at < 2 ^ 63 ⌝ }
+    ensures { λ r. ⌜ r ≡ placeAt (now (line .entry)) from ⌝ }
 {
-    let none = Place {
-        at: 0,
-        end: from,
-        malformed: true,
-    };
     if line.len() <= from {
-        return none;
+        return no_place(from);
     }
     let end = line_buffers::find(line, from + 1, b' ');
     match line_numbers::read_number(&line[from + 1..end]) {
-        Number::Value(n) => place_of(n, end),
-        Number::Malformed => none,
+        Number::Value(n) => place_of(n, from, end),
+        Number::Malformed => no_place(from),
     }
 }

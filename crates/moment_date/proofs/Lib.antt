@@ -3,5 +3,7 @@
 pub mod Held
 -- a bit that is not set in a mask was not set in its parts
 pub mod Bits
--- a month or a day that is not marked as set is 1
+-- a year that is not marked as set is 0, a month or a day is 1
 pub mod Marks
+-- a date that is refused names no pattern
+pub mod Unnamed

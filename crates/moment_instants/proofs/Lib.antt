@@ -10,3 +10,7 @@ pub mod Seconds
 mod Rounding
 -- for the years 1 to 9999 the instant and the day are the calendar's
 pub mod Plain
+-- why there is no instant or no day names no pattern, or one of the template's
+pub mod Own
+-- every instant and day of an answer is in range, or refused by its number
+pub mod Ranges

@@ -1,6 +1,6 @@
 -- Sums tested against the ends of the 64-bit range before they are made. Assumes nothing.
--- `first`, `last`: the numbers next to the ends. `too-late`, `between`: a number past `last` is refused, one that is
--- past neither is an instant.
+-- `first`, `last`: the numbers next to the ends. `finite-is`: a number that is past neither of them is `finite`.
+-- `too-late`, `between`: a number past `last` is refused, one that is past neither is an instant.
 -- `above-fits`, `over`, `up-fits`, `up-within`: for a positive b, last - b fits 64 bits; where it is below a, the sum
 -- a + b is refused; where it is not, the sum fits and is an instant.
 -- `below-fits`, `under`, `down-fits`, `down-within`: the same for any other b, by first - b.
@@ -40,7 +40,7 @@ sub-small a b H f g = by (ltb a b) refl
     by false e = omega arith
 
 -- neither end of the range, by the numbers next to them
-finite-is : (z : ℤ) → finite z ≡ (not (ltZ last z) && not (ltZ z first))
+pub finite-is : (z : ℤ) → finite z ≡ (not (ltZ last z) && not (ltZ z first))
 finite-is (pos n) = by (ltb 9223372036854775806 n) refl
   where
     by : (t : Bool) → ltb 9223372036854775806 n ≡ t → finite (pos n) ≡ (not t && true)

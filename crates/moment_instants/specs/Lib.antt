@@ -8,3 +8,5 @@ pub mod Instant
 pub mod Plain
 -- the number of each refusal
 pub mod Report
+-- what every instant and day keeps to
+pub mod Ranges

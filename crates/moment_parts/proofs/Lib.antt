@@ -4,3 +4,5 @@
 pub mod Ranges
 -- the answer by its first tests: limits, and UTF-8
 pub mod Limits
+-- a refusal names no pattern, or one of the template's
+pub mod Patterns

@@ -1,16 +1,17 @@
 -- Every answer is a moment in range or a refusal by its number. From the definitions alone; assumes nothing.
--- `answered`: for any template and input, of any bytes and length, the answer is a moment in range or a refusal by a
--- number from 1 to 16.
+-- `parts-by-answered`: for any nodes, template and input, of any bytes and length, the answer is a moment in range or a
+-- refusal by a number from 1 to 16. `answered`: the same by a template.
 -- `parts-in-range`: so the parts of every moment that is answered are in range.
--- `moment-answered`, `moment-in-range`: the same for any fields, however they were read.
+-- `moment-answered`, `moment-in-range`: the same for any fields whose digits of a fraction are 0 to 6, however they were
+-- read.
 -- `numbered`: every refusal has a number from 1 to 16.
 use mathlib.Core.Path.{_≡_, refl, sym, _∙_, ap, subst}
 use mathlib.Core.Bool.{Bool, true, false, not, _&&_, _||_, false≢true}
 use mathlib.Core.List.{List}
-use Prim.Native.Nat.{ℕ, _≤_}
+use Prim.Native.Nat.{ℕ, _≤_, _<_, zero-le}
 use native.Mathlib.Omega.{arith}
-use borrow.Author.Tests.{eq-eqb, le-ltb}
-use lib.Dec.{ltb}
+use borrow.Author.Tests.{eqb-true, eq-eqb, le-ltb}
+use lib.Dec.{eqb, ltb}
 use lib.IntN.{ℤ, pos, negℤ, natAbs}
 use lib.ListN.{length}
 use lib.Signed.{ltZ}
@@ -22,17 +23,18 @@ use Rattle.base_refusals.specs.declared.Refusal.the-variants.{TooLong, NotUtf8,
 use Rattle.base_chars.specs.Utf8.{wellFormed}
 use Rattle.calendar_gregorian.specs.Civil.{lengthOf}
 use Rattle.calendar_gregorian.specs.Gregorian.{isLeap}
-use Rattle.read_fields.specs.Fields.{get, isZero, tzsign, tzh, tzm}
+use Rattle.read_fields.specs.Fields.{get, isZero, tzsign, tzh, tzm, ff}
 use Rattle.read_input.specs.Reader.{readAll}
 use Rattle.read_fields.specs.declared.Fields.{Fields}
 use Rattle.read_fields.specs.declared.Reading.{Reading}
 use Rattle.read_fields.specs.declared.Verdict.{Verdict}
 use Rattle.read_fields.specs.declared.Verdict.the-variants.{Read, Refused as Stopped}
 use Rattle.template_nodes.specs.Template.{nodesOf}
-use Rattle.moment_date.specs.Dates.{monthBit, dayBit, allBits, isSet, outside, partInRange, dayInMonth, dateInRange, datedOf}
-use Rattle.moment_parts.specs.Parts.{templateLimit, inputLimit, withOffset, checkedMoment, thenMoment, thenMicros, thenDate, momentOf, thenFields, partsOf}
+use Rattle.template_nodes.specs.declared.Node.{Node}
+use Rattle.moment_date.specs.Dates.{yearBit, monthBit, dayBit, allBits, isSet, outside, partInRange, dayInMonth, dateInRange, datedOf}
+use Rattle.moment_parts.specs.Parts.{templateLimit, inputLimit, withOffset, checkedMoment, thenMoment, thenMicros, thenDate, momentOf, thenFields, partsBy, partsOf}
 use Rattle.moment_sums.specs.Within.{Within, below}
-use Rattle.moment_parts.specs.Ranges.{OffsetWithin, maskOf, HasDay, InRange, Answered, fieldsOf}
+use Rattle.moment_parts.specs.Ranges.{OffsetWithin, maskOf, HasDay, InRange, Answered, fieldsBy, fieldsOf}
 use Rattle.moment_time.specs.Time.{minuteOf, secondOf, clockHour, microsOf, timeInRange, eastOf, offsetOf, offsetInRange, checkedOffset}
 use Rattle.moment_parts.specs.declared.Answer.{Answer}
 use Rattle.moment_parts.specs.declared.Answer.the-variants.{Moment, Refused}
@@ -44,6 +46,9 @@ use Rattle.moment_parts.specs.declared.Parts.{Parts}
 use Rattle.moment_sums.specs.declared.Value.{Value}
 use Rattle.moment_sums.specs.declared.Value.the-variants.{Is, Not}
 use Rattle.moment_time.specs.declared.Zoned.the-variants.{At, Refused as NoZone}
+use Rattle.calendar_gregorian.proofs.Dates.{each, length-range}
+use Rattle.calendar_gregorian.proofs.Months.{month-length}
+use Rattle.read_input.proofs.Precision.{read-precise}
 use Rattle.moment_date.proofs.Marks.{Marked, MarkedDate, marked}
 use Rattle.moment_time.proofs.Offsets.{seconds, east-range, west-range}
 use Rattle.moment_sums.proofs.Tests.{failed, passed}
@@ -103,6 +108,33 @@ in-month r w e m =
     within (r .day) (rw (w .is) (le-ltb (w .at) 1 (w .from)))
     (failed (ltZ (pos (lengthOf (isLeap (natAbs (r .year))) (r .month))) (r .day)) (rw (eq-eqb (r .set) allBits m) at e))
 
+-- a mask below 8 with all three bits is the mask of all bits: the test computes
+full : ℕ → Bool
+full n = not (isSet yearBit n && (isSet monthBit n && isSet dayBit n)) || eqb n allBits
+
+all-set : (set : ℕ) → set < 8 → isSet yearBit set ≡ true → isSet monthBit set ≡ true → isSet dayBit set ≡ true → set ≡ allBits
+unfolding full
+all-set set h y m d =
+    let full-mask = each (λ n. full n ≡ true) 0 7 (refl, (refl, (refl, (refl, (refl, (refl, (refl, refl))))))) set zero-le (omega arith) in
+    eqb-true set allBits (rw (y, m, d) at full-mask)
+
+-- every month has a first day, and January has 31 days: in a year other than 0 the month has the day
+dated : (r : Days) → Marked r → Within 1 12 (r .month) → Within 1 31 (r .day)
+    → (r .set ≡ allBits → Within 1 (lengthOf (isLeap (natAbs (r .year))) (r .month)) (r .day)) → (r .year ≡ pos 0 → ⊥)
+    → Within 1 (lengthOf (isLeap (natAbs (r .year))) (r .month)) (r .day)
+dated r marks month day whole year =
+    split (isSet yearBit (r .set)) (isSet monthBit (r .set)) (isSet dayBit (r .set)) refl refl refl
+  where
+    split : (y m d : Bool) → isSet yearBit (r .set) ≡ y → isSet monthBit (r .set) ≡ m → isSet dayBit (r .set) ≡ d
+        → Within 1 (lengthOf (isLeap (natAbs (r .year))) (r .month)) (r .day)
+    split false m d p q s = absurd (year (marks .year p))
+    split true false d p q s = rw (marks .month q) day
+    split true true false p q s =
+        let range = length-range (natAbs (r .year)) (month .at) (month .from) (month .to) in
+        let same = month-length (natAbs (r .year)) (month .at) (month .from) in
+        record { at = 1; is = marks .day s; from = omega arith; to = rw (month .is, same) (omega arith) }
+    split true true true p q s = whole (all-set (r .set) (marks .mask) p q s)
+
 -- no test failed
 neither : (a b : Bool) → (not a || not b) ≡ false → (a ≡ true) × (b ≡ true)
 neither true true e = (refl, refl)
@@ -110,7 +142,7 @@ neither true false e = absurd (false≢true (sym e))
 neither false b e = absurd (false≢true (sym e))
 
 -- what the checks leave is in range
-module _ (f : Fields) (r : Days) (hour us : ℤ) (date : datedOf f ≡ Date r) (m : Marked r) where
+module _ (f : Fields) (few : Within 0 6 (get f ff)) (r : Days) (hour us : ℤ) (date : datedOf f ≡ Date r) (m : Marked r) where
   in-range-of : dateInRange r ≡ true → timeInRange hour (minuteOf f) (secondOf f) us ≡ true → offsetInRange f ≡ true
       → Answered f (withOffset f r hour us (At (offsetOf f)))
   unfolding dateInRange timeInRange
@@ -121,15 +153,24 @@ module _ (f : Fields) (r : Days) (hour us : ℤ) (date : datedOf f ≡ Date r) (
       let second-test = both (below hour 24 && below (minuteOf f) 60) (below (secondOf f) 60) (micros-test .0) in
       let hour-minute = both (below hour 24) (below (minuteOf f) 60) (second-test .0) in
       let day = part-within (r .set) dayBit 31 (r .day) (omega arith) (m .day) (day-test .0) in
+      let month = part-within (r .set) monthBit 12 (r .month) (omega arith) (m .month) (month-test .0) in
+      let whole = in-month r day (day-test .1) in
+      let set-is : maskOf (datedOf f) ≡ r .set = ap maskOf date in
       record {
         hour = from-zero hour (hour-minute .0);
         minute = from-zero (minuteOf f) (hour-minute .1);
         second = from-zero (secondOf f) (second-test .1);
         micros = from-zero us (micros-test .1);
-        month = part-within (r .set) monthBit 12 (r .month) (omega arith) (m .month) (month-test .0);
+        precision = few;
+        month = month;
         day = day;
         offset = offset-within f o;
-        in-month = λ e. in-month r day (day-test .1) (sym (ap maskOf date) ∙ e);
+        mask = rw set-is (m .mask);
+        no-year = λ e. m .year (rw set-is at e);
+        no-month = λ e. m .month (rw set-is at e);
+        no-day = λ e. m .day (rw set-is at e);
+        in-month = λ e. whole (sym set-is ∙ e);
+        dated = dated r m month day whole;
       }
 
   checked-answered : Answered f (checkedMoment f r hour us)
@@ -141,39 +182,55 @@ module _ (f : Fields) (r : Days) (hour us : ℤ) (date : datedOf f ≡ Date r) (
       by-if (λ z. Answered f (withOffset f r hour us z)) (offsetInRange f) (At (offsetOf f)) (NoZone OffsetRange) (λ o. in-range-of (tests .0) (tests .1) o) (λ o. numbered OffsetRange))
 
 -- each step of the definition, on what the one before left
-then-moment : (f : Fields) (r : Days) (hour : ℤ) (v : Value) → datedOf f ≡ Date r → Marked r → Answered f (thenMoment f r hour v)
-then-moment f r hour (Not why) date m = numbered why
-then-moment f r hour (Is us) date m = checked-answered f r hour us date m
+module _ (f : Fields) (few : Within 0 6 (get f ff)) where
+  then-moment : (r : Days) (hour : ℤ) (v : Value) → datedOf f ≡ Date r → Marked r → Answered f (thenMoment f r hour v)
+  then-moment r hour (Not why) date m = numbered why
+  then-moment r hour (Is us) date m = checked-answered f few r hour us date m
 
-then-micros : (f : Fields) (hour : ℤ) (a : Dated) → datedOf f ≡ a → MarkedDate a → Answered f (thenMicros f hour a)
-then-micros f hour (NoDate why) date m = numbered why
-then-micros f hour (Date r) date m = then-moment f r hour (microsOf f) date m
+  then-micros : (hour : ℤ) (a : Dated) → datedOf f ≡ a → MarkedDate a → Answered f (thenMicros f hour a)
+  then-micros hour (NoDate why) date m = numbered why
+  then-micros hour (Date r) date m = then-moment r hour (microsOf f) date m
 
-then-date : (f : Fields) (v : Value) → Answered f (thenDate f v)
-then-date f (Not why) = numbered why
-then-date f (Is hour) = then-micros f hour (datedOf f) refl (marked f)
+  then-date : (v : Value) → Answered f (thenDate f v)
+  then-date (Not why) = numbered why
+  then-date (Is hour) = then-micros hour (datedOf f) refl (marked f)
 
--- for all fields
-pub moment-answered : (f : Fields) → Answered f (momentOf f)
-unfolding momentOf
-moment-answered f = then-date f (clockHour f)
+  -- for all fields
+  pub moment-answered : Answered f (momentOf f)
+  unfolding momentOf
+  moment-answered = then-date (clockHour f)
 
-pub moment-in-range : (f : Fields) {p : Parts} → momentOf f ≡ Moment p → InRange f p
-moment-in-range f e = subst (Answered f) e (moment-answered f)
+  pub moment-in-range : {p : Parts} → momentOf f ≡ Moment p → InRange f p
+  moment-in-range e = subst (Answered f) e moment-answered
 
-then-fields : (v : Verdict) (f : Fields) → Answered f (thenFields v f)
-then-fields Read f = moment-answered f
-then-fields (Stopped why) f = numbered why
+  then-fields : (v : Verdict) → Answered f (thenFields v f)
+  then-fields Read = moment-answered
+  then-fields (Stopped why) = numbered why
 
--- for all templates and inputs, of any bytes and length
+-- for all nodes, templates and inputs, of any bytes and length
+module _ (ns : List Node) (t s : List ℕ) where
+  -- an input that is not too long and is UTF-8
+  read-answered : Answered (fieldsBy ns t s) (thenFields (readAll t s ns .verdict) (fieldsBy ns t s))
+  read-answered =
+      let few = read-precise t s ns in
+      then-fields (fieldsBy ns t s) (record { at = few .at; is = few .is; from = zero-le; to = few .to }) (readAll t s ns .verdict)
+
+  -- the two tests before that
+  tested : (long bad : Bool)
+      → Answered (fieldsBy ns t s) (if long then Refused TooLong else if bad then Refused NotUtf8 else thenFields (readAll t s ns .verdict) (fieldsBy ns t s))
+  tested true bad = numbered TooLong
+  tested false true = numbered NotUtf8
+  tested false false = read-answered
+
+  pub parts-by-answered : Answered (fieldsBy ns t s) (partsBy ns t s)
+  unfolding partsBy
+  parts-by-answered = tested (ltb inputLimit (length s)) (not (wellFormed s))
+
+-- by a template
 module _ (t s : List ℕ) where
   pub answered : Answered (fieldsOf t s) (partsOf t s)
   unfolding partsOf
-  answered =
-      let reading = readAll t s (nodesOf t) in
-      by-if (Answered (reading .fields)) (ltb templateLimit (length t) || ltb inputLimit (length s)) (Refused TooLong) _ (λ e. numbered TooLong)
-      (λ e. by-if (Answered (reading .fields)) (not (wellFormed t && wellFormed s)) (Refused NotUtf8) (thenFields (reading .verdict) (reading .fields)) (λ e. numbered NotUtf8)
-      (λ e. then-fields (reading .verdict) (reading .fields)))
+  answered = tested (nodesOf t) t s (ltb templateLimit (length t) || ltb inputLimit (length s)) (not (wellFormed t && wellFormed s))
 
   pub parts-in-range : {p : Parts} → partsOf t s ≡ Moment p → InRange (fieldsOf t s) p
   parts-in-range e = subst (Answered (fieldsOf t s)) e answered

@@ -1,53 +1,78 @@
--- Worked examples: the table P1 to P15, proved in one statement.
+-- Worked examples: the table P1 to P15, proved in one statement. Each answer is as users see it: the numbers of a
+-- moment, or a refusal's number, the name of its pattern and its two figures.
 use mathlib.Core.Path.{_≡_, refl}
-use mathlib.Core.List.{List, [], _∷_}
+use mathlib.Core.List.{List}
 use Prim.Native.Nat.{ℕ}
 use Prim.Native.String.{String}
-use lib.IntN.{ℤ, pos, negsuc}
+use lib.IntN.{ℤ, pos}
 use Rattle.moment_date.specs.Dates.{date-computes}
 use Rattle.moment_time.specs.Time.{time-computes}
 use Rattle.read_input.specs.Examples.{reading-computes}
 use Rattle.base_notation.specs.Text.{utf8}
-use Rattle.base_refusals.specs.declared.Refusal.the-variants.{Conflict, NotInteger, HourOfTwelve, NoYear, FieldOverflow, OffsetRange}
+use Rattle.base_refusals.specs.Report.{reportOf}
+use Rattle.base_refusals.specs.declared.Report.{Report}
 use Rattle.base_chars.specs.Utf8.{sequence, wellFormedAfter}
 use Rattle.moment_parts.specs.Parts.{checkedMoment, momentOf, partsOf}
+use Rattle.moment_parts.specs.Patterns.{patternName}
 use Rattle.moment_parts.specs.declared.Answer.{Answer}
 use Rattle.moment_parts.specs.declared.Answer.the-variants.{Moment, Refused}
+use Rattle.moment_parts.specs.declared.Parts.{Parts}
 use Rattle.moment_time.specs.declared.Offset.{Offset}
 use Rattle.moment_time.specs.declared.Offset.the-variants.{Absent, East}
 
--- an answer to a template and an input
-abbrev pub reads : String → String → Answer
-reads t s = partsOf (utf8 t) (utf8 s)
+-- what users see: the parts of a moment, or a refusal by its number, its pattern's name and two figures
+pub data Shown : Type 0 where
+  accepted : Parts → Shown
+  refused : (number : ℕ) (name : List ℕ) (first second : ℤ) → Shown
+
+-- a report and an answer, as they are shown
+abbrev pub reported : Report → Shown
+reported r = refused (r .number) (patternName (r .pattern)) (r .first) (r .second)
+
+abbrev pub shown : Answer → Shown
+shown (Moment p) = accepted p
+shown (Refused why) = reported (reportOf why)
+
+-- what users see for a template and an input
+abbrev pub reads : String → String → Shown
+reads t s = shown (partsOf (utf8 t) (utf8 s))
 
 -- a moment by its year, month, day, hour, microseconds and offset; minute, second and precision are 0
-abbrev pub moment : ℤ → ℕ → ℕ → ℕ → ℕ → Offset → Answer
+abbrev pub moment : ℕ → ℕ → ℕ → ℕ → ℕ → Offset → Shown
 moment y m d h us offset =
-    Moment (record { year = y; month = pos m; day = pos d; hour = pos h; minute = pos 0; second = pos 0; micros = pos us; precision = pos 0; offset = offset })
+    accepted (record { year = pos y; month = pos m; day = pos d; hour = pos h; minute = pos 0; second = pos 0; micros = pos us; precision = pos 0; offset = offset })
 
 -- a moment at midnight, without an offset
-abbrev pub date : ℤ → ℕ → ℕ → Answer
+abbrev pub date : ℕ → ℕ → ℕ → Shown
 date y m d = moment y m d 0 0 Absent
 
-pub table
-    : (reads "" "abc" ≡ date (pos 0) 1 1)  -- P1
-    × (reads "YYYY" "" ≡ date (pos 0) 1 1)  -- P2
-    × (reads "MM-DD" "02-30" ≡ date (pos 0) 2 30)  -- P3
-    × (reads "YYYY-MM-DD" "2023-02-29" ≡ Refused FieldOverflow)  -- P4
-    × (reads "Day Dy" "Monday Mon" ≡ Refused (Conflict 12))  -- P5
-    × (reads "Day Dy" "Monday Tue" ≡ date (pos 0) 1 1)  -- P6
-    × (reads "HH12" "0" ≡ Refused (HourOfTwelve (pos 0)))  -- P7
-    × (reads "HH12 PM" "12 AM" ≡ date (pos 0) 1 1)  -- P8
-    × (reads "YY" "69" ≡ date (pos 2069) 1 1)  -- P9
-    × (reads "YY" "70" ≡ date (pos 1970) 1 1)  -- P9
-    × (reads "MS" "5" ≡ moment (pos 0) 1 1 0 500000 Absent)  -- P10
-    × (reads "IYYY-IW-ID" "2020-53-5" ≡ date (pos 2021) 1 1)  -- P11
-    × (reads "OF" "+15:59" ≡ moment (pos 0) 1 1 0 0 (East (pos 57540)))  -- P12
-    × (reads "OF" "+16" ≡ Refused OffsetRange)  -- P12
-    × (reads "CC YY" "21 00" ≡ date (pos 2100) 1 1)  -- P13
-    × (reads "YYYY DDD" "-1 5" ≡ Refused NoYear)  -- P14
-    × (reads "\"ngày\"DD" "ngày05" ≡ date (pos 0) 1 5)  -- P15
+-- a refusal by its number, its pattern's name and two figures that are not negative
+abbrev pub refusal : ℕ → String → ℕ → ℕ → Shown
+refusal number name first second = refused number (utf8 name) (pos first) (pos second)
+
+-- the table, one statement
+abbrev pub Table : Type 0
+Table =
+    (reads "" "abc" ≡ date 0 1 1)  -- P1
+    × (reads "YYYY" "" ≡ date 0 1 1)  -- P2
+    × (reads "MM-DD" "02-30" ≡ date 0 2 30)  -- P3
+    × (reads "YYYY-MM-DD" "2023-02-29" ≡ refusal 15 "-" 0 0)  -- P4
+    × (reads "Day Dy" "Monday Mon" ≡ refusal 4 "Dy" 0 0)  -- P5
+    × (reads "Day Dy" "Monday Tue" ≡ date 0 1 1)  -- P6
+    × (reads "HH12" "0" ≡ refusal 13 "-" 0 0)  -- P7: the first figure is the hour
+    × (reads "HH12 PM" "12 AM" ≡ date 0 1 1)  -- P8
+    × (reads "YY" "69" ≡ date 2069 1 1)  -- P9
+    × (reads "YY" "70" ≡ date 1970 1 1)  -- P9
+    × (reads "MS" "5" ≡ moment 0 1 1 0 500000 Absent)  -- P10
+    × (reads "IYYY-IW-ID" "2020-53-5" ≡ date 2021 1 1)  -- P11
+    × (reads "OF" "+15:59" ≡ moment 0 1 1 0 0 (East (pos 57540)))  -- P12
+    × (reads "OF" "+16" ≡ refusal 16 "-" 0 0)  -- P12
+    × (reads "CC YY" "21 00" ≡ date 2100 1 1)  -- P13
+    × (reads "YYYY DDD" "-1 5" ≡ refusal 14 "-" 0 0)  -- P14
+    × (reads "\"ngày\"DD" "ngày05" ≡ date 0 1 5)  -- P15
     -- P15 again: the input alone has a and U+0300 apart, two characters that look like the à of the template
-    × (reads "\"ngày\"DD" "ngày05" ≡ Refused (NotInteger 9))
-unfolding partsOf momentOf checkedMoment wellFormedAfter sequence reading-computes time-computes date-computes
+    × (reads "\"ngày\"DD" "ngày05" ≡ refusal 7 "DD" 0 0)
+
+pub table : Table
+unfolding partsOf momentOf checkedMoment reportOf patternName wellFormedAfter sequence reading-computes time-computes date-computes
 table = (refl, refl, refl, refl, refl, refl, refl, refl, refl, refl, refl, refl, refl, refl, refl, refl, refl, refl)

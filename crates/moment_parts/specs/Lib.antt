@@ -4,5 +4,7 @@
 pub mod Parts
 -- the range of each part, and the numbers of refusals
 pub mod Ranges
+-- which pattern a refusal names
+pub mod Patterns
 -- worked examples: the table P1 to P15
 pub mod Examples

@@ -11,3 +11,5 @@ pub mod Known
 mod Sums
 -- when a product fits an i32
 mod Products
+-- sums and products that are refused name no pattern
+pub mod Unnamed

@@ -3,3 +3,5 @@
 pub mod Offsets
 -- the second of the day, taken apart into hour, minute and second
 mod SecondOfDay
+-- an hour, a fraction or an offset that is refused names no pattern
+pub mod Unnamed

@@ -3,3 +3,5 @@
 pub mod Assigned
 -- the test whether a field holds another value
 pub mod Held
+-- the pattern that a refused reading names
+pub mod Own

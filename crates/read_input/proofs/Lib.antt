@@ -5,3 +5,7 @@ pub mod Verdicts
 pub mod Payable
 -- the loop over the nodes
 pub mod Turns
+-- a refusal of reading names a pattern of the nodes
+pub mod Own
+-- the digits of a fraction that are kept are 0 to 6
+pub mod Precision

@@ -5,3 +5,5 @@ pub mod Setting
 pub mod Ranges
 -- each answer of the code is the definition's, and what was read ends within the input
 pub mod Numbers
+-- a number that is refused names its own pattern
+pub mod Own

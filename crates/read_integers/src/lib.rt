@@ -34,7 +34,7 @@ pub fn is_next_separator(t: &[u8], n: Node, next: Node) -> bool
     if next.len != 1 {
         return true;
     }
-    !base_chars::is_digit_c(base_chars::byte_at(t, next.start as usize))
+    !base_chars::is_digit_c(base_notation::byte_at(t, next.start as usize))
 }
 
 // Whether the pattern `n` takes all digits that are there.

@@ -35,7 +35,7 @@ fn blank_passed(s: &[u8], p: Place) -> Place
 {
     let at = p.at;
     let extra = p.extra;
-    if base_chars::is_blank(base_chars::byte_at(s, at)) {
+    if base_chars::is_blank(base_notation::byte_at(s, at)) {
         return Place {
             at: at + 1,
             extra,

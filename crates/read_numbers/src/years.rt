@@ -41,7 +41,7 @@ fn scan_yyyy(t: &[u8]) -> Scanned
     if end == 0 {
         return Scanned::Missing;
     }
-    if base_chars::byte_at(t, end) != b',' {
+    if base_notation::byte_at(t, end) != b',' {
         return Scanned::Missing;
     }
     let from = base_strtol::past_spaces(t, end + 1);

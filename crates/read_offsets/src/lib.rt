@@ -36,7 +36,7 @@ fn sign_of(s: &[u8], p: Place) -> i32
     ensures { λ r. ⌜ r ≡ signOf (now (s .entry)) p ⌝ }
 {
     let at = p.at;
-    let b = base_chars::byte_at(s, at);
+    let b = base_notation::byte_at(s, at);
     if is_sign(b) {
         if b == b'-' {
             return -1;
@@ -49,7 +49,7 @@ fn sign_of(s: &[u8], p: Place) -> i32
     if at == 0 {
         return 1;
     }
-    if base_chars::byte_at(s, at - 1) == b'-' {
+    if base_notation::byte_at(s, at - 1) == b'-' {
         return -1;
     }
     1
@@ -59,7 +59,7 @@ fn past_sign(s: &[u8], at: usize) -> usize
     requires { ⌜ at ≤ length (now s) ⌝ }
     ensures { λ r. ⌜ Signed (now (s .entry)) at r ⌝ }
 {
-    if is_sign(base_chars::byte_at(s, at)) {
+    if is_sign(base_notation::byte_at(s, at)) {
         return at + 1;
     }
     at
@@ -90,7 +90,7 @@ fn colon_minutes(s: &[u8], n: Node, free: bool, rule: usize, f: &mut [i32; 24], 
         return state::read(p);
     }
     let at = p.at;
-    if base_chars::byte_at(s, at) != b':' {
+    if base_notation::byte_at(s, at) != b':' {
         return state::read(p);
     }
     let number = read_integers::strtol_number(s, at + 1, 2, n.pattern, free);
@@ -120,7 +120,7 @@ pub fn read_offset(
     ensures { λ r. ⌜ readInto r (now (f .exit)) ≡ readOffset (now (s .entry)) n free task (fieldsOf (now (f .entry))) p ⌝ }
 {
     let at = p.at;
-    if is_zone_letter(task.rule, base_chars::byte_at(s, at)) {
+    if is_zone_letter(task.rule, base_notation::byte_at(s, at)) {
         return state::refuse(Refusal::ZoneLetter { pattern: n.pattern }, p);
     }
     state::put(f, field::TZSIGN, sign_of(s, p));

@@ -3,3 +3,5 @@
 mod Letters
 -- the words of a list, searched in the rows of its table
 pub mod Words
+-- a pattern that reads a word and is refused names itself
+pub mod Own

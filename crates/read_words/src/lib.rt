@@ -67,10 +67,11 @@ fn word_stored(n: Node, task: Task, z: u8, next: usize, f: &mut [i32; 24], p: Pl
     requires { ⌜ (task .field < 24) × (z ≤ 12) ⌝ }
     ensures { λ r. ⌜ readInto r (now (f .exit)) ≡ wordStored n task z next (fieldsOf (now (f .entry))) p ⌝ }
 {
+    let kept = kept_word(task.rule, z);
     if state::holds_other(f, task.field, z as i32) {
         return state::refuse(Refusal::Conflict { pattern: n.pattern }, p);
     }
-    state::put(f, task.field, kept_word(task.rule, z) as i32);
+    state::put(f, task.field, kept as i32);
     noted_word(task.rule, f);
     state::read(state::at_place(p, next))
 }

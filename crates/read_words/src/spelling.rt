@@ -38,7 +38,7 @@ fn spelled(table: &[u8; 108], k: usize, s: &[u8], at: usize) -> usize
         if c == b' ' {
             return j;
         }
-        if folded(base_chars::byte_at(s, at + j)) != folded(c) {
+        if folded(base_notation::byte_at(s, at + j)) != folded(c) {
             return 0;
         }
         j += 1;

@@ -1,8 +1,6 @@
 // Answers questions about the ported functions: each line of standard input is one, and its answer is a line. A
 // question that is unknown or malformed is answered by `?`.
-mod calendar;
 mod questions;
-mod text;
 
 ghost use Prim.Native.Nat.{_≤_, _<_};
 ghost use lib.ListN.{length};

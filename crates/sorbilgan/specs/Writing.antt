@@ -13,11 +13,6 @@ use Rattle.write_text.specs.declared.Written.{Written}
 use Rattle.write_text.specs.declared.Written.the-variants.{Length, Refused}
 use Rattle.sorbilgan_records.specs.Records.{Recorded, accepted, valueRecord}
 
--- seven numbers as a moment
-abbrev pub moment : ℤ → ℤ → ℤ → ℤ → ℤ → ℤ → ℤ → Moment
-moment year month day hour minute second micros =
-    record { year = year; month = month; day = day; hour = hour; minute = minute; second = second; micros = micros }
-
 -- the value is the length of the text
 unfoldable pub writtenRecord : Written → List ℤ
 writtenRecord (Length n) = valueRecord accepted (pos n)

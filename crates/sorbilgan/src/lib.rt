@@ -9,7 +9,10 @@ ghost use Rattle.template_nodes.specs.Bytes.{nodesIn};
 ghost use Rattle.sorbilgan.specs.Compiled.{CompiledTo};
 ghost use Rattle.sorbilgan_records.specs.Records.{Recorded, dayRecord, instantRecord, partsRecord};
 use moment_parts::TEMPLATE_LIMIT;
+pub use names::sorbilgan_pattern;
 use template_nodes::NODE;
+pub use writing::sorbilgan_write;
+pub use writing::sorbilgan_write_by;
 
 // The parts of the moment that an input s has by a template t.
 #[no_mangle]

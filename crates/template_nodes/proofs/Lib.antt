@@ -7,3 +7,5 @@ pub mod Nodes
 pub mod Encoding
 -- the invariant of the compiler's loop
 pub mod Turns
+-- every template is covered by its nodes
+pub mod Cover

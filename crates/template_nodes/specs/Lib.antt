@@ -5,3 +5,5 @@ pub mod Template
 pub mod Examples
 -- nodes as bytes, six each
 pub mod Bytes
+-- nothing of a template is lost but quotes, backslashes, prefixes and suffixes
+pub mod Cover

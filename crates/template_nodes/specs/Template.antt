@@ -34,10 +34,10 @@ separator = 3
 abbrev pub space : ℕ
 space = 4
 
-abbrev quote : ℕ
+abbrev pub quote : ℕ
 quote = code "\""
 
-abbrev backslash : ℕ
+abbrev pub backslash : ℕ
 backslash = code "\\"
 
 -- the kind of a character outside quotes, by its first byte

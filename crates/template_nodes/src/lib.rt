@@ -110,7 +110,7 @@ fn char_place(t: &[u8], at: usize, quoted: bool) -> usize
         }
         return at;
     }
-    if base_chars::byte_at(t, at + 1) == b'"' {
+    if base_notation::byte_at(t, at + 1) == b'"' {
         return at + 1;
     }
     at

@@ -3,17 +3,19 @@
 -- `at-letter`, `at-space`: a byte of a name's row is the name's, or a space past it. `row-head`: a row's first byte.
 -- `matches-on`, `matches-not`, `matches-all`: a name is at a place if each byte is the same.
 -- `matches-by-length`: it is there exactly if `lengthAt` is not 0.
+-- `name-there`: a pattern's name that is at a place is in the text whole, as its bytes from there on.
 use mathlib.Core.Path.{_≡_, refl, _∙_, sym, ap}
 use mathlib.Core.Bool.{Bool, true, false, _&&_, not}
-use mathlib.Core.List.{List, [], _∷_}
-use Prim.Native.Nat.{ℕ, _+_, _*_, _<_, _≤_}
+use mathlib.Core.List.{List, [], _∷_, _++_}
+use Prim.Native.Nat.{ℕ, suc, _+_, _*_, _<_, _≤_}
 use native.Mathlib.Nat.{add-suc}
 use native.Mathlib.Numerals.{add-one}
 use native.Mathlib.Omega.{arith}
-use borrow.Author.Tests.{ne-eqb, eq-eqb, eqb-false, leb-true, ltb-true, ltb-false, not-true}
+use borrow.Author.Tests.{ne-eqb, eq-eqb, eqb-true, eqb-false, leb-true, ltb-true, ltb-false, not-true}
 use lib.Dec.{eqb, leb, ltb}
 use lib.ListN.{length, getD, drop, drop-of-length-le, List·getD-map}
 use lib.Seq.{drop-cons}
+use Rattle.base_notation.proofs.Bytes.{byte-within}
 use Rattle.base_notation.proofs.Cases.{both}
 use Rattle.base_notation.proofs.Table.{allFrom, entry}
 use Rattle.base_notation.specs.Choice.{if_then_else_}
@@ -106,3 +108,31 @@ module _ (name t : List ℕ) (at j : ℕ) where
   -- no byte is left: the name is there
   pub matches-all : length name ≤ j → matchesAt (drop j name) t (at + j) ≡ true
   matches-all h = rw (drop-of-length-le name h)
+
+-- a name is in t from a place on, and the rest of t after it
+pub record There (name t : List ℕ) (at : ℕ) : Type 0 where
+  pub within : at + length name ≤ length t
+  pub rest : drop at t ≡ name ++ drop (at + length name) t
+
+-- no byte of a name is 0, which is read past the end of a text
+abbrev positive : ℕ → ℕ → Bool
+positive j c = ltb 0 c
+
+bytes-there : (name t : List ℕ) (i at : ℕ) → allFrom positive i name ≡ true → at ≤ length t → matchesAt name t at ≡ true → There name t at
+bytes-there [] t i at p h e = let same : at + 0 ≡ at = omega arith in record { within = omega arith; rest = rw same }
+bytes-there (c ∷ cs) t i at p h e =
+    let positive-bytes = both (ltb 0 c) _ p in
+    let same-bytes = both (eqb (byteAt t at) c) _ e in
+    let byte : byteAt t at ≡ c = eqb-true _ _ (same-bytes .0) in
+    let inside : at < length t = byte-within t at (λ z. omega (arith, ltb-true 0 c (positive-bytes .0), byte)) in
+    let after = bytes-there cs t (suc i) (at + 1) (positive-bytes .1) (omega arith) (same-bytes .1) in
+    let same : at + 1 + length cs ≡ at + suc (length cs) = omega arith in
+    record {
+      within = omega (arith, after .within);
+      rest = drop-cons t at 0 inside ∙ rw (byte, ← add-one at, after .rest, same);
+    }
+
+pub name-there : (k : ℕ) → k < 112 → (t : List ℕ) (at : ℕ) → at ≤ length t → matchesAt (nameOf k) t at ≡ true → There (nameOf k) t at
+name-there k here t at h e =
+    bytes-there (nameOf k) t 0 at
+    (rw (name-is k) at (entry (λ (j : ℕ) (n : List ℕ). allFrom positive 0 n) [] names refl k here)) h e

@@ -39,7 +39,7 @@ fn match_length(names: &[u8; 560], k: usize, t: &[u8], at: usize) -> usize
         if c == b' ' {
             return j;
         }
-        if base_chars::byte_at(t, at + j) != c {
+        if base_notation::byte_at(t, at + j) != c {
             return 0;
         }
         j += 1;
@@ -154,7 +154,7 @@ pub fn fmt_suffix_search(t: &[u8], at: usize, prefix: bool) -> u8
         return 0;
     }
     let a = t[at];
-    let b = base_chars::byte_at(t, at + 1);
+    let b = base_notation::byte_at(t, at + 1);
     if prefix {
         return prefix_bit(a, b);
     }

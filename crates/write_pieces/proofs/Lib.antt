@@ -6,5 +6,5 @@ pub mod Puts
 pub mod PieceTable
 -- the texts of pieces, and their lengths
 pub mod Lengths
--- the numbers of a moment, and the calendar's for its date
+-- a moment by its tests and by its ranges, its numbers, and the calendar's for its date
 pub mod Moments

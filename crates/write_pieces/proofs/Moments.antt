@@ -1,5 +1,6 @@
 -- The numbers of a moment are small and not negative, and PostgreSQL's calendar gives those of its date.
 -- Assumes nothing.
+-- `moment-plain`, `plain-moment`: seven numbers are a moment by the tests exactly if each is in its range.
 -- `numbers`: each number of a moment is natural, below 2 ^ 31 and in its range, and its date is one of the calendar.
 -- `dates`: so are the numbers that the calendar's functions give for the date.
 -- `result`: and so is what a call returns, where its contract says that it is such a number.
@@ -7,12 +8,12 @@
 -- `last-number`: the number of a piece that is none of the first twelve is the microsecond.
 -- `morning`: the code's test of the hour is the definition's.
 use mathlib.Core.Path.{_≡_, _∙_, refl, ap}
-use mathlib.Core.Bool.{Bool, true, not, false≢true}
+use mathlib.Core.Bool.{Bool, true, not}
 use Prim.Native.Nat.{ℕ, zero, suc, _-_, _<_, _≤_, _^_}
 use native.Mathlib.Nat.{lt-of-not-le}
 use native.Mathlib.Omega.{arith}
-use borrow.Author.Tests.{ltb-false, ne-eqb, not-true}
-use lib.Dec.{T, leb, ltb}
+use borrow.Author.Tests.{le-ltb, ne-eqb, not-true}
+use lib.Dec.{T, leb}
 use lib.IntN.{ℤ, pos, negsuc, natAbs}
 use lib.ListN.{getD, List·getD-eq-default}
 use lib.Signed.{ltZ, nonNeg}
@@ -31,7 +32,9 @@ use Rattle.calendar_julian.specs.ToDay.{date2j}
 use Rattle.calendar_julian.specs.Week.{date2isoweek, date2isoyear}
 use Rattle.calendar_julian.proofs.DayNumber.{date2j-valid}
 use Rattle.calendar_julian.proofs.IsoWeeks.{date2isoweek-is, date2isoyear-is}
-use Rattle.write_pieces.specs.Moment.{isMoment, within}
+use Rattle.moment_sums.specs.Within.{Within}
+use Rattle.moment_sums.proofs.Within.{within as in-range}
+use Rattle.write_pieces.specs.Moment.{isMoment, within, PlainMoment}
 use Rattle.write_pieces.specs.Pieces.{isMorning, numberOf}
 use Rattle.write_pieces.specs.declared.Moment.{Moment}
 
@@ -51,22 +54,52 @@ module _ {z : ℤ} {n : ℕ} (p : Plain z n) (w : Width) (wide : T (leb (hbits w
   pub value : natAbs (toZ w (ofZ w z)) ≡ n
   value = rw read-plain
 
--- a number from low to high
-between : (low high : ℕ) (z : ℤ) → within (pos low) (pos high) z ≡ true → (z ≡ pos (natAbs z)) × (low ≤ natAbs z) × (natAbs z ≤ high)
-between low high (pos n) e =
-    let tests = both (not (ltb n low)) _ e in
-    (refl, ltb-false n low (not-true _ (tests .0)), ltb-false high n (not-true _ (tests .1)))
-between low high (negsuc n) e = absurd (false≢true e)
+-- from the test of a range to the range, and back
+tested : (low high : ℕ) (z : ℤ) → within (pos low) (pos high) z ≡ true → Within low high z
+tested low high z e =
+    let tests = both (not (ltZ z (pos low))) _ e in
+    in-range z (not-true _ (tests .0)) (not-true _ (tests .1))
+
+passed : {low high : ℕ} {z : ℤ} → Within low high z → within (pos low) (pos high) z ≡ true
+passed {low} {high} w = rw (w .is, le-ltb (w .at) low (w .from), le-ltb high (w .at) (w .to))
+
+-- a number in a range is natural, and in the range as such
+natural : {low high : ℕ} {z : ℤ} → Within low high z → (z ≡ pos (natAbs z)) × (low ≤ natAbs z) × (natAbs z ≤ high)
+natural w = rw (w .is) (refl, w .from, w .to)
 
 -- only the months 1 to 12 have a length
-month-range : (inLeap : Bool) (m : ℤ) → 1 ≤ lengthOf inLeap m
-    → (m ≡ pos (natAbs m)) × (1 ≤ natAbs m) × (natAbs m ≤ 12) × (lengthOf inLeap m ≡ getD (lengthsIn inLeap) (natAbs m - 1) 0)
+month-range : (inLeap : Bool) (m : ℤ) → 1 ≤ lengthOf inLeap m → Within 1 12 m
 month-range inLeap (pos zero) h = absurd (omega arith)
 month-range inLeap (pos (suc i)) h =
     let in-year : i < 12 = lt-of-not-le (λ k. omega (arith, List·getD-eq-default (lengthsIn inLeap) 0 {n = i} k)) in
-    let same : i ≡ suc i - 1 = omega arith in
-    (refl, omega arith, omega arith, ap (λ (k : ℕ). getD (lengthsIn inLeap) k 0) same)
+    record { at = suc i; is = refl; from = omega arith; to = omega arith }
 month-range inLeap (negsuc n) h = absurd (omega arith)
+
+-- from the tests to the ranges, and back
+pub moment-plain : (m : Moment) → isMoment m ≡ true → PlainMoment m
+unfolding isMoment
+moment-plain m e =
+    let inLeap = isLeap (natAbs (m .year)) in
+    let year-test = both (within (pos 1) (pos 9999) (m .year)) _ e in
+    let day-test = both (within (pos 1) (pos (lengthOf inLeap (m .month))) (m .day)) _ (year-test .1) in
+    let hour-test = both (within (pos 0) (pos 23) (m .hour)) _ (day-test .1) in
+    let minute-test = both (within (pos 0) (pos 59) (m .minute)) _ (hour-test .1) in
+    let second-test = both (within (pos 0) (pos 59) (m .second)) _ (minute-test .1) in
+    let day = tested 1 (lengthOf inLeap (m .month)) (m .day) (day-test .0) in
+    record {
+      year = tested 1 9999 (m .year) (year-test .0);
+      month = month-range inLeap (m .month) (omega (arith, day .from, day .to));
+      day = day;
+      hour = tested 0 23 (m .hour) (hour-test .0);
+      minute = tested 0 59 (m .minute) (minute-test .0);
+      second = tested 0 59 (m .second) (second-test .0);
+      micros = tested 0 999999 (m .micros) (second-test .1);
+    }
+
+pub plain-moment : (m : Moment) → PlainMoment m → isMoment m ≡ true
+unfolding isMoment
+plain-moment m p =
+    rw (passed (p .year), passed (p .day), passed (p .hour), passed (p .minute), passed (p .second), passed (p .micros))
 
 -- the numbers of a moment
 pub record Numbers (m : Moment) : Type 0 where
@@ -83,23 +116,26 @@ pub record Numbers (m : Moment) : Type 0 where
   pub second-to : natAbs (m .second) ≤ 59
   pub micros-to : natAbs (m .micros) ≤ 999999
 
--- what each test of a moment gives
+-- the length of a month, by either table
+length-is : (inLeap : Bool) (m : ℤ) → 1 ≤ natAbs m → m ≡ pos (natAbs m) → lengthOf inLeap m ≡ getD (lengthsIn inLeap) (natAbs m - 1) 0
+length-is inLeap (pos zero) h e = absurd (omega arith)
+length-is inLeap (pos (suc i)) h e =
+    let same : i ≡ suc i - 1 = omega arith in
+    ap (λ (k : ℕ). getD (lengthsIn inLeap) k 0) same
+length-is inLeap (negsuc n) h e = absurd (let z : _≡_ {A = ℕ} 0 1 = cc in omega arith)
+
+-- what each range of a moment gives
 pub numbers : (m : Moment) → isMoment m ≡ true → Numbers m
-unfolding isMoment leap
+unfolding leap
 numbers m e =
-    let year-test = both (within (pos 1) (pos 9999) (m .year)) _ e in
-    let inLeap = isLeap (natAbs (m .year)) in
-    let day-test = both (within (pos 1) (pos (lengthOf inLeap (m .month))) (m .day)) _ (year-test .1) in
-    let hour-test = both (within (pos 0) (pos 23) (m .hour)) _ (day-test .1) in
-    let minute-test = both (within (pos 0) (pos 59) (m .minute)) _ (hour-test .1) in
-    let second-test = both (within (pos 0) (pos 59) (m .second)) _ (minute-test .1) in
-    let year = between 1 9999 (m .year) (year-test .0) in
-    let day = between 1 (lengthOf inLeap (m .month)) (m .day) (day-test .0) in
-    let month = month-range inLeap (m .month) (omega arith) in
-    let hour = between 0 23 (m .hour) (hour-test .0) in
-    let minute = between 0 59 (m .minute) (minute-test .0) in
-    let second = between 0 59 (m .second) (second-test .0) in
-    let micros = between 0 999999 (m .micros) (second-test .1) in
+    let is = moment-plain m e in
+    let year = natural (is .year) in
+    let month = natural (is .month) in
+    let day = natural (is .day) in
+    let hour = natural (is .hour) in
+    let minute = natural (is .minute) in
+    let second = natural (is .second) in
+    let micros = natural (is .micros) in
     let date : Valid (natAbs (m .year)) (natAbs (m .month)) (natAbs (m .day)) =
     record {
       year-from = year .1;
@@ -107,7 +143,7 @@ numbers m e =
       month-from = month .1;
       month-to = month .2;
       day-from = day .1;
-      day-to = omega (arith, month .3);
+      day-to = omega (arith, length-is (isLeap (natAbs (m .year))) (m .month) (month .1) (month .0));
     } in
     let days = length-range (natAbs (m .year)) (natAbs (m .month)) (month .1) (month .2) in
     record {

@@ -6,7 +6,7 @@ ghost use mathlib.Core.Path.{_≡_};
 ghost use mathlib.Core.Bool.{true};
 ghost use Prim.Native.Nat.{_+_, _<_, _≤_};
 ghost use lib.ListN.{length};
-ghost use Rattle.write_pieces.specs.Moment.{isMoment};
+ghost use Rattle.write_pieces.specs.Moment.{isMoment, sevenNumbers};
 ghost use Rattle.write_pieces.specs.Output.{Put};
 ghost use Rattle.write_pieces.specs.Pieces.{markerText, pieceLength, pieceOf, pieceText};
 ghost use Rattle.write_pieces.specs.Tables.{pieceTable};
@@ -22,6 +22,29 @@ pub struct Moment {
     pub minute: i32,
     pub second: i32,
     pub micros: i32,
+}
+
+// The moment of seven numbers in their order; whether it is one, `is_moment` says.
+pub fn seven_numbers(
+    year: i32,
+    month: i32,
+    day: i32,
+    hour: i32,
+    minute: i32,
+    second: i32,
+    micros: i32,
+) -> Moment
+    ensures { λ r. ⌜ r ≡ sevenNumbers year month day hour minute second micros ⌝ }
+{
+    Moment {
+        year,
+        month,
+        day,
+        hour,
+        minute,
+        second,
+        micros,
+    }
 }
 
 // The pieces: what is written for a pattern.

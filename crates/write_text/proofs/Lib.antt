@@ -8,3 +8,5 @@ pub mod Room
 mod Turns
 -- the cases of the writer's answer
 mod Answers
+-- why nothing is written names no pattern, or one of the template's
+pub mod Own

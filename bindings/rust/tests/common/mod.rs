@@ -20,9 +20,14 @@ pub fn cut(line: &[u8]) -> (&[u8], &[u8]) {
     }
 }
 
+/// Where a moment is written, a carriage return at the line's end is no part of it.
+pub fn without_return(line: &[u8]) -> &[u8] {
+    line.strip_suffix(b"\r").unwrap_or(line)
+}
+
 /// The answer, by a template that is used once; by one that is compiled first it must be the same.
 pub fn answer(mode: &str, line: &[u8]) -> String {
-    let (template, rest) = cut(line);
+    let (template, rest) = cut(if mode == "write" { without_return(line) } else { line });
     let once = match mode {
         "parts" => shown(read(template, rest).map(numbers)),
         "instants" => shown(instant(template, rest)),

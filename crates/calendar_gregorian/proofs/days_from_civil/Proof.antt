@@ -43,6 +43,9 @@ days c e =
 fits : (c : tie.After-day-of-year) → SFits w64 (daysFromCivil (c .before .before .args .year) (c .before .before .args .month) (c .before .before .args .day))
 fits c = let at-start = c .before .before in omega (arith, days-from-mag (at-start .fits .year) (at-start .args .month) (at-start .fits .day))
 
+returns : tie.Need-returns
+returns c = ap (λ (z : ℤ). toZ w64 (ofZ w64 z)) (days c refl) ∙ toZ-ofZ (fits c)
+
 pub days-from-civil-spec : {M : Type 1} → statement M
 days-from-civil-spec =
     tie.close
@@ -52,4 +55,4 @@ days-from-civil-spec =
     (λ c. subst⁻¹ (SFits w64) (less c refl) (less-fits (c .before .fits .year)))
     (λ c κs. search needs)
     (λ c. subst⁻¹ (SFits w64) (days c refl) (fits c))
-    (λ c. ap (λ (z : ℤ). toZ w64 (ofZ w64 z)) (days c refl) ∙ toZ-ofZ (fits c)))
+    returns)

@@ -17,16 +17,6 @@ returns : tie.Need-returns
 unfolding narrowed
 returns c = rw (rw (toZ-ofZ (c .before .fits .n)) at (c .if1 .taken))
 
--- the number read from its 64 bits is the number
-module _ (c : tie.Then2) where
-  pub same-then : toZ w64 (ofZ w64 (c .before .before .args .n)) ≡ c .before .before .args .n
-  same-then = toZ-ofZ (c .before .before .fits .n)
-
--- above them
-returns-2 : tie.Need-returns-2
-unfolding narrowed
-returns-2 c = rw (rw (same-then c) at (c .before .if1 .left), rw (same-then c) at (c .if2 .taken))
-
 -- between the two the number fits 32 bits
 module _ (c : tie.Else2) where
   abbrev n : ℤ
@@ -43,6 +33,16 @@ module _ (c : tie.Else2) where
 
   fits : SFits w32 n
   fits = narrow-fits n low high
+
+-- the number read from its 64 bits is the number
+module _ (c : tie.Then2) where
+  pub same-then : toZ w64 (ofZ w64 (c .before .before .args .n)) ≡ c .before .before .args .n
+  same-then = toZ-ofZ (c .before .before .fits .n)
+
+-- above them
+returns-2 : tie.Need-returns-2
+unfolding narrowed
+returns-2 c = rw (rw (same-then c) at (c .before .if1 .left), rw (same-then c) at (c .if2 .taken))
 
 -- one of them
 returns-3 : tie.Need-returns-3

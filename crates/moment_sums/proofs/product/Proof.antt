@@ -37,13 +37,6 @@ module _ (c : tie.Else1) where
   at-least : {b : Bool} → ltZ (read a) (read (quotZ (negsuc 2147483647) (toZ w32 k))) ≡ b → ltZ a (quotZ (negsuc 2147483647) (pos k)) ≡ b
   at-least e = simp (toZ-ofZ (c .before .fits .a), factor (c .before), toZ-ofZ (least-fits k (positive c))) at e
 
--- past both tests the product fits
-fitting : (c : tie.Else3) → let args = c .before .before .before .args in SFits w32 (args .a *ℤ pos (args .factor))
-fitting c =
-    let not-zero = c .before .before in
-    let args = not-zero .before .args in
-    product-fits (args .factor) (positive not-zero) (args .a) (at-most not-zero (c .before .if2 .left)) (at-least not-zero (c .if3 .left))
-
 -- the factor is 0
 returns : tie.Need-returns
 returns c = rw (c .if1 .taken, *ℤ-zero (c .before .args .a))
@@ -61,6 +54,13 @@ returns-3 c =
     let not-zero = c .before .before in
     let args = not-zero .before .args in
     rw (too-small (args .factor) (positive not-zero) (args .a) (at-least not-zero (c .if3 .taken)))
+
+-- past both tests the product fits
+fitting : (c : tie.Else3) → let args = c .before .before .before .args in SFits w32 (args .a *ℤ pos (args .factor))
+fitting c =
+    let not-zero = c .before .before in
+    let args = not-zero .before .args in
+    product-fits (args .factor) (positive not-zero) (args .a) (at-most not-zero (c .before .if2 .left)) (at-least not-zero (c .if3 .left))
 
 -- the product
 returns-4 : tie.Need-returns-4

@@ -71,37 +71,6 @@ module _ (c : tie.Else2) where
   negated-back : read (negℤ (joined (field c tzh) (field c tzm))) ≡ negℤ (joined (field c tzh) (field c tzm))
   negated-back = toZ-ofZ (neg-minutes-fit (hours c) (minutes c))
 
--- each product and sum fits, in the order of the code
-mul-whole-hours : tie.Need-mul-whole-hours
-mul-whole-hours c = simp (has (start c) .back) (hours-fit (hours c) (minutes c))
-
-add-joined : tie.Need-add-joined
-add-joined c = simp (has (start c) .back, hours-back c) (minutes-fit (hours c) (minutes c))
-
-sub-negated : tie.Need-sub-t19
-sub-negated c =
-    let in-range = c .before in
-    simp (has (start in-range) .back, hours-back in-range, joined-back in-range, +ℤ-idl)
-    (neg-minutes-fit (hours in-range) (minutes in-range))
-
-mul-negated : tie.Need-mul-t20
-mul-negated c =
-    let in-range = c .before in
-    simp (
-      has (start in-range) .back,
-      hours-back in-range,
-      joined-back in-range,
-      +ℤ-idl,
-      negated-back in-range,
-      neg-seconds-is (hours in-range) (minutes in-range),
-    )
-    (neg-seconds-fit (hours in-range) (minutes in-range))
-
-mul-joined : tie.Need-mul-t10
-mul-joined c =
-    let in-range = c .before in
-    simp (has (start in-range) .back, hours-back in-range, joined-back in-range) (seconds-fit (hours in-range) (minutes in-range))
-
 -- the sign is minus
 returns-3 : tie.Need-returns-3
 unfolding checkedOffset offsetInRange offsetOf eastOf
@@ -138,6 +107,37 @@ returns-4 c =
       joined-back in-range,
       toZ-ofZ (seconds-fit (hours in-range) (minutes in-range)),
     )
+
+-- each product and sum fits, in the order of the code
+mul-whole-hours : tie.Need-mul-whole-hours
+mul-whole-hours c = simp (has (start c) .back) (hours-fit (hours c) (minutes c))
+
+add-joined : tie.Need-add-joined
+add-joined c = simp (has (start c) .back, hours-back c) (minutes-fit (hours c) (minutes c))
+
+sub-negated : tie.Need-sub-t19
+sub-negated c =
+    let in-range = c .before in
+    simp (has (start in-range) .back, hours-back in-range, joined-back in-range, +ℤ-idl)
+    (neg-minutes-fit (hours in-range) (minutes in-range))
+
+mul-negated : tie.Need-mul-t20
+mul-negated c =
+    let in-range = c .before in
+    simp (
+      has (start in-range) .back,
+      hours-back in-range,
+      joined-back in-range,
+      +ℤ-idl,
+      negated-back in-range,
+      neg-seconds-is (hours in-range) (minutes in-range),
+    )
+    (neg-seconds-fit (hours in-range) (minutes in-range))
+
+mul-joined : tie.Need-mul-t10
+mul-joined c =
+    let in-range = c .before in
+    simp (has (start in-range) .back, hours-back in-range, joined-back in-range) (seconds-fit (hours in-range) (minutes in-range))
 
 pub offset-of-spec : {M : Type 1} → statement M
 offset-of-spec =

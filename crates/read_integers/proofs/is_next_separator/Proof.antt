@@ -1,15 +1,19 @@
 -- `read_integers::is_next_separator` meets its contract: each test of the code is one of the definition's.
 -- Assumes nothing.
+use mathlib.Core.Path.{_≡_, ap}
+use mathlib.Core.Bool.{true, not}
 use borrow.Author.Needs.{needs}
 use borrow.Author.Tests.{ne-eqb}
-use Rattle.read_integers.specs.Suffix.{endsNumber}
+use Rattle.read_integers.specs.Suffix.{endsNumber, ordinal}
 use Rattle.read_integers.proofs.is_next_separator.Statement.{statement}
 use Rattle.read_integers.proofs.is_next_separator.Tie as tie
 
 -- an ordinal suffix ends the number
 returns : tie.Need-returns
 unfolding endsNumber
-returns c = rw (ne-eqb _ _ (c .if1 .taken))
+returns c =
+    let has-suffix : ordinal (c .before .before .before .args .n .suffix) ≡ true = ap not (ne-eqb _ _ (c .if1 .taken)) in
+    rw has-suffix
 
 -- the template ends
 returns-2 : tie.Need-returns-2

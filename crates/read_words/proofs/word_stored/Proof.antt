@@ -38,7 +38,7 @@ number-fits c = omega arith
 returns : tie.Need-returns
 returns c =
     let after-test = c .before .before in
-    let at-start = after-test .before .before in
+    let at-start = after-test .before .before .before in
     rw (
       answered (now (at-start .args .f)) (at-start .args .task .field) (number-fits at-start) (after-test .holds-other .ensures) (c .before .if1 .taken),
       c .refuse .ensures,
@@ -49,10 +49,10 @@ returns-2 : tie.Need-returns-2
 returns-2 c =
     let after-noted = c .before .before in
     let after-put = after-noted .before .before in
-    let after-kept = after-put .before in
-    let not-other = after-kept .before .before in
+    let not-other = after-put .before .before in
     let after-test = not-other .before in
-    let at-start = after-test .before .before in
+    let after-kept = after-test .before .before in
+    let at-start = after-kept .before in
     let args = at-start .args in
     let kept = ap (λ (x : ℕ). put (fieldsOf (now (args .f))) (args .task .field) (pos x)) (after-kept .kept-word .ensures) in
     let set = simp (toZ-pos w32 {n = after-kept .kept-word .result} (omega arith)) at (after-put .put .ensures) ∙ kept in
@@ -65,11 +65,11 @@ pub word-stored-spec : {M : Type 1} → statement M
 word-stored-spec =
     tie.close
     (tie.spec
+    (λ c κs. search needs)
     (λ c. search needs)
     (λ c κs. search needs)
     (λ c κs. search needs)
     returns
-    (λ c κs. search needs)
     (λ c. search needs)
     (λ c κs. search needs)
     (λ c κs. search needs)

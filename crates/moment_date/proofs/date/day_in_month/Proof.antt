@@ -1,7 +1,10 @@
 -- `moment_date::date::day_in_month` meets its contract: the code's "at most" is the definition's "not above", of the
 -- same length of the month. Assumes nothing.
+use mathlib.Core.Path.{_≡_}
+use mathlib.Core.Bool.{false}
 use borrow.Author.Needs.{needs}
 use borrow.Author.Tests.{eq-eqb, ne-eqb}
+use lib.Dec.{eqb}
 use lib.IntN.{pos}
 use mir.Facts.{toZ-ofZ}
 use Rattle.base_wrapping.proofs.Fits.{returned}
@@ -12,7 +15,9 @@ use Rattle.moment_date.proofs.date.day_in_month.Tie as tie
 
 -- not all three are set
 returns : tie.Need-returns
-returns c = simp (ne-eqb _ _ (c .if1 .taken))
+returns c =
+    let not-all : eqb (c .before .before .args .r .set) 7 ≡ false = ne-eqb _ _ (c .if1 .taken) in
+    simp not-all
 
 -- they are: the test of the day
 returns-2 : tie.Need-returns-2

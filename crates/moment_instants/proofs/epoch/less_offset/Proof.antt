@@ -16,12 +16,6 @@ use Rattle.moment_instants.proofs.epoch.less_offset.Tie as tie
 east : (c : tie.After-known-told) → SFits w32 (c .before .offset .given .0 .0)
 east c = search needs
 
-mul-added : tie.Need-mul-added
-mul-added c = rw (wide (east c)) (offset-fits (east c))
-
-sub-added : tie.Need-sub-added
-sub-added c = rw (wide (east c), toZ-ofZ (offset-fits (east c)), +ℤ-idl) (less-fits (east c))
-
 -- no offset: nothing is added
 returns : tie.Need-returns
 unfolding lessOffset
@@ -37,6 +31,13 @@ returns-2 c =
     let at-start = at-offset .before .before .before in
     rw (at-offset .before .offset .given .1)
     (simp (toZ-ofZ (at-start .fits .wall), wide (east at-offset), toZ-ofZ (offset-fits (east at-offset)), +ℤ-idl, toZ-ofZ (less-fits (east at-offset))) at (c .added2 .ensures))
+
+-- the product and the difference fit
+mul-added : tie.Need-mul-added
+mul-added c = rw (wide (east c)) (offset-fits (east c))
+
+sub-added : tie.Need-sub-added
+sub-added c = rw (wide (east c), toZ-ofZ (offset-fits (east c)), +ℤ-idl) (less-fits (east c))
 
 pub less-offset-spec : {M : Type 1} → statement M
 less-offset-spec =

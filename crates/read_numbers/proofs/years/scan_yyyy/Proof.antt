@@ -1,6 +1,6 @@
 -- `read_numbers::years::scan_yyyy` meets its contract: a number, a comma, spaces and a number are read one after
 -- another, each from where the definition reads it. Assumes nothing.
-use mathlib.Core.Path.{_≡_, _∙_, sym}
+use mathlib.Core.Path.{_≡_, _∙_, ap, sym}
 use mathlib.Core.List.{List}
 use Prim.Native.Nat.{ℕ, _+_, _<_}
 use Prim.Native.Char.{code}
@@ -15,6 +15,7 @@ use Rattle.base_chars.specs.Class.{isSpace}
 use Rattle.base_strtol.specs.Strtol.{strtol}
 use Rattle.base_strtol.specs.declared.Strtol.{Strtol}
 use Rattle.base_strtol.proofs.Leading.{leading-place}
+use Rattle.base_wrapping.specs.Wrap.{wrap32}
 use Rattle.base_wrapping.proofs.Fits.{returned}
 use Rattle.read_numbers.proofs.CommaYears.{no-first, no-comma, comma-within, no-second, both-read}
 use Rattle.read_numbers.proofs.years.scan_yyyy.Statement.{statement}
@@ -82,8 +83,8 @@ returns-4 c =
     both-read _ _ (first at-comma) (at-comma .before .before .if1 .left) (comma at-comma) _ (after-second .before .past-spaces .ensures) _ (after-second .within-three .ensures)
     (both-there .if3 .left)
     _ _
-    (returned (cut-first .ok) (simp (toZ-ofZ (first-fits (at-comma .before .before .before))) at (cut-first .ensures)))
-    (returned (cut-second .ok) (simp (toZ-ofZ (second-fits after-second)) at (cut-second .ensures)))
+    (returned (cut-first .ok) (cut-first .ensures ∙ ap wrap32 (toZ-ofZ (first-fits (at-comma .before .before .before)))))
+    (returned (cut-second .ok) (cut-second .ensures ∙ ap wrap32 (toZ-ofZ (second-fits after-second))))
 
 pub scan-yyyy-spec : {M : Type 1} → statement M
 scan-yyyy-spec =

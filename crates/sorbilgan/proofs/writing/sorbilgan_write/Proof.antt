@@ -27,7 +27,7 @@ returns c =
     let after-write = c .before .before .before .before in
     let fits = after-write .before .before .before .before .before .fits in
     let moment-is =
-    after-write .before .before .moment .ensures
+    after-write .before .before .seven-numbers .ensures
     ∙ moment-passed (fits .year) (fits .month) (fits .day) (fits .hour) (fits .minute) (fits .second) (fits .micros) in
     let wrote = rw moment-is at (after-write .write .ensures) in
     record { buffer = rw (wrote .is) at (wrote .buffer); recorded = rw (wrote .is) at (c .put-written .ensures) }

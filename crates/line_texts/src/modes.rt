@@ -1,0 +1,27 @@
+// The modes by their names.
+ghost use Rattle.line_texts.specs.Modes.{Chosen};
+use line_answers::Mode;
+
+// The mode of a name, if it is one.
+pub enum Choice {
+    Of(Mode),
+    Unknown,
+}
+
+pub fn choice_of(name: &[u8]) -> Choice
+    ensures { λ r. ⌜ Chosen (now (name .entry)) r ⌝ }
+{
+    if check::same(name, b"parts") {
+        return Choice::Of(Mode::Parts);
+    }
+    if check::same(name, b"instants") {
+        return Choice::Of(Mode::Instants);
+    }
+    if check::same(name, b"days") {
+        return Choice::Of(Mode::Days);
+    }
+    if check::same(name, b"write") {
+        return Choice::Of(Mode::Write);
+    }
+    Choice::Unknown
+}

@@ -1,0 +1,98 @@
+-- A refusal names no pattern, or one of the template's. Assumes nothing.
+-- `named-own`: so it is by any nodes, whatever the template and the input are.
+-- `named-in-template`: so it is by a template, with its own nodes.
+use mathlib.Core.Path.{refl}
+use mathlib.Core.Bool.{not, _&&_, _||_}
+use mathlib.Core.List.{List, [], _∷_}
+use mathlib.Core.Logic.{inl, inr}
+use Prim.Native.Nat.{ℕ}
+use lib.Dec.{ltb}
+use lib.IntN.{ℤ}
+use lib.ListN.{length}
+use Rattle.base_notation.proofs.Cases.{by-if}
+use Rattle.base_refusals.specs.Report.{noPattern, reportOf}
+use Rattle.base_chars.specs.Utf8.{wellFormed}
+use Rattle.read_fields.specs.declared.Fields.{Fields}
+use Rattle.read_fields.specs.declared.Verdict.{Verdict}
+use Rattle.read_fields.specs.declared.Verdict.the-variants.{Read, Refused as Stopped}
+use Rattle.read_fields.proofs.Own.{VerdictNames}
+use Rattle.read_input.specs.Reader.{readAll}
+use Rattle.read_input.proofs.Own.{Each, read-own}
+use Rattle.template_nodes.specs.Template.{nodesOf}
+use Rattle.template_nodes.specs.declared.Node.{Node}
+use Rattle.moment_date.specs.Dates.{datedOf, dateInRange}
+use Rattle.moment_date.specs.declared.Dated.{Dated}
+use Rattle.moment_date.specs.declared.Dated.the-variants.{Date, Refused as NoDate}
+use Rattle.moment_date.specs.declared.Days.{Days}
+use Rattle.moment_date.proofs.Unnamed.{DatedNames, date-unnamed}
+use Rattle.moment_sums.specs.declared.Value.{Value}
+use Rattle.moment_sums.specs.declared.Value.the-variants.{Is, Not}
+use Rattle.moment_sums.proofs.Unnamed.{ValueNames}
+use Rattle.moment_time.specs.Time.{minuteOf, secondOf, clockHour, microsOf, timeInRange, checkedOffset}
+use Rattle.moment_time.specs.declared.Zoned.{Zoned}
+use Rattle.moment_time.specs.declared.Zoned.the-variants.{At, Refused as NoZone}
+use Rattle.moment_time.proofs.Unnamed.{ZonedNames, clock-unnamed, micros-unnamed, offset-unnamed}
+use Rattle.moment_parts.specs.Parts.{templateLimit, inputLimit, withOffset, checkedMoment, thenMoment, thenMicros, thenDate, momentOf, thenFields, partsBy, partsOf}
+use Rattle.moment_parts.specs.Patterns.{PatternIn, NoneOrIn, NamesOwn}
+
+module _ (ns : List Node) where
+  -- no pattern is named
+  none : NoneOrIn ns noPattern
+  none = inl refl
+
+  -- what follows the fields, each step on what the one before left
+  module _ (f : Fields) where
+    offset-own : (r : Days) (hour us : ℤ) (z : Zoned) → ZonedNames (NoneOrIn ns) z → NamesOwn ns (withOffset f r hour us z)
+    offset-own r hour us (NoZone why) named = named
+    offset-own r hour us (At offset) named = tt
+
+    checked-own : (r : Days) (hour us : ℤ) → NamesOwn ns (checkedMoment f r hour us)
+    unfolding checkedMoment reportOf
+    checked-own r hour us =
+        by-if (NamesOwn ns) (not (dateInRange r) || not (timeInRange hour (minuteOf f) (secondOf f) us)) _ _ (λ e. none)
+        (λ e. offset-own r hour us (checkedOffset f) (offset-unnamed (NoneOrIn ns) none f))
+
+    then-moment : (r : Days) (hour : ℤ) (v : Value) → ValueNames (NoneOrIn ns) v → NamesOwn ns (thenMoment f r hour v)
+    then-moment r hour (Not why) named = named
+    then-moment r hour (Is us) named = checked-own r hour us
+
+    then-micros : (hour : ℤ) (a : Dated) → DatedNames (NoneOrIn ns) a → NamesOwn ns (thenMicros f hour a)
+    then-micros hour (NoDate why) named = named
+    then-micros hour (Date r) named = then-moment r hour (microsOf f) (micros-unnamed (NoneOrIn ns) none f)
+
+    then-date : (v : Value) → ValueNames (NoneOrIn ns) v → NamesOwn ns (thenDate f v)
+    then-date (Not why) named = named
+    then-date (Is hour) named = then-micros hour (datedOf f) (date-unnamed (NoneOrIn ns) none f)
+
+    moment-own : NamesOwn ns (momentOf f)
+    unfolding momentOf
+    moment-own = then-date (clockHour f) (clock-unnamed (NoneOrIn ns) none f)
+
+    then-fields : (v : Verdict) → VerdictNames (NoneOrIn ns) v → NamesOwn ns (thenFields v f)
+    then-fields Read named = moment-own
+    then-fields (Stopped why) named = named
+
+-- each pattern among the nodes is one of them
+each-in : (P : ℕ → Type 0) (ns : List Node) → ((k : ℕ) → PatternIn ns k → P k) → Each P ns
+each-in P [] own = tt
+each-in P (n ∷ ns) own = (λ e. own (n .pattern) (inl (e, refl)), each-in P ns (λ k i. own k (inr i)))
+
+-- the fields that nodes read, and what they make
+fields-own : (ns : List Node) (t s : List ℕ) → NamesOwn ns (thenFields (readAll t s ns .verdict) (readAll t s ns .fields))
+fields-own ns t s =
+    let r = readAll t s ns in
+    then-fields ns (r .fields) (r .verdict) (read-own (NoneOrIn ns) t s ns (each-in (NoneOrIn ns) ns (λ k i. inr i)))
+
+-- for any nodes, and all templates and inputs, of any bytes and length
+pub named-own : (ns : List Node) (t s : List ℕ) → NamesOwn ns (partsBy ns t s)
+unfolding partsBy reportOf
+named-own ns t s =
+    by-if (NamesOwn ns) (ltb inputLimit (length s)) _ _ (λ e. none ns)
+    (λ e. by-if (NamesOwn ns) (not (wellFormed s)) _ _ (λ e. none ns) (λ e. fields-own ns t s))
+
+pub named-in-template : (t s : List ℕ) → NamesOwn (nodesOf t) (partsOf t s)
+unfolding partsOf reportOf
+named-in-template t s =
+    let ns = nodesOf t in
+    by-if (NamesOwn ns) (ltb templateLimit (length t) || ltb inputLimit (length s)) _ _ (λ e. none ns)
+    (λ e. by-if (NamesOwn ns) (not (wellFormed t && wellFormed s)) _ _ (λ e. none ns) (λ e. fields-own ns t s))

@@ -1,0 +1,3 @@
+-- That the promises are kept.
+-- each promise by the law that proves it
+pub mod Promises

@@ -1,0 +1,101 @@
+-- `kept`: all that is promised holds. Each promise is a law of the crates below, or the theorem of a function. Assumes
+-- nothing.
+use mathlib.Core.Path.{_≡_, ap}
+use mathlib.Core.List.{List}
+use Prim.Native.Nat.{ℕ}
+use Rattle.template_nodes.proofs.Cover.{covered}
+use Rattle.moment_parts.proofs.Ranges.{answered, parts-by-answered}
+use Rattle.moment_parts.proofs.Patterns.{named-own, named-in-template}
+use Rattle.moment_parts.specs.Examples.{table}
+use Rattle.moment_instants.proofs.Ranges.{instant-answered, day-answered}
+use Rattle.moment_instants.proofs.Own.{timestamp-own, date-own}
+use Rattle.write_pieces.proofs.Moments.{moment-plain, plain-moment}
+use Rattle.write_text.proofs.Own.{written-own}
+use Rattle.write_text.specs.Writer.{bufferAfter}
+use Rattle.write_text.specs.declared.Unwritten.{Unwritten}
+use Rattle.write_text.specs.declared.Written.{Written}
+use Rattle.write_text.specs.declared.Written.the-variants.{Refused}
+use Rattle.sorbilgan_records.proofs.Ranges.{parts-recorded, template-recorded, instant-recorded, day-recorded}
+use Rattle.readback.proofs.ReadBack.{every-back}
+use Rattle.sorbilgan.proofs.Once.{compile-once}
+use Rattle.moment_parts.proofs.to_timestamp_parts.Met as ToTimestampParts
+use Rattle.moment_parts.proofs.parts_by.Met as PartsBy
+use Rattle.moment_instants.proofs.to_timestamp_text.Met as ToTimestampText
+use Rattle.moment_instants.proofs.instant_by.Met as InstantBy
+use Rattle.moment_instants.proofs.to_date_text.Met as ToDateText
+use Rattle.moment_instants.proofs.day_by.Met as DayBy
+use Rattle.write_text.proofs.write.Met as Write
+use Rattle.write_text.proofs.write_by.Met as WriteBy
+use Rattle.readback.proofs.write_and_read.Met as WriteAndRead
+use Rattle.sorbilgan.proofs.sorbilgan_parts.Met as SorbilganParts
+use Rattle.sorbilgan.proofs.sorbilgan_parts_by.Met as SorbilganPartsBy
+use Rattle.sorbilgan.proofs.sorbilgan_instant.Met as SorbilganInstant
+use Rattle.sorbilgan.proofs.sorbilgan_instant_by.Met as SorbilganInstantBy
+use Rattle.sorbilgan.proofs.sorbilgan_date.Met as SorbilganDate
+use Rattle.sorbilgan.proofs.sorbilgan_date_by.Met as SorbilganDateBy
+use Rattle.sorbilgan.proofs.sorbilgan_compile.Met as SorbilganCompile
+use Rattle.sorbilgan.proofs.sorbilgan_write.Met as SorbilganWrite
+use Rattle.sorbilgan.proofs.sorbilgan_write_by.Met as SorbilganWriteBy
+use Rattle.sorbilgan.proofs.sorbilgan_pattern.Met as SorbilganPattern
+use Rattle.line_answers.proofs.answer.Met as AnswerLine
+use Rattle.line_texts.proofs.answer_lines.Met as AnswerLines
+use Rattle.promises.specs.Promises.{EveryAnswer, EveryEquation, EveryMoment, EveryTemplate, Promises}
+
+-- after a refusal the buffer is as it was
+left : (text before : List ℕ) {w : Written} {why : Unwritten} → w ≡ Refused why → bufferAfter w text before ≡ before
+left text before e = ap (λ (w : Written). bufferAfter w text before) e
+
+pub every-answer : EveryAnswer
+every-answer =
+    record {
+      parts-by = parts-by-answered;
+      parts = answered;
+      instant = instant-answered;
+      day = day-answered;
+      parts-by-record = parts-recorded;
+      parts-record = template-recorded;
+      instant-record = instant-recorded;
+      day-record = day-recorded;
+      names-by = named-own;
+      names = named-in-template;
+      instant-names = λ t s e. timestamp-own t s e;
+      day-names = λ t s e. date-own t s e;
+      text-names = λ t m room e. written-own t m room e;
+      buffer = λ t m before e. left _ before e;
+      buffer-by = λ c t m before e. left _ before e;
+    }
+
+pub every-equation : EveryEquation
+every-equation =
+    record {
+      to-timestamp-parts = ToTimestampParts.met;
+      parts-by = PartsBy.met;
+      to-timestamp-text = ToTimestampText.met;
+      instant-by = InstantBy.met;
+      to-date-text = ToDateText.met;
+      day-by = DayBy.met;
+      write = Write.met;
+      write-by = WriteBy.met;
+      sorbilgan-parts = SorbilganParts.met;
+      sorbilgan-parts-by = SorbilganPartsBy.met;
+      sorbilgan-instant = SorbilganInstant.met;
+      sorbilgan-instant-by = SorbilganInstantBy.met;
+      sorbilgan-date = SorbilganDate.met;
+      sorbilgan-date-by = SorbilganDateBy.met;
+      sorbilgan-write = SorbilganWrite.met;
+      sorbilgan-write-by = SorbilganWriteBy.met;
+      sorbilgan-compile = SorbilganCompile.met;
+      sorbilgan-pattern = SorbilganPattern.met;
+      answer = AnswerLine.met;
+      answer-lines = AnswerLines.met;
+      table = table;
+    }
+
+pub every-moment : EveryMoment
+every-moment = record { back = every-back; write-and-read = WriteAndRead.met; tested = moment-plain; plain = plain-moment }
+
+pub every-template : EveryTemplate
+every-template = record { covered = covered; once = compile-once }
+
+pub kept : Promises
+kept = record { demand-1 = every-answer; demand-2 = every-equation; demand-3 = every-moment; templates = every-template }

@@ -1,0 +1,136 @@
+-- All that is promised of the date reader and its writer, in one file: a record for each demand, and in the end one of
+-- them all. `kept` in proofs/Promises.antt proves it. t is a template, s an input, c the bytes of a compiled template,
+-- ns nodes: any numbers of any length. What a name means is in the file that it is taken from.
+use mathlib.Core.Path.{_≡_}
+use mathlib.Core.Bool.{true}
+use mathlib.Core.List.{List}
+use Prim.Native.Nat.{ℕ}
+use lib.ListN.{length}
+use Rattle.template_nodes.specs.Cover.{Covered}
+use Rattle.template_nodes.specs.Template.{nodesOf}
+use Rattle.template_nodes.specs.Bytes.{nodesIn}
+use Rattle.template_nodes.specs.declared.Node.{Node}
+use Rattle.moment_parts.specs.Parts.{partsBy, partsOf}
+use Rattle.moment_parts.specs.Ranges.{Answered, fieldsBy, fieldsOf}
+use Rattle.moment_parts.specs.Patterns.{NamesOwn, NoneOrIn}
+use Rattle.moment_parts.specs.Examples.{Table}
+use Rattle.moment_parts.specs.declared.Answer.{Answer}
+use Rattle.moment_instants.specs.ByTemplate.{instantBy, dayBy, timestampOf, dateOf}
+use Rattle.moment_instants.specs.Ranges.{InstantAnswered, DayAnswered}
+use Rattle.moment_instants.specs.Report.{undatedReport}
+use Rattle.moment_instants.specs.declared.epoch.Day.the-variants.{Refused as NoDay}
+use Rattle.moment_instants.specs.declared.epoch.Instant.the-variants.{Refused as NoInstant}
+use Rattle.moment_instants.specs.declared.epoch.Undated.{Undated}
+use Rattle.write_pieces.specs.Moment.{isMoment, PlainMoment}
+use Rattle.write_pieces.specs.declared.Moment.{Moment}
+use Rattle.write_text.specs.Report.{unwrittenReport}
+use Rattle.write_text.specs.Text.{textOf}
+use Rattle.write_text.specs.Writer.{bufferAfter, textIn, writtenIn, writtenTo}
+use Rattle.write_text.specs.declared.Unwritten.{Unwritten}
+use Rattle.write_text.specs.declared.Written.the-variants.{Refused as NotWritten}
+use Rattle.sorbilgan_records.specs.Ranges.{PartsRecorded, InstantRecorded, DayRecorded}
+use Rattle.readback.specs.ReadBack.{EveryBack}
+use Rattle.sorbilgan.specs.Once.{CompileOnce}
+use Rattle.moment_parts.proofs.to_timestamp_parts.Statement as ToTimestampParts
+use Rattle.moment_parts.proofs.parts_by.Statement as PartsBy
+use Rattle.moment_instants.proofs.to_timestamp_text.Statement as ToTimestampText
+use Rattle.moment_instants.proofs.instant_by.Statement as InstantBy
+use Rattle.moment_instants.proofs.to_date_text.Statement as ToDateText
+use Rattle.moment_instants.proofs.day_by.Statement as DayBy
+use Rattle.write_text.proofs.write.Statement as Write
+use Rattle.write_text.proofs.write_by.Statement as WriteBy
+use Rattle.readback.proofs.write_and_read.Statement as WriteAndRead
+use Rattle.sorbilgan.proofs.sorbilgan_parts.Statement as SorbilganParts
+use Rattle.sorbilgan.proofs.sorbilgan_parts_by.Statement as SorbilganPartsBy
+use Rattle.sorbilgan.proofs.sorbilgan_instant.Statement as SorbilganInstant
+use Rattle.sorbilgan.proofs.sorbilgan_instant_by.Statement as SorbilganInstantBy
+use Rattle.sorbilgan.proofs.sorbilgan_date.Statement as SorbilganDate
+use Rattle.sorbilgan.proofs.sorbilgan_date_by.Statement as SorbilganDateBy
+use Rattle.sorbilgan.proofs.sorbilgan_compile.Statement as SorbilganCompile
+use Rattle.sorbilgan.proofs.sorbilgan_write.Statement as SorbilganWrite
+use Rattle.sorbilgan.proofs.sorbilgan_write_by.Statement as SorbilganWriteBy
+use Rattle.sorbilgan.proofs.sorbilgan_pattern.Statement as SorbilganPattern
+use Rattle.line_answers.proofs.answer.Statement as AnswerLine
+use Rattle.line_texts.proofs.answer_lines.Statement as AnswerLines
+
+-- Demand 1: nothing false is handed out. An answer is in range, or it is a refusal by its number and nothing else.
+pub record EveryAnswer : Type 0 where
+  -- the parts, by any nodes and by a template. In range: each part by itself; which of year, month and day are set is a
+  -- number below 8, and what is not set has its default; in every year but 0 the month has the day
+  pub parts-by : (ns : List Node) (t s : List ℕ) → Answered (fieldsBy ns t s) (partsBy ns t s)
+  pub parts : (t s : List ℕ) → Answered (fieldsOf t s) (partsOf t s)
+  -- the instant and the day of any answer: neither end of 64 bits, neither end of 32 bits
+  pub instant : (a : Answer) → InstantAnswered (instantBy a)
+  pub day : (a : Answer) → DayAnswered (dayBy a)
+  -- the records that other languages get, by any nodes and by a template; refused: what would have been read is 0
+  pub parts-by-record : (ns : List Node) (t s : List ℕ) → PartsRecorded (partsBy ns t s)
+  pub parts-record : (t s : List ℕ) → PartsRecorded (partsOf t s)
+  pub instant-record : (a : Answer) → InstantRecorded (instantBy a)
+  pub day-record : (a : Answer) → DayRecorded (dayBy a)
+  -- a refusal names no pattern, or one of the template's
+  pub names-by : (ns : List Node) (t s : List ℕ) → NamesOwn ns (partsBy ns t s)
+  pub names : (t s : List ℕ) → NamesOwn (nodesOf t) (partsOf t s)
+  pub instant-names : (t s : List ℕ) {why : Undated} → timestampOf t s ≡ NoInstant why → NoneOrIn (nodesOf t) (undatedReport why .pattern)
+  pub day-names : (t s : List ℕ) {why : Undated} → dateOf t s ≡ NoDay why → NoneOrIn (nodesOf t) (undatedReport why .pattern)
+  pub text-names : (t : List ℕ) (m : Moment) (room : ℕ) {why : Unwritten} → writtenTo t m room ≡ NotWritten why
+      → NoneOrIn (nodesOf t) (unwrittenReport why .pattern)
+  -- a refusal of the writer leaves the buffer as it was
+  pub buffer : (t : List ℕ) (m : Moment) (before : List ℕ) {why : Unwritten} → writtenTo t m (length before) ≡ NotWritten why
+      → bufferAfter (writtenTo t m (length before)) (textOf t m) before ≡ before
+  pub buffer-by : (c t : List ℕ) (m : Moment) (before : List ℕ) {why : Unwritten} → writtenIn c t m (length before) ≡ NotWritten why
+      → bufferAfter (writtenIn c t m (length before)) (textIn c t m) before ≡ before
+
+-- Demand 2: right by the public document. `statement` is the checker's theorem of a function: for all arguments it never
+-- traps, it returns, and its contract holds. The contract is the equation that the comment gives; src/ has it.
+pub record EveryEquation : Type 2 where
+  -- to_timestamp_parts t s = partsOf t s, and by bytes as nodes partsBy (nodesIn c) t s
+  pub to-timestamp-parts : {M : Type 1} → ToTimestampParts.statement M
+  pub parts-by : {M : Type 1} → PartsBy.statement M
+  -- to_timestamp_text t s = timestampOf t s, and by bytes as nodes instantBy (partsBy (nodesIn c) t s)
+  pub to-timestamp-text : {M : Type 1} → ToTimestampText.statement M
+  pub instant-by : {M : Type 1} → InstantBy.statement M
+  -- to_date_text t s = dateOf t s, and by bytes as nodes dayBy (partsBy (nodesIn c) t s)
+  pub to-date-text : {M : Type 1} → ToDateText.statement M
+  pub day-by : {M : Type 1} → DayBy.statement M
+  -- write t m = writtenTo t m, and by bytes as nodes writtenIn c t m; the buffer after it is bufferAfter
+  pub write : {M : Type 1} → Write.statement M
+  pub write-by : {M : Type 1} → WriteBy.statement M
+  -- the exports: the same answers as records, the bytes of a compiled template, and the name of a pattern
+  pub sorbilgan-parts : {M : Type 1} → SorbilganParts.statement M
+  pub sorbilgan-parts-by : {M : Type 1} → SorbilganPartsBy.statement M
+  pub sorbilgan-instant : {M : Type 1} → SorbilganInstant.statement M
+  pub sorbilgan-instant-by : {M : Type 1} → SorbilganInstantBy.statement M
+  pub sorbilgan-date : {M : Type 1} → SorbilganDate.statement M
+  pub sorbilgan-date-by : {M : Type 1} → SorbilganDateBy.statement M
+  pub sorbilgan-write : {M : Type 1} → SorbilganWrite.statement M
+  pub sorbilgan-write-by : {M : Type 1} → SorbilganWriteBy.statement M
+  pub sorbilgan-compile : {M : Type 1} → SorbilganCompile.statement M
+  pub sorbilgan-pattern : {M : Type 1} → SorbilganPattern.statement M
+  -- the line program: answer mode line = answerLine mode line, and the lines of a text one after another, answersTo
+  pub answer : {M : Type 1} → AnswerLine.statement M
+  pub answer-lines : {M : Type 1} → AnswerLines.statement M
+  -- the worked table P1 to P15
+  pub table : Table
+
+-- Demand 3: every full template writes every moment of the years 1 to 9999, two moments have the same text exactly where
+-- they are the same, and the text is read back as that moment in all answers
+pub record EveryMoment : Type 2 where
+  pub back : EveryBack
+  -- the same on the functions themselves
+  pub write-and-read : {M : Type 1} → WriteAndRead.statement M
+  -- the test of a moment, and the plain ranges of its seven numbers: each way
+  pub tested : (m : Moment) → isMoment m ≡ true → PlainMoment m
+  pub plain : (m : Moment) → PlainMoment m → isMoment m ≡ true
+
+-- Templates: each byte is in one node, but for quotes, backslashes, prefixes and suffixes; the bytes of a pattern's node
+-- are its name. What is compiled once gives the answers of the template in every function.
+pub record EveryTemplate : Type 0 where
+  pub covered : (t : List ℕ) → Covered t
+  pub once : CompileOnce
+
+-- all of them
+pub record Promises : Type 2 where
+  pub demand-1 : EveryAnswer
+  pub demand-2 : EveryEquation
+  pub demand-3 : EveryMoment
+  pub templates : EveryTemplate

@@ -1,0 +1,3 @@
+-- Laws of offsets that are read.
+-- a pattern that reads an offset and is refused names itself
+pub mod Own
