@@ -1,9 +1,11 @@
-// Reads lines and answers each with a line, by the mode that its argument names. The answers to all lines that were read
-// are written before more is read. What cannot be read or written is reported on standard error, and ends the program.
-mod modes;
-
+// Reads lines and answers each with a line, by the mode that its argument names. The answers to all lines that were
+// read are written before more is read. What cannot be read or written is reported on standard error, and ends the
+// program.
+ghost use mathlib.Core.Path.{_≡_};
+ghost use mathlib.Core.Bool.{false};
 ghost use Prim.Native.Nat.{_≤_, _<_};
-ghost use lib.ListN.{length};
+ghost use lib.ListN.{length, drop};
+ghost use Rattle.line_texts.specs.Texts.{NoneLeft, longest};
 use libc::STDERR_FILENO;
 use libc::STDIN_FILENO;
 use libc::STDOUT_FILENO;
@@ -26,8 +28,8 @@ struct Got {
     failed: bool,
 }
 
-// What is left of a text: its lines before `from` are answered, unless the answers could not be written. `long` says that
-// the next line began before the text.
+// What is left of a text: its lines before `from` are answered, unless the answers could not be written. `long` says
+// that the next line began before the text.
 struct Rest {
     from: usize,
     long: bool,
@@ -62,8 +64,11 @@ fn write_out(answers: &[u8]) -> bool {
     true
 }
 
-// Answers the lines that end in a text, a buffer full of answers at a time.
-fn answer_text(mode: Mode, text: &[u8], long: bool, out: &mut [u8]) -> Rest {
+// Answers the lines that end in a text, a buffer full of answers at a time. Unless it fails, none of them is left.
+fn answer_text(mode: Mode, text: &[u8], long: bool, out: &mut [u8]) -> Rest
+    requires { ⌜ longest ≤ length (now out) ⌝ }
+    ensures { λ r. ⌜ (r .failed ≡ false → NoneLeft (drop (r .from) (now (text .entry)))) ⌝ }
+{
     let mut s = Rest {
         from: 0,
         long,
@@ -88,9 +93,10 @@ fn answer_text(mode: Mode, text: &[u8], long: bool, out: &mut [u8]) -> Rest {
     s
 }
 
-// Reads once and answers the lines that end there. At the end of the input, and where something failed, no read is left.
+// Reads once and answers the lines that end there. At the end of the input, and where something failed, no read is
+// left.
 fn turn(mode: Mode, input: &mut [u8], out: &mut [u8], s: State) -> State
-    requires { ⌜ (s .kept ≤ length (now input)) × (0 < s .reads) ⌝ }
+    requires { ⌜ (s .kept ≤ length (now input)) × (longest ≤ length (now out)) × (0 < s .reads) ⌝ }
     ensures { λ r. ⌜ (r .kept ≤ length (now (input .exit))) × (r .reads < s .reads) ⌝ }
 {
     let got = read_on(input, s.kept);
@@ -134,7 +140,9 @@ fn answer_last(mode: Mode, line: &[u8], long: bool, out: &mut [u8]) {
     write_out(&out[0..end]);
 }
 
-fn answer_all(mode: Mode, input: &mut [u8], out: &mut [u8]) {
+fn answer_all(mode: Mode, input: &mut [u8], out: &mut [u8])
+    requires { ⌜ longest ≤ length (now out) ⌝ }
+{
     let mut s = State {
         kept: 0,
         long: false,
@@ -151,8 +159,23 @@ fn answer_all(mode: Mode, input: &mut [u8], out: &mut [u8]) {
     answer_last(mode, &input[0..kept], s.long, out);
 }
 
+// The mode that the one argument names, and parts without any. An argument longer than the buffer is read as an empty
+// name.
+fn chosen() -> Choice {
+    let count = os::arg_count();
+    if count < 2 {
+        return Choice::Of(Mode::Parts);
+    }
+    if 2 < count {
+        return Choice::Unknown;
+    }
+    let mut name = [0u8; 16];
+    let len = os::arg(1, &mut name);
+    line_texts::choice_of(&name[0..len])
+}
+
 fn main() {
-    let Choice::Of(mode) = modes::chosen() else {
+    let Choice::Of(mode) = chosen() else {
         io::write_all(
             STDERR_FILENO,
             b"dates: the one argument is parts, instants, days or write\n",

@@ -1,5 +1,6 @@
 -- The name of a pattern in its row of the table. Assumes nothing.
--- `found-named`: the bytes of a row before its first space are the name. `none-named`, `some-named`: a pattern by its test.
+-- `found-named`: the bytes of a row before its first space are the name. `none-named`, `some-named`: a pattern by its
+-- test.
 use mathlib.Core.Path.{_≡_, _∙_, refl, sym}
 use mathlib.Core.List.{List, [], _∷_, _++_}
 use Prim.Native.Nat.{ℕ, zero, suc, _+_, _-_, _*_, _≤_, _<_}

@@ -1,6 +1,7 @@
 -- The seven numbers of a moment, item by item. Assumes nothing.
 -- `begun`, `more`: the numbers stored, then those of the items that are left, are those of the text (`Read`).
--- `too-few`, `no-number`, `too-many`, `ended`: where they are not seven numbers there are only zeros, else they are stored.
+-- `too-few`, `no-number`, `too-many`, `ended`: where they are not seven numbers there are only zeros, else they are
+-- stored.
 use mathlib.Core.Path.{_≡_, _∙_, refl, ap}
 use mathlib.Core.Bool.{true, false, and-false}
 use mathlib.Core.List.{List, [], _∷_, _++_, append-assoc, append-nil}

@@ -1,6 +1,6 @@
 -- The modes by their names.
--- `chosen`: the mode that has a name is the choice. `unknown`: a name that is none of the four, by the tests that failed
--- (`another`). Assumes nothing.
+-- `chosen`: the mode that has a name is the choice. `unknown`: a name that is none of the four, by the tests that
+-- failed (`another`). Assumes nothing.
 use mathlib.Core.Path.{_≡_, _∙_, refl, sym, ap}
 use mathlib.Core.Bool.{Bool, true, false, false≢true}
 use mathlib.Core.List.{List}

@@ -3,6 +3,7 @@
 -- `long-answered`, `line-answered`: an answer and its newline are put.
 -- `begun`, `more`: the answers put, and those to the rest, are the answers to the text (`Answering`): at first none is
 -- put, then one more. `full`, `ended`: so it is where there is no room for one more, and where no line is left.
+-- `past-end`, `to-end`: no line is left past the end of a text, or where none is in the part up to the end.
 -- Assumes nothing.
 use mathlib.Core.Path.{_≡_, _∙_, refl, sym, ap}
 use mathlib.Core.Bool.{Bool, true, false, not}
@@ -11,8 +12,8 @@ use Prim.Native.Nat.{ℕ, suc, _+_, _-_, _<_, _≤_, max}
 use native.Mathlib.Omega.{arith}
 use native.Mathlib.Numerals.{add-one}
 use lib.Dec.{eqb}
-use lib.ListN.{length, take, drop, length-append, length-drop}
-use lib.Seq.{drop-drop}
+use lib.ListN.{length, take, drop, length-append, length-drop, drop-of-length-le}
+use lib.Seq.{drop-drop, take-all}
 use Rattle.base_notation.specs.Choice.{if_then_else_}
 use Rattle.base_strtol.specs.Runs.{leading}
 use Rattle.line_answers.specs.Lines.{Answered, answerLine, tooLongAnswer}
@@ -20,7 +21,7 @@ use Rattle.line_answers.specs.declared.Mode.{Mode}
 use Rattle.line_buffers.specs.Input.{before, Found}
 use Rattle.line_buffers.specs.Output.{Put}
 use Rattle.line_buffers.proofs.Puts.{put-then, put-size}
-use Rattle.line_texts.specs.Texts.{newline, answerTo, answersAfter, answersTo, longest, AnswersLine, AnswersLines}
+use Rattle.line_texts.specs.Texts.{newline, answerTo, answersAfter, answersTo, longest, NoneLeft, AnswersLine, AnswersLines}
 use Rattle.line_texts.specs.declared.Done.{Done}
 
 -- the first line that ends in a text, after the bytes before the text
@@ -141,7 +142,7 @@ module _ (mode : Mode) (long : Bool) (text out₀ : List ℕ) where
         }
 
     -- no line is left
-    first-line : length text ≤ end → s .from ≡ 0 → before newline text ≡ length text
+    first-line : length text ≤ end → s .from ≡ 0 → NoneLeft text
     first-line h e =
         let whole : before newline text ≡ before newline rest = rw e in
         omega (arith, a .ends, a .last)
@@ -157,3 +158,12 @@ module _ (mode : Mode) (long : Bool) (text out₀ : List ℕ) where
           from = a .from;
           some = λ room e. first-line h e;
         }
+
+-- no line is past the end of a text; and a part that goes to the end is the rest of the text
+module _ (text : List ℕ) (at : ℕ) where
+  pub past-end : length text ≤ at → NoneLeft (drop at text)
+  unfolding leading
+  past-end h = rw (drop-of-length-le text h)
+
+  pub to-end : NoneLeft (take (length text - at) (drop at text)) → NoneLeft (drop at text)
+  to-end none = rw (take-all (length text - at) (drop at text) (omega (arith, length-drop at text))) at none

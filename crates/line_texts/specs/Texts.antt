@@ -39,6 +39,10 @@ answersTo mode long text = answersAfter mode long [] text
 abbrev pub longest : ℕ
 longest = 515
 
+-- no line ends in a text: it has no newline
+abbrev pub NoneLeft : List ℕ → Type 0
+NoneLeft text = before newline text ≡ length text
+
 -- the answer to a line and its newline are put; they are no longer than that
 pub record AnswersLine (mode : Mode) (long : Bool) (line before₀ : List ℕ) (at : ℕ) (after : List ℕ) (r : ℕ) : Type 0 where
   pub put : Put before₀ at (answerTo mode long line) after r
@@ -55,7 +59,7 @@ pub record AnswersLines (mode : Mode) (long : Bool) (text before₀ after : List
   pub within : r .at ≤ length before₀
   pub from : r .from ≤ length text
   -- in a buffer that has room for an answer, none is put only where no line ends in the text
-  pub some : longest ≤ length before₀ → r .from ≡ 0 → before newline text ≡ length text
+  pub some : longest ≤ length before₀ → r .from ≡ 0 → NoneLeft text
 
 -- a line of which the beginning was left off, a line, and one that does not end in the text
 pub worked : answersTo Parts true (utf8 "MM\nDD\t5\nDD") ≡ utf8 "1 - 0 0\n0 0 1 5 0 0 0 0 0 none\n"

@@ -2,8 +2,8 @@
 -- `parts-by-answered`: for any nodes, template and input, of any bytes and length, the answer is a moment in range or a
 -- refusal by a number from 1 to 16. `answered`: the same by a template.
 -- `parts-in-range`: so the parts of every moment that is answered are in range.
--- `moment-answered`, `moment-in-range`: the same for any fields whose digits of a fraction are 0 to 6, however they were
--- read.
+-- `moment-answered`, `moment-in-range`: the same for any fields whose digits of a fraction are 0 to 6, however they
+-- were read.
 -- `numbered`: every refusal has a number from 1 to 16.
 use mathlib.Core.Path.{_≡_, refl, sym, _∙_, ap, subst}
 use mathlib.Core.Bool.{Bool, true, false, not, _&&_, _||_, false≢true}

@@ -8,9 +8,9 @@ use Rattle.moment_parts.proofs.Ranges.{answered, parts-by-answered}
 use Rattle.moment_parts.proofs.Patterns.{named-own, named-in-template}
 use Rattle.moment_parts.specs.Examples.{table}
 use Rattle.moment_instants.proofs.Ranges.{instant-answered, day-answered}
-use Rattle.moment_instants.proofs.Own.{timestamp-own, date-own}
+use Rattle.moment_instants.proofs.Own.{instant-own, day-own, timestamp-own, date-own}
 use Rattle.write_pieces.proofs.Moments.{moment-plain, plain-moment}
-use Rattle.write_text.proofs.Own.{written-own}
+use Rattle.write_text.proofs.Own.{written-own, written-in-own}
 use Rattle.write_text.specs.Writer.{bufferAfter}
 use Rattle.write_text.specs.declared.Unwritten.{Unwritten}
 use Rattle.write_text.specs.declared.Written.{Written}
@@ -57,6 +57,9 @@ every-answer =
       instant-record = instant-recorded;
       day-record = day-recorded;
       names-by = named-own;
+      instant-names-by = λ ns t s e. instant-own t s ns e;
+      day-names-by = λ ns t s e. day-own t s ns e;
+      text-names-by = λ c t m room e. written-in-own t m room c e;
       names = named-in-template;
       instant-names = λ t s e. timestamp-own t s e;
       day-names = λ t s e. date-own t s e;

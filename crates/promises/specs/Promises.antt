@@ -54,6 +54,7 @@ use Rattle.line_answers.proofs.answer.Statement as AnswerLine
 use Rattle.line_texts.proofs.answer_lines.Statement as AnswerLines
 
 -- Demand 1: nothing false is handed out. An answer is in range, or it is a refusal by its number and nothing else.
+-- That no function traps or hangs is part of the theorems of demand 2.
 pub record EveryAnswer : Type 0 where
   -- the parts, by any nodes and by a template. In range: each part by itself; which of year, month and day are set is a
   -- number below 8, and what is not set has its default; in every year but 0 the month has the day
@@ -67,8 +68,15 @@ pub record EveryAnswer : Type 0 where
   pub parts-record : (t s : List ℕ) → PartsRecorded (partsOf t s)
   pub instant-record : (a : Answer) → InstantRecorded (instantBy a)
   pub day-record : (a : Answer) → DayRecorded (dayBy a)
-  -- a refusal names no pattern, or one of the template's
+  -- a refusal names no pattern, or one of the nodes'
   pub names-by : (ns : List Node) (t s : List ℕ) → NamesOwn ns (partsBy ns t s)
+  pub instant-names-by : (ns : List Node) (t s : List ℕ) {why : Undated} → instantBy (partsBy ns t s) ≡ NoInstant why
+      → NoneOrIn ns (undatedReport why .pattern)
+  pub day-names-by : (ns : List Node) (t s : List ℕ) {why : Undated} → dayBy (partsBy ns t s) ≡ NoDay why
+      → NoneOrIn ns (undatedReport why .pattern)
+  pub text-names-by : (c t : List ℕ) (m : Moment) (room : ℕ) {why : Unwritten} → writtenIn c t m room ≡ NotWritten why
+      → NoneOrIn (nodesIn c) (unwrittenReport why .pattern)
+  -- the same by a template: one of the template's
   pub names : (t s : List ℕ) → NamesOwn (nodesOf t) (partsOf t s)
   pub instant-names : (t s : List ℕ) {why : Undated} → timestampOf t s ≡ NoInstant why → NoneOrIn (nodesOf t) (undatedReport why .pattern)
   pub day-names : (t s : List ℕ) {why : Undated} → dateOf t s ≡ NoDay why → NoneOrIn (nodesOf t) (undatedReport why .pattern)
@@ -80,8 +88,8 @@ pub record EveryAnswer : Type 0 where
   pub buffer-by : (c t : List ℕ) (m : Moment) (before : List ℕ) {why : Unwritten} → writtenIn c t m (length before) ≡ NotWritten why
       → bufferAfter (writtenIn c t m (length before)) (textIn c t m) before ≡ before
 
--- Demand 2: right by the public document. `statement` is the checker's theorem of a function: for all arguments it never
--- traps, it returns, and its contract holds. The contract is the equation that the comment gives; src/ has it.
+-- Demand 2: right by the public document. `statement` is the checker's theorem of a function: for all arguments it
+-- never traps, it returns, and its contract holds. The contract is the equation that the comment gives; src/ has it.
 pub record EveryEquation : Type 2 where
   -- to_timestamp_parts t s = partsOf t s, and by bytes as nodes partsBy (nodesIn c) t s
   pub to-timestamp-parts : {M : Type 1} → ToTimestampParts.statement M
@@ -112,8 +120,8 @@ pub record EveryEquation : Type 2 where
   -- the worked table P1 to P15
   pub table : Table
 
--- Demand 3: every full template writes every moment of the years 1 to 9999, two moments have the same text exactly where
--- they are the same, and the text is read back as that moment in all answers
+-- Demand 3: every full template writes every moment of the years 1 to 9999, two moments have the same text exactly
+-- where they are the same, and the text is read back as that moment in all answers
 pub record EveryMoment : Type 2 where
   pub back : EveryBack
   -- the same on the functions themselves
@@ -122,8 +130,8 @@ pub record EveryMoment : Type 2 where
   pub tested : (m : Moment) → isMoment m ≡ true → PlainMoment m
   pub plain : (m : Moment) → PlainMoment m → isMoment m ≡ true
 
--- Templates: each byte is in one node, but for quotes, backslashes, prefixes and suffixes; the bytes of a pattern's node
--- are its name. What is compiled once gives the answers of the template in every function.
+-- Templates: each byte is in one node, but for quotes, backslashes, prefixes and suffixes; the bytes of a pattern's
+-- node are its name. What is compiled once gives the answers of the template in every function.
 pub record EveryTemplate : Type 0 where
   pub covered : (t : List ℕ) → Covered t
   pub once : CompileOnce

@@ -8,7 +8,8 @@ use Rattle.dates.proofs.answer_all.Statement.{statement}
 use Rattle.dates.proofs.answer_all.Tie as tie
 
 abbrev Inv-loop : tie.InvT-loop
-Inv-loop mode input₀ out₀ s₀ input out s = (s .kept ≤ length input) × (length input ≡ length input₀) × (length out ≡ length out₀)
+Inv-loop mode input₀ out₀ s₀ input out s =
+    (s .kept ≤ length input) × (515 ≤ length out) × (length input ≡ length input₀) × (length out ≡ length out₀)
 
 abbrev μ-loop : tie.MeasureT-loop
 μ-loop mode input₀ out₀ s₀ input out s = s .reads
@@ -19,10 +20,10 @@ answer-all-spec =
     (tie.spec
     Inv-loop
     μ-loop
-    (λ c. (omega arith, search needs, search needs))
-    (λ c κs. (search needs, search needs))
+    (λ c. (omega arith, search needs, search needs, search needs))
+    (λ c κs. (search needs, search needs, search needs))
     (λ c. search needs)
-    (λ c. (search needs, search needs, search needs))
+    (λ c. (search needs, search needs, search needs, search needs))
     (λ c. search needs)
     (λ c. search needs)
     (λ c. search needs)

@@ -1,5 +1,5 @@
--- `line_answers::moments::seven_of` meets its contract: by the invariant the numbers stored, then those of the items that
--- are left, are those of the text. Assumes nothing.
+-- `line_answers::moments::seven_of` meets its contract: by the invariant the numbers stored, then those of the items
+-- that are left, are those of the text. Assumes nothing.
 use mathlib.Core.Path.{_∙_, refl, sym}
 use Prim.Native.Nat.{_-_}
 use native.Mathlib.Omega.{arith}

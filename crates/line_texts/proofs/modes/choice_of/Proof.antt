@@ -1,4 +1,5 @@
--- `line_texts::modes::choice_of` meets its contract: the name is that of the mode, or none of the four. Assumes nothing.
+-- `line_texts::modes::choice_of` meets its contract: the name is that of the mode, or none of the four. Assumes
+-- nothing.
 use mathlib.Core.Path.{_≡_, _∙_, sym}
 use mathlib.Core.Bool.{false≢true}
 use borrow.Author.Needs.{needs}
