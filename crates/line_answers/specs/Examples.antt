@@ -44,6 +44,14 @@ pub parts
 unfolding line-computes partsAnswer momentText
 parts = (refl, refl, refl)
 
+-- the same in Vietnamese; what follows a number is ignored at the template's end
+pub vietnamese
+    : (answerLine Parts (utf8 "\"ngày \"DD\" tháng \"MM\" năm \"YYYY\tngày 29 tháng 02 năm 2024") ≡ utf8 "0 2024 2 29 0 0 0 0 0 none")
+    × (answerLine Parts (utf8 "\"ngày \"DD\" tháng \"MM\tngày 30 tháng 02") ≡ utf8 "0 0 2 30 0 0 0 0 0 none")
+    × (answerLine Parts (utf8 "\"ngày\"DD\tngày 3x") ≡ utf8 "0 0 1 3 0 0 0 0 0 none")
+unfolding line-computes partsAnswer momentText
+vietnamese = (refl, refl, refl)
+
 -- the microseconds since 1970
 pub instants
     : (answerLine Instants (utf8 "YYYY-MM-DD HH24:MI:SS.US TZH\t2024-02-29 21:05:00.5 +07") ≡ utf8 "0 1709215500500000")
