@@ -1,12 +1,18 @@
--- `kept`: all that is promised holds. Each promise is a law of the crates below, or the theorem of a function. Assumes
--- nothing.
-use mathlib.Core.Path.{_≡_, ap}
+-- `kept`: all that is promised holds. Each promise is a law of the crates below, or the theorem of a function.
+-- `right-and-safe`: answers that are those of the definitions are in range. Assumes nothing.
+use mathlib.Core.Path.{_≡_, ap, subst, sym}
 use mathlib.Core.List.{List}
 use Prim.Native.Nat.{ℕ}
 use Rattle.template_nodes.proofs.Cover.{covered}
 use Rattle.moment_parts.proofs.Ranges.{answered, parts-by-answered}
 use Rattle.moment_parts.proofs.Patterns.{named-own, named-in-template}
 use Rattle.moment_parts.specs.Examples.{table}
+use Rattle.moment_parts.specs.Parts.{partsOf}
+use Rattle.moment_parts.specs.Patterns.{NamesOwn}
+use Rattle.moment_parts.specs.Ranges.{Answered, fieldsOf}
+use Rattle.moment_instants.specs.ByTemplate.{timestampOf, dateOf}
+use Rattle.moment_instants.specs.Ranges.{InstantAnswered, DayAnswered}
+use Rattle.template_nodes.specs.Template.{nodesOf}
 use Rattle.moment_instants.proofs.Ranges.{instant-answered, day-answered}
 use Rattle.moment_instants.proofs.Own.{instant-own, day-own, timestamp-own, date-own}
 use Rattle.write_pieces.proofs.Moments.{moment-plain, plain-moment}
@@ -39,7 +45,8 @@ use Rattle.sorbilgan.proofs.sorbilgan_write_by.Met as SorbilganWriteBy
 use Rattle.sorbilgan.proofs.sorbilgan_pattern.Met as SorbilganPattern
 use Rattle.line_answers.proofs.answer.Met as AnswerLine
 use Rattle.line_texts.proofs.answer_lines.Met as AnswerLines
-use Rattle.promises.specs.Promises.{EveryAnswer, EveryEquation, EveryMoment, EveryTemplate, Promises}
+use Rattle.promises.specs.Promises.{EveryAnswer, EveryEquation, RightAndSafe, EveryMoment, EveryTemplate, Promises}
+use Rattle.promises.specs.declared.Readings.{Readings}
 
 -- after a refusal the buffer is as it was
 left : (text before : List ℕ) {w : Written} {why : Unwritten} → w ≡ Refused why → bufferAfter w text before ≡ before
@@ -92,6 +99,19 @@ every-equation =
       answer = AnswerLine.met;
       answer-lines = AnswerLines.met;
       table = table;
+    }
+
+pub right-and-safe : (t s : List ℕ) (r : Readings) → r .parts ≡ partsOf t s → r .instant ≡ timestampOf t s → r .day ≡ dateOf t s → RightAndSafe t s r
+unfolding timestampOf dateOf
+right-and-safe t s r p i d =
+    record {
+      parts = p;
+      instant = i;
+      day = d;
+      parts-safe = subst (Answered (fieldsOf t s)) (sym p) (answered t s);
+      instant-safe = subst InstantAnswered (sym i) (instant-answered (partsOf t s));
+      day-safe = subst DayAnswered (sym d) (day-answered (partsOf t s));
+      names = subst (NamesOwn (nodesOf t)) (sym p) (named-in-template t s);
     }
 
 pub every-moment : EveryMoment

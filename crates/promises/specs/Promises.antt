@@ -31,6 +31,7 @@ use Rattle.write_text.specs.declared.Written.the-variants.{Refused as NotWritte
 use Rattle.sorbilgan_records.specs.Ranges.{PartsRecorded, InstantRecorded, DayRecorded}
 use Rattle.readback.specs.ReadBack.{EveryBack}
 use Rattle.sorbilgan.specs.Once.{CompileOnce}
+use Rattle.promises.specs.declared.Readings.{Readings}
 use Rattle.moment_parts.proofs.to_timestamp_parts.Statement as ToTimestampParts
 use Rattle.moment_parts.proofs.parts_by.Statement as PartsBy
 use Rattle.moment_instants.proofs.to_timestamp_text.Statement as ToTimestampText
@@ -119,6 +120,16 @@ pub record EveryEquation : Type 2 where
   pub answer-lines : {M : Type 1} → AnswerLines.statement M
   -- the worked table P1 to P15
   pub table : Table
+
+-- Demands 1 and 2 together, on the function that reads: r is the answers of the definitions, and each is in range
+pub record RightAndSafe (t s : List ℕ) (r : Readings) : Type 0 where
+  pub parts : r .parts ≡ partsOf t s
+  pub instant : r .instant ≡ timestampOf t s
+  pub day : r .day ≡ dateOf t s
+  pub parts-safe : Answered (fieldsOf t s) (r .parts)
+  pub instant-safe : InstantAnswered (r .instant)
+  pub day-safe : DayAnswered (r .day)
+  pub names : NamesOwn (nodesOf t) (r .parts)
 
 -- Demand 3: every full template writes every moment of the years 1 to 9999, two moments have the same text exactly
 -- where they are the same, and the text is read back as that moment in all answers

@@ -1,1 +1,26 @@
-// No code: what is promised of the crates below (specs/), and that it is kept (proofs/).
+// What is promised of the crates below (specs/), that it is kept (proofs/), and reading with all that holds of it.
+ghost use Rattle.promises.specs.Promises.{RightAndSafe};
+use moment_instants::Day;
+use moment_instants::Instant;
+use moment_parts::Answer;
+
+// The three answers to an input.
+pub struct Readings {
+    pub parts: Answer,
+    pub instant: Instant,
+    pub day: Day,
+}
+
+// Reads an input s by a template t.
+pub fn read(t: &[u8], s: &[u8]) -> Readings
+    ensures { λ r. ⌜ RightAndSafe (now (t .entry)) (now (s .entry)) r ⌝ }
+{
+    let parts = moment_parts::to_timestamp_parts(t, s);
+    let instant = moment_instants::to_timestamp_text(t, s);
+    let day = moment_instants::to_date_text(t, s);
+    Readings {
+        parts,
+        instant,
+        day,
+    }
+}
