@@ -1,5 +1,5 @@
--- The answer to a question. A question is a line: a name, and items after it; its answer is numbers, or the nodes of a
--- template. What is unknown or malformed is answered by `?`.
+-- The answer to a question. A question is a line: a name, and items after it; its answer is numbers, the nodes of a
+-- template, or what the line program answers to a line. What is unknown or malformed is answered by `?`.
 use mathlib.Core.Bool.{Bool, true, false}
 use mathlib.Core.List.{List, [], _∷_, _++_}
 use Prim.Native.Nat.{ℕ}
