@@ -2,10 +2,9 @@
 use mathlib.Core.Path.{_≡_, refl}
 use mathlib.Core.Bool.{Bool, true, _&&_}
 use mathlib.Core.List.{List, [], _∷_}
-use Prim.Native.Nat.{ℕ, suc, _+_, _*_, _<_, _≤_}
-use Prim.Native.Char.{code}
+use Prim.Native.Nat.{ℕ, suc, _+_, _<_, _≤_}
 use lib.Dec.{eqb}
-use lib.ListN.{length, take, drop}
+use lib.ListN.{length}
 use Rattle.base_notation.specs.Choice.{if_then_else_}
 use Rattle.base_notation.specs.Text.{byteAt, utf8}
 use Rattle.base_chars.specs.Fold.{folded}
@@ -28,18 +27,6 @@ firstWord k (w ∷ ws) s at = if spelledAt w s at then At k (length w) else firs
 unfoldable pub wordAt : WordList → List ℕ → ℕ → Word
 wordAt list s at = firstWord 0 (wordsOf list) s at
 
--- a row of a table up to its first space: the word in row k, where rows have nine bytes
-abbrev pub untilSpace : List ℕ → List ℕ
-untilSpace [] = []
-untilSpace (c ∷ cs) = if eqb c (code " ") then [] else c ∷ untilSpace cs
-
-unfoldable pub wordIn : List ℕ → ℕ → List ℕ
-wordIn table k = untilSpace (take 9 (drop (9 * k) table))
-
--- the length of a word where it is at a place, else 0
-abbrev pub spelledLength : List ℕ → List ℕ → ℕ → ℕ
-spelledLength w s at = if spelledAt w s at then length w else 0
-
 -- a word that was found is one of at most 12, is not empty, and ends within the input
 abbrev pub Inside : List ℕ → ℕ → Word → Type 0
 Inside s at (At k len) = (k < 12) × (0 < len) × (at + len ≤ length s)
@@ -49,11 +36,6 @@ Inside s at Nothing = Unit {0}
 pub record Found (s : List ℕ) (at : ℕ) (w r : Word) : Type 0 where
   pub is : r ≡ w
   pub inside : Inside s at r
-
--- the second word of a table
-pub second : wordIn (utf8 "January  February March    ") 1 ≡ utf8 "February"
-unfolding wordIn
-second = refl
 
 -- in either case, the longer Roman month first, and no word at a text's end
 pub worked

@@ -1,11 +1,14 @@
 // Words of the input, in either case.
 ghost use mathlib.Core.Path.{_≡_};
-ghost use Prim.Native.Nat.{_<_};
+ghost use Prim.Native.Nat.{_-_, _*_, _<_, _≤_, min};
 ghost use lib.ListN.{length};
 ghost use Rattle.base_chars.specs.Fold.{folded as foldedByte};
+ghost use Rattle.base_notation.specs.Text.{byteAt};
+ghost use Rattle.template_patterns.specs.Search.{lengthAt};
 ghost use Rattle.template_patterns.specs.Words.{wordTable};
 ghost use Rattle.template_patterns.specs.declared.tables.WordList.{WordList};
-ghost use Rattle.read_words.specs.Spelling.{spelledLength, wordAt, wordIn, Found as Spelled};
+ghost use Rattle.read_words.specs.FoldOnce.{beginning, inNine, rowOf, wordIn};
+ghost use Rattle.read_words.specs.Spelling.{wordAt, Found as Spelled};
 use template_patterns::WordList;
 
 // A word by its index in its list, and its length.
@@ -27,18 +30,47 @@ fn folded(b: u8) -> u8
     b
 }
 
-// The length of the word in row k, if it is at a place in either case, else 0.
-fn spelled(table: &[u8; 108], k: usize, s: &[u8], at: usize) -> usize
-    requires { ⌜ (length (now table) ≡ 108) × (k < 12) × (at < length (now s)) ⌝ }
-    ensures { λ r. ⌜ r ≡ spelledLength (wordIn (now (table .entry)) k) (now (s .entry)) at ⌝ }
+// The number of bytes from a place on, at most `most`.
+fn left_at(s: &[u8], at: usize, most: usize) -> usize
+    ensures { λ r. ⌜ r ≡ min most (length (now (s .entry)) - at) ⌝ }
 {
+    if s.len() <= at {
+        return 0;
+    }
+    let left = s.len() - at;
+    if most <= left { most } else { left }
+}
+
+// The bytes of the input from a place on, at most `most`, with capital letters made small; then 0s, nine in all.
+fn folded_beginning(s: &[u8], at: usize, most: usize) -> [u8; 9]
+    requires { ⌜ most ≤ 9 ⌝ }
+    ensures { λ r. ⌜ r ≡ inNine (beginning most (now (s .entry)) at) ⌝ }
+{
+    let n = left_at(s, at, most);
+    let mut start = [0u8; 9];
     let mut j: usize = 0;
+    while j < 9 {
+        if n <= j {
+            return start;
+        }
+        start[j] = folded(s[at + j]);
+        j += 1;
+    }
+    start
+}
+
+// The length of the word in row k, if the bytes begin with it, else 0. The first byte is the same and no space.
+fn spelled(table: &[u8; 108], k: usize, start: &[u8; 9]) -> usize
+    requires { ⌜ (length (now table) ≡ 108) × (k < 12) × (byteAt (now table) (9 * k) ≡ byteAt (now start) 0) × (byteAt (now start) 0 ≡ 32 → ⊥) ⌝ }
+    ensures { λ r. ⌜ r ≡ lengthAt (rowOf (now (table .entry)) k) (now (start .entry)) 0 ⌝ }
+{
+    let mut j: usize = 1;
     while j < 9 {
         let c = table[9 * k + j];
         if c == b' ' {
             return j;
         }
-        if folded(base_notation::byte_at(s, at + j)) != folded(c) {
+        if start[j] != c {
             return 0;
         }
         j += 1;
@@ -46,19 +78,22 @@ fn spelled(table: &[u8; 108], k: usize, s: &[u8], at: usize) -> usize
     9
 }
 
-// The first word of a list's table that is at a place, in either case.
-fn first_word(table: &[u8; 108], s: &[u8], at: usize) -> Word
+// The first word of a list's table that the bytes begin with. Most words are passed over by their first byte.
+fn first_word(table: &[u8; 108], start: &[u8; 9]) -> Word
     requires { ⌜ length (now table) ≡ 108 ⌝ }
-    ensures { λ r. ⌜ ((list : WordList) → now (table .entry) ≡ wordTable list → Spelled (now (s .entry)) at (wordAt list (now (s .entry)) at) r) ⌝ }
+    ensures { λ r. ⌜ ((list : WordList) → now (table .entry) ≡ wordTable list → r ≡ wordIn list (now (start .entry))) ⌝ }
 {
-    if s.len() <= at {
+    let first = start[0];
+    if first == b' ' {
         return Word::Nothing;
     }
     let mut k: usize = 0;
     while k < 12 {
-        let n = spelled(table, k, s, at);
-        if n > 0 {
-            return Word::At { index: k, len: n };
+        if table[9 * k] == first {
+            let n = spelled(table, k, start);
+            if n > 0 {
+                return Word::At { index: k, len: n };
+            }
         }
         k += 1;
     }
@@ -69,10 +104,11 @@ fn first_word(table: &[u8; 108], s: &[u8], at: usize) -> Word
 pub fn seq_search_ascii(s: &[u8], at: usize, list: WordList) -> Word
     ensures { λ r. ⌜ Spelled (now (s .entry)) at (wordAt list (now (s .entry)) at) r ⌝ }
 {
+    let start = folded_beginning(s, at, template_patterns::longest(list));
     if let WordList::MonthsFull = list {
         let months = template_patterns::months_full();
-        return first_word(&months, s, at);
+        return first_word(&months, &start);
     }
     let table = template_patterns::words(list);
-    first_word(&table, s, at)
+    first_word(&table, &start)
 }

@@ -4,6 +4,7 @@ mod tables;
 pub use tables::WordList;
 pub use tables::dch_index;
 pub use tables::dch_names;
+pub use tables::longest;
 pub use tables::months_full;
 pub use tables::words;
 ghost use mathlib.Core.Path.{_≡_};

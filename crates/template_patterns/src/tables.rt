@@ -1,7 +1,7 @@
 // The tables: names of patterns, the index by first byte, and word lists.
 ghost use mathlib.Core.Path.{_≡_};
 ghost use Rattle.template_patterns.specs.Search.{indexTable, nameTable};
-ghost use Rattle.template_patterns.specs.Words.{wordTable};
+ghost use Rattle.template_patterns.specs.Words.{longest as longestOf, wordTable, wordsOf};
 ghost use Rattle.template_patterns.specs.declared.tables.WordList.the-variants.{MonthsFull};
 
 // The names of the patterns in table order, five bytes each, filled with spaces.
@@ -147,30 +147,30 @@ const DCH_INDEX: [i8; 128] = [
     -1,
 ];
 
-// The word lists, nine bytes a word, filled with spaces.
+// The word lists in small letters, nine bytes a word, filled with spaces.
 const WORDS_MONTHS_FULL: [u8; 108] =
-    *b"January  February March    April    May      June     July     August   SeptemberOctober  November December ";
+    *b"january  february march    april    may      june     july     august   septemberoctober  november december ";
 
 const WORDS_MONTHS_ABBREV: [u8; 108] =
-    *b"Jan      Feb      Mar      Apr      May      Jun      Jul      Aug      Sep      Oct      Nov      Dec      ";
+    *b"jan      feb      mar      apr      may      jun      jul      aug      sep      oct      nov      dec      ";
 
 const WORDS_DAYS_FULL: [u8; 108] =
-    *b"Sunday   Monday   Tuesday  WednesdayThursday Friday   Saturday                                              ";
+    *b"sunday   monday   tuesday  wednesdaythursday friday   saturday                                              ";
 
 const WORDS_DAYS_ABBREV: [u8; 108] =
-    *b"Sun      Mon      Tue      Wed      Thu      Fri      Sat                                                   ";
+    *b"sun      mon      tue      wed      thu      fri      sat                                                   ";
 
 const WORDS_AMPM: [u8; 108] =
-    *b"am       pm       AM       PM                                                                               ";
+    *b"am       pm       am       pm                                                                               ";
 
 const WORDS_AMPM_LONG: [u8; 108] =
-    *b"a.m.     p.m.     A.M.     P.M.                                                                             ";
+    *b"a.m.     p.m.     a.m.     p.m.                                                                             ";
 
 const WORDS_ADBC: [u8; 108] =
-    *b"ad       bc       AD       BC                                                                               ";
+    *b"ad       bc       ad       bc                                                                               ";
 
 const WORDS_ADBC_LONG: [u8; 108] =
-    *b"a.d.     b.c.     A.D.     B.C.                                                                             ";
+    *b"a.d.     b.c.     a.d.     b.c.                                                                             ";
 
 const WORDS_RM_MONTHS_LOWER: [u8; 108] =
     *b"xii      xi       x        ix       viii     vii      vi       v        iv       iii      ii       i        ";
@@ -185,6 +185,23 @@ pub enum WordList {
     AdBc,
     AdBcLong,
     RomanMonths,
+}
+
+// The length of a list's longest word.
+pub fn longest(list: WordList) -> usize
+    ensures { λ r. ⌜ r ≡ longestOf (wordsOf list) ⌝ }
+{
+    match list {
+        WordList::MonthsFull => 9,
+        WordList::MonthsAbbrev => 3,
+        WordList::DaysFull => 9,
+        WordList::DaysAbbrev => 3,
+        WordList::AmPm => 2,
+        WordList::AmPmLong => 4,
+        WordList::AdBc => 2,
+        WordList::AdBcLong => 4,
+        WordList::RomanMonths => 4,
+    }
 }
 
 // The list that is asked for most has a function of its own: a choice among nine lists lays out more than one.
