@@ -53,7 +53,8 @@ fn folded_beginning(s: &[u8], at: usize, most: usize) -> [u8; 9]
         if n <= j {
             return start;
         }
-        start[j] = folded(s[at + j]);
+        let b = s[at + j];
+        start[j] = folded(b);
         j += 1;
     }
     start
@@ -66,11 +67,12 @@ fn spelled(table: &[u8; 108], k: usize, start: &[u8; 9]) -> usize
 {
     let mut j: usize = 1;
     while j < 9 {
+        let b = start[j];
         let c = table[9 * k + j];
         if c == b' ' {
             return j;
         }
-        if start[j] != c {
+        if b != c {
             return 0;
         }
         j += 1;

@@ -34,8 +34,11 @@ returns c = ended (c .before .before) (omega arith)
 loop-again : tie.Need-loop-again Inv-loop μ-loop
 loop-again c =
     let at-loop = c .before .before .before .before in
-    let args = at-loop .before .before .before .args in
-    (search needs, put-next (now (args .s)) (args .at) (at-loop .loop .j) (omega arith) _ _ (omega arith) (at-loop .loop .inv .1) (c .folded .ensures))
+    let args = at-loop .before .before .before .args in (
+      search needs,
+      put-next (now (args .s)) (args .at) (at-loop .loop .j) (omega arith) (at-loop .loop .start) (c .folded .result) (omega arith)
+          (at-loop .loop .inv .1) (c .folded .ensures),
+    )
 
 -- nine bytes: no list needs more
 returns-2 : tie.Need-returns-2 Inv-loop μ-loop

@@ -29,21 +29,21 @@ inside c = omega arith
 -- the word ends at a space
 returns : tie.Need-returns Inv-loop μ-loop
 returns c =
-    let in-loop = c .before .before in
+    let in-loop = c .before .before .before in
     at-space _ _ _ _ (in-loop .loop-test .taken) (inside in-loop) (c .if1 .taken) ∙ sym (in-loop .before .loop .inv .1)
 
 -- another byte is there
 returns-2 : tie.Need-returns-2 Inv-loop μ-loop
 returns-2 c =
-    let no-space = c .before .before in
-    let in-loop = no-space .before .before in
+    let no-space = c .before in
+    let in-loop = no-space .before .before .before in
     other-byte _ _ _ _ (in-loop .loop-test .taken) (inside in-loop) (no-space .if1 .left) (c .if2 .taken) ∙ sym (in-loop .before .loop .inv .1)
 
 -- the same byte is there: on to the next
 loop-again : tie.Need-loop-again Inv-loop μ-loop
 loop-again c =
-    let no-space = c .before .before in
-    let in-loop = no-space .before .before in (
+    let no-space = c .before in
+    let in-loop = no-space .before .before .before in (
       search needs,
       in-loop .before .loop .inv .1 ∙ same-byte _ _ _ _ (in-loop .loop-test .taken) (inside in-loop) (no-space .if1 .left) (c .if2 .left),
     )
@@ -65,8 +65,8 @@ spelled-spec =
     (λ c. search needs)
     (λ c. search needs)
     (λ c. search needs)
-    returns
     (λ c. search needs)
+    returns
     returns-2
     (λ c. search needs)
     (λ c. search needs)
