@@ -3,6 +3,7 @@
 use mathlib.Core.Path.{_≡_, ap, subst, sym}
 use mathlib.Core.List.{List}
 use Prim.Native.Nat.{ℕ}
+use Rattle.read_words.proofs.FoldOnce.{fold-once}
 use Rattle.template_nodes.proofs.Cover.{covered}
 use Rattle.moment_parts.proofs.Ranges.{answered, parts-by-answered}
 use Rattle.moment_parts.proofs.Patterns.{named-own, named-in-template}
@@ -45,7 +46,7 @@ use Rattle.sorbilgan.proofs.sorbilgan_write_by.Met as SorbilganWriteBy
 use Rattle.sorbilgan.proofs.sorbilgan_pattern.Met as SorbilganPattern
 use Rattle.line_answers.proofs.answer.Met as AnswerLine
 use Rattle.line_texts.proofs.answer_lines.Met as AnswerLines
-use Rattle.promises.specs.Promises.{EveryAnswer, EveryEquation, RightAndSafe, EveryMoment, EveryTemplate, Promises}
+use Rattle.promises.specs.Promises.{EveryAnswer, EveryEquation, RightAndSafe, EveryMoment, EveryTemplate, EveryRequest, Promises}
 use Rattle.promises.specs.declared.Readings.{Readings}
 
 -- after a refusal the buffer is as it was
@@ -120,5 +121,15 @@ every-moment = record { back = every-back; write-and-read = WriteAndRead.met; te
 pub every-template : EveryTemplate
 every-template = record { covered = covered; once = compile-once }
 
+pub every-request : EveryRequest
+every-request = record { fold-once = fold-once }
+
 pub kept : Promises
-kept = record { demand-1 = every-answer; demand-2 = every-equation; demand-3 = every-moment; templates = every-template }
+kept =
+    record {
+      demand-1 = every-answer;
+      demand-2 = every-equation;
+      demand-3 = every-moment;
+      templates = every-template;
+      requests = every-request;
+    }

@@ -6,6 +6,7 @@ use mathlib.Core.Bool.{true}
 use mathlib.Core.List.{List}
 use Prim.Native.Nat.{ℕ}
 use lib.ListN.{length}
+use Rattle.read_words.specs.FoldOnce.{FoldOnce}
 use Rattle.template_nodes.specs.Cover.{Covered}
 use Rattle.template_nodes.specs.Template.{nodesOf}
 use Rattle.template_nodes.specs.Bytes.{nodesIn}
@@ -147,9 +148,15 @@ pub record EveryTemplate : Type 0 where
   pub covered : (t : List ℕ) → Covered t
   pub once : CompileOnce
 
+-- Change requests (docs/changes): what each promises beyond the demands
+pub record EveryRequest : Type 0 where
+  -- CR 3: the beginning of the input, folded once, has the word that the input has
+  pub fold-once : FoldOnce
+
 -- all of them
 pub record Promises : Type 2 where
   pub demand-1 : EveryAnswer
   pub demand-2 : EveryEquation
   pub demand-3 : EveryMoment
   pub templates : EveryTemplate
+  pub requests : EveryRequest

@@ -1,0 +1,117 @@
+#!/usr/bin/env python3
+"""Words of a line, searched in two ways and asked of the line program: compare/words.py PROGRAM SEED COUNT.
+
+Written from change request 3: the beginning of the input is folded once, at most as many bytes as the longest word of the list has,
+and a search that gets only those bytes finds what the search of the whole input finds. Both searches are here, by their words. Each
+text is searched by both, and the program must read the same word, of the same length, or refuse with 9. Part of the texts are spoilt.
+"""
+import random
+import re
+import subprocess
+import sys
+
+MONTHS = "January February March April May June July August September October November December".split()
+DAYS = "Sunday Monday Tuesday Wednesday Thursday Friday Saturday".split()
+
+# the words of each pattern in formatting.c's order, the pattern of the number after it, the number, and the parts by the word's index
+LISTS = {
+    "Month": (MONTHS, "DD", b"07", lambda k: (0, k + 1, 7, 0)),
+    "Mon": ([m[:3] for m in MONTHS], "DD", b"07", lambda k: (0, k + 1, 7, 0)),
+    "Day": (DAYS, "DD", b"07", lambda k: (0, 1, 7, 0)),
+    "Dy": ([d[:3] for d in DAYS], "DD", b"07", lambda k: (0, 1, 7, 0)),
+    "AM": ("am pm AM PM".split(), "HH12", b"07", lambda k: (0, 1, 1, 7 + 12 * (k % 2))),
+    "A.M.": ("a.m. p.m. A.M. P.M.".split(), "HH12", b"07", lambda k: (0, 1, 1, 7 + 12 * (k % 2))),
+    "BC": ("ad bc AD BC".split(), "YYYY", b"2024", lambda k: (1 - 2024 if k % 2 else 2024, 1, 1, 0)),
+    "B.C.": ("a.d. b.c. A.D. B.C.".split(), "YYYY", b"2024", lambda k: (1 - 2024 if k % 2 else 2024, 1, 1, 0)),
+    "RM": ("xii xi x ix viii vii vi v iv iii ii i".split(), "DD", b"07", lambda k: (0, 12 - k, 7, 0)),
+}
+
+PIECES = [b"\0", b" ", b".", b"@", b"[", b"`", b"{", b"0", b"a", b"Z", b"\x7f", b"\xc3\xa9", b"\xe2\x82\xac", b"\xc3", b"\xff"]
+
+
+def folded(text):
+    return bytes(b + 32 if 65 <= b <= 90 else b for b in text)
+
+
+def word_at(words, text, at):
+    """The first word that is in the text from a place on, byte by byte, in either case."""
+    for k, word in enumerate(words):
+        if len(text) - at >= len(word) and all(folded(text[at + i : at + i + 1]) == folded(word[i : i + 1]) for i in range(len(word))):
+            return k, len(word)
+    return None
+
+
+def word_in(words, beginning):
+    """The first word, in small letters, that the folded bytes begin with."""
+    for k, word in enumerate(words):
+        if beginning.startswith(folded(word)):
+            return k, len(word)
+    return None
+
+
+def spelled(random_, word):
+    """A word in a random mix of cases."""
+    return "".join(random_.choice((c.lower(), c.upper())) for c in word).encode()
+
+
+def spoilt(random_, text):
+    """A text with a byte put in, left out or exchanged, or with its end cut off."""
+    at = random_.randrange(len(text) + 1)
+    piece = random_.choice(PIECES)
+    return random_.choice((text[:at] + piece + text[at:], text[:at] + text[at + 1 :], text[:at] + piece + text[at + 1 :], text[:at]))
+
+
+def question(random_):
+    """A template, an input, and the answer that is due; None where the words of the request do not decide it."""
+    name = random_.choice(list(LISTS))
+    names, number_pattern, number, parts = LISTS[name]
+    words = [w.encode() for w in names]
+    front = random_.choice((b"", "ngày ".encode()))
+    spaces = b"" if front else b" " * random_.choice((0, 0, 1, 3))
+    text = spelled(random_, random_.choice(names)) + number + random_.choice((b"", b" and more"))
+    if random_.random() < 0.5:
+        text = spoilt(random_, text)
+    text = front + spaces + text
+    at = len(front + spaces)
+    if at == len(text) or text[at] == 32:
+        return None
+    found = word_at(words, text, at)
+    once = word_in(words, folded(text[at : at + max(map(len, words))]))
+    if found != once:
+        sys.exit(f"the two searches differ: {name} {text!r} at {at}: {found} and {once}")
+    template = (b'"%s"' % front if front else b"") + (name + number_pattern).encode()
+    try:
+        text.decode()
+    except UnicodeDecodeError:
+        return template, text, "2 - 0 0"
+    if found is None:
+        return template, text, f"9 {name} 0 0"
+    k, length = found
+    if not re.match(number + rb"(?!\d)", text[at + length :]):
+        return None
+    year, month, day, hour = parts(k)
+    return template, text, f"0 {year} {month} {day} {hour} 0 0 0 0 none"
+
+
+def main(program, seed, count):
+    random_ = random.Random(int(seed))
+    questions = []
+    while len(questions) < int(count):
+        one = question(random_)
+        if one:
+            questions.append(one)
+    lines = b"".join(template + b"\t" + text + b"\n" for template, text, _ in questions)
+    answers = subprocess.run([program, "parts"], input=lines, stdout=subprocess.PIPE, check=True).stdout.decode().split("\n")[:-1]
+    if len(answers) != len(questions):
+        sys.exit(f"{len(questions)} lines, {len(answers)} answers")
+    for (template, text, due), answer in zip(questions, answers):
+        if answer != due:
+            sys.exit(f"{template!r} {text!r}: {answer}, and {due} is due")
+    accepted = sum(due[0] == "0" for _, _, due in questions)
+    print(f"the same words in {len(questions)} lines, {accepted} of them accepted")
+
+
+if __name__ == "__main__":
+    if len(sys.argv) != 4:
+        sys.exit("usage: compare/words.py PROGRAM SEED COUNT")
+    main(*sys.argv[1:])
