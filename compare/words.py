@@ -1,9 +1,10 @@
 #!/usr/bin/env python3
-"""Words of a line, searched in two ways and asked of the line program: compare/words.py PROGRAM SEED COUNT.
+"""Words of a line, searched in two ways and read by the line program: compare/words.py PROGRAM SEED COUNT.
 
-Written from change request 3: the beginning of the input is folded once, at most as many bytes as the longest word of the list has,
-and a search that gets only those bytes finds what the search of the whole input finds. Both searches are here, by their words. Each
-text is searched by both, and the program must read the same word, of the same length, or refuse with 9. Part of the texts are spoilt.
+Written from change request 3: the beginning of the input is folded once, at most as many bytes as the longest word of
+the list has, and a search that gets only those bytes finds what the search of the whole input finds. Each text is
+searched both ways. The program must read that word and what follows it, refuse with 9 where there is no word, or with 2
+where the text is not UTF-8. Many of the texts are spoilt.
 """
 import random
 import re
@@ -13,20 +14,42 @@ import sys
 MONTHS = "January February March April May June July August September October November December".split()
 DAYS = "Sunday Monday Tuesday Wednesday Thursday Friday Saturday".split()
 
-# the words of each pattern in formatting.c's order, the pattern of the number after it, the number, and the parts by the word's index
+
+def month(k):
+    return 0, k + 1, 7, 0
+
+
+def roman_month(k):
+    return 0, 12 - k, 7, 0
+
+
+def weekday(k):
+    """The day of the first ISO week of 2024, which begins on Monday, 1 January."""
+    return 2024, 1, k or 7, 0
+
+
+def half_day(k):
+    return 0, 1, 1, 7 + 12 * (k % 2)
+
+
+def era(k):
+    return 1 - 2024 if k % 2 else 2024, 1, 1, 0
+
+
+# for each pattern: its words in formatting.c's order, the template and the text after it, and the parts by the word's index
 LISTS = {
-    "Month": (MONTHS, "DD", b"07", lambda k: (0, k + 1, 7, 0)),
-    "Mon": ([m[:3] for m in MONTHS], "DD", b"07", lambda k: (0, k + 1, 7, 0)),
-    "Day": (DAYS, "DD", b"07", lambda k: (0, 1, 7, 0)),
-    "Dy": ([d[:3] for d in DAYS], "DD", b"07", lambda k: (0, 1, 7, 0)),
-    "AM": ("am pm AM PM".split(), "HH12", b"07", lambda k: (0, 1, 1, 7 + 12 * (k % 2))),
-    "A.M.": ("a.m. p.m. A.M. P.M.".split(), "HH12", b"07", lambda k: (0, 1, 1, 7 + 12 * (k % 2))),
-    "BC": ("ad bc AD BC".split(), "YYYY", b"2024", lambda k: (1 - 2024 if k % 2 else 2024, 1, 1, 0)),
-    "B.C.": ("a.d. b.c. A.D. B.C.".split(), "YYYY", b"2024", lambda k: (1 - 2024 if k % 2 else 2024, 1, 1, 0)),
-    "RM": ("xii xi x ix viii vii vi v iv iii ii i".split(), "DD", b"07", lambda k: (0, 12 - k, 7, 0)),
+    "Month": (MONTHS, "DD", b"07", month),
+    "Mon": ([m[:3] for m in MONTHS], "DD", b"07", month),
+    "Day": (DAYS, "IYYY-IW", b"2024-01", weekday),
+    "Dy": ([d[:3] for d in DAYS], "IYYY-IW", b"2024-01", weekday),
+    "AM": ("am pm AM PM".split(), "HH12", b"07", half_day),
+    "A.M.": ("a.m. p.m. A.M. P.M.".split(), "HH12", b"07", half_day),
+    "BC": ("ad bc AD BC".split(), "YYYY", b"2024", era),
+    "B.C.": ("a.d. b.c. A.D. B.C.".split(), "YYYY", b"2024", era),
+    "RM": ("xii xi x ix viii vii vi v iv iii ii i".split(), "DD", b"07", roman_month),
 }
 
-PIECES = [b"\0", b" ", b".", b"@", b"[", b"`", b"{", b"0", b"a", b"Z", b"\x7f", b"\xc3\xa9", b"\xe2\x82\xac", b"\xc3", b"\xff"]
+PIECES = [b"\0", b" ", b".", b"@", b"[", b"`", b"{", b"0", b"a", b"Z", b"\x7f", "é".encode(), "€".encode(), b"\xc3", b"\xff"]
 
 
 def folded(text):
@@ -36,7 +59,8 @@ def folded(text):
 def word_at(words, text, at):
     """The first word that is in the text from a place on, byte by byte, in either case."""
     for k, word in enumerate(words):
-        if len(text) - at >= len(word) and all(folded(text[at + i : at + i + 1]) == folded(word[i : i + 1]) for i in range(len(word))):
+        bytes_there = (text[at + i : at + i + 1] for i in range(len(word)))
+        if all(folded(b) == folded(bytes([c])) for b, c in zip(bytes_there, word)):
             return k, len(word)
     return None
 
@@ -55,31 +79,38 @@ def spelled(random_, word):
 
 
 def spoilt(random_, text):
-    """A text with a byte put in, left out or exchanged, or with its end cut off."""
+    """A text with a piece put in, a byte left out, a byte exchanged for a piece, or its end cut off."""
     at = random_.randrange(len(text) + 1)
     piece = random_.choice(PIECES)
-    return random_.choice((text[:at] + piece + text[at:], text[:at] + text[at + 1 :], text[:at] + piece + text[at + 1 :], text[:at]))
+    return random_.choice(
+        (
+            text[:at] + piece + text[at:],
+            text[:at] + text[at + 1 :],
+            text[:at] + piece + text[at + 1 :],
+            text[:at],
+        )
+    )
 
 
 def question(random_):
-    """A template, an input, and the answer that is due; None where the words of the request do not decide it."""
+    """A template, an input, and the answer that is due; None where the word does not decide it."""
     name = random_.choice(list(LISTS))
-    names, number_pattern, number, parts = LISTS[name]
+    names, after, what_follows, parts = LISTS[name]
     words = [w.encode() for w in names]
     front = random_.choice((b"", "ngày ".encode()))
     spaces = b"" if front else b" " * random_.choice((0, 0, 1, 3))
-    text = spelled(random_, random_.choice(names)) + number + random_.choice((b"", b" and more"))
+    text = spelled(random_, random_.choice(names)) + what_follows + random_.choice((b"", b" and more"))
     if random_.random() < 0.5:
         text = spoilt(random_, text)
     text = front + spaces + text
     at = len(front + spaces)
-    if at == len(text) or text[at] == 32:
-        return None
     found = word_at(words, text, at)
     once = word_in(words, folded(text[at : at + max(map(len, words))]))
     if found != once:
         sys.exit(f"the two searches differ: {name} {text!r} at {at}: {found} and {once}")
-    template = (b'"%s"' % front if front else b"") + (name + number_pattern).encode()
+    if at == len(text) or text[at] == ord(" "):
+        return None
+    template = (b'"%s"' % front if front else b"") + (name + after).encode()
     try:
         text.decode()
     except UnicodeDecodeError:
@@ -87,10 +118,10 @@ def question(random_):
     if found is None:
         return template, text, f"9 {name} 0 0"
     k, length = found
-    if not re.match(number + rb"(?!\d)", text[at + length :]):
+    if not re.match(what_follows + rb"(?!\d)", text[at + length :]):
         return None
-    year, month, day, hour = parts(k)
-    return template, text, f"0 {year} {month} {day} {hour} 0 0 0 0 none"
+    year, month_, day, hour = parts(k)
+    return template, text, f"0 {year} {month_} {day} {hour} 0 0 0 0 none"
 
 
 def main(program, seed, count):
@@ -101,7 +132,8 @@ def main(program, seed, count):
         if one:
             questions.append(one)
     lines = b"".join(template + b"\t" + text + b"\n" for template, text, _ in questions)
-    answers = subprocess.run([program, "parts"], input=lines, stdout=subprocess.PIPE, check=True).stdout.decode().split("\n")[:-1]
+    run = subprocess.run([program, "parts"], input=lines, stdout=subprocess.PIPE, check=True)
+    answers = run.stdout.decode().split("\n")[:-1]
     if len(answers) != len(questions):
         sys.exit(f"{len(questions)} lines, {len(answers)} answers")
     for (template, text, due), answer in zip(questions, answers):

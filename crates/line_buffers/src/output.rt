@@ -2,7 +2,7 @@
 // was put.
 ghost use mathlib.Core.Path.{_≡_};
 ghost use mathlib.Core.List.{[], _∷_};
-ghost use Prim.Native.Nat.{_-_, _<_, min};
+ghost use Prim.Native.Nat.{_<_};
 ghost use lib.IntN.{natAbs};
 ghost use lib.ListN.{length, drop};
 ghost use Rattle.line_buffers.specs.Output.{Put};
@@ -18,21 +18,10 @@ pub fn put_byte(b: u8, out: &mut [u8], at: usize) -> usize
     at
 }
 
-// How many of `count` bytes fit from a place on.
-fn fitting(size: usize, at: usize, count: usize) -> usize
-    ensures { λ r. ⌜ r ≡ min count (size - at) ⌝ }
-{
-    if size <= at {
-        return 0;
-    }
-    let room = size - at;
-    if count <= room { count } else { room }
-}
-
 pub fn put_bytes(text: &[u8], out: &mut [u8], at: usize) -> usize
     ensures { λ r. ⌜ Put (now (out .entry)) at (now (text .entry)) (now (out .exit)) r ⌝ }
 {
-    let n = fitting(out.len(), at, text.len());
+    let n = base_notation::fitting(out.len(), at, text.len());
     let mut i = 0;
     while i < n {
         out[at + i] = text[i];

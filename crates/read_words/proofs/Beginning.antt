@@ -1,6 +1,6 @@
 -- The folded beginning of the input, put into nine bytes one after another. Assumes nothing.
 -- `put-next`: the byte after the first j, made small, is put after them.
--- `all-put`: when as many are put as are wanted, or as there are, all are.
+-- `all-put`: when j is the number that is wanted, or all that the input has, the beginning is complete.
 use mathlib.Core.Path.{_≡_, _∙_, refl, sym, ap}
 use mathlib.Core.Bool.{Bool, true, false}
 use mathlib.Core.List.{List, [], _∷_, _++_, map-append}

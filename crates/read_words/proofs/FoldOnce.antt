@@ -1,6 +1,5 @@
 -- The folded beginning of the input has the word that the input has. Assumes nothing.
 -- `fold-once`: of every list, at every place of every input: also past its end, and where the input ends inside a word.
--- `folded-byte`: byte i of the beginning is byte i after the place, made small; past the end of the input both are 0.
 -- `same-word`: bytes with 0s after them, nine in all, have the word that the bytes alone have.
 use mathlib.Core.Path.{_≡_, _∙_, refl, ap}
 use mathlib.Core.List.{List, [], _∷_, _++_, map}
@@ -10,7 +9,6 @@ use native.Mathlib.Omega.{arith}
 use lib.ListN.{length, take, drop, replicate, length-map, List·getD-map}
 use lib.Seq.{getD-drop, getD-take}
 use Rattle.base_chars.specs.Fold.{folded}
-use Rattle.base_notation.specs.Choice.{if_then_else_}
 use Rattle.base_notation.specs.Text.{byteAt}
 use Rattle.template_patterns.specs.Search.{matchesAt}
 use Rattle.template_patterns.specs.Words.{wordsOf, smallWords, longest}
@@ -19,7 +17,8 @@ use Rattle.read_words.specs.FoldOnce.{beginning, firstIn, wordIn, inNine
 use Rattle.read_words.specs.Spelling.{spelledAt, firstWord, wordAt}
 
 module _ (n : ℕ) (s : List ℕ) (at : ℕ) where
-  pub folded-byte : (i : ℕ) → i < n → byteAt (beginning n s at) i ≡ folded (byteAt s (at + i))
+  -- byte i of the beginning is byte i after the place, made small; past the end of the input both are 0
+  folded-byte : (i : ℕ) → i < n → byteAt (beginning n s at) i ≡ folded (byteAt s (at + i))
   folded-byte i h = List·getD-map folded (take n (drop at s)) i 0 ∙ ap folded (getD-take n (drop at s) i 0 h ∙ getD-drop at s i 0)
 
   -- a word of at most n bytes, from its byte i on

@@ -186,7 +186,7 @@ module _ (t : List ℕ) where
           : {P : Type 0} → (k < length (smallWords list) → matchesAt w t 0 ≡ true → n ≡ length w → P)
           → (k < length (smallWords list) → matchesAt w t 0 ≡ false → n ≡ 0 → P) → (length (smallWords list) ≤ k → n ≡ 0 → P) → P
       by-row {P} hit miss past =
-          (elim (ltb k (length (smallWords list))) as (λ t. ltb k (length (smallWords list)) ≡ t → P) [
+          (elim (ltb k (length (smallWords list))) as (λ b. ltb k (length (smallWords list)) ≡ b → P) [
             | true ↦ λ l.
                 (elim (matchesAt w t 0) as (λ b. matchesAt w t 0 ≡ b → P) [
                   | true ↦ λ e. hit (ltb-true _ _ l) e (rw e at length-is)

@@ -1,5 +1,5 @@
--- Fold once: the beginning of the input is made small once, and a word of a list is searched in those bytes alone. The
--- words of a list are kept in small letters.
+-- Fold once: the beginning of the input is folded once, and a word of a list is searched in those bytes alone. The words
+-- of a list are kept in small letters.
 use mathlib.Core.Path.{_≡_, refl}
 use mathlib.Core.List.{List, [], _∷_, _++_, map}
 use Prim.Native.Nat.{ℕ, suc, _-_, _*_}
@@ -38,17 +38,22 @@ wordIn list t = firstIn 0 (smallWords list) t
 pub record FoldOnce : Type 0 where
   pub same : (list : WordList) (s : List ℕ) (at : ℕ) → wordIn list (beginningFor list s at) ≡ wordAt list s at
 
--- bytes in nine, with 0s after them
+-- bytes with 0s after them, nine in all
 abbrev pub inNine : List ℕ → List ℕ
 inNine t = t ++ replicate (9 - length t) 0
 
--- a row of a table up to its first space: the word in row k, where rows have nine bytes
+-- bytes up to the first space
 abbrev pub untilSpace : List ℕ → List ℕ
 untilSpace [] = []
 untilSpace (c ∷ cs) = if eqb c (code " ") then [] else c ∷ untilSpace cs
 
+-- the word in row k of a table whose rows have nine bytes
 unfoldable pub rowOf : List ℕ → ℕ → List ℕ
 rowOf table k = untilSpace (take 9 (drop (9 * k) table))
+
+-- three bytes and six 0s
+pub padded : inNine (utf8 "may") ≡ 109 ∷ 97 ∷ 121 ∷ 0 ∷ 0 ∷ 0 ∷ 0 ∷ 0 ∷ 0 ∷ []
+padded = refl
 
 -- the second word of a table
 pub second : rowOf (utf8 "january  february march    ") 1 ≡ utf8 "february"

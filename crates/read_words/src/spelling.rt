@@ -1,6 +1,6 @@
 // Words of the input, in either case.
 ghost use mathlib.Core.Path.{_≡_};
-ghost use Prim.Native.Nat.{_-_, _*_, _<_, _≤_, min};
+ghost use Prim.Native.Nat.{_*_, _<_, _≤_};
 ghost use lib.ListN.{length};
 ghost use Rattle.base_chars.specs.Fold.{folded as foldedByte};
 ghost use Rattle.base_notation.specs.Text.{byteAt};
@@ -30,23 +30,12 @@ fn folded(b: u8) -> u8
     b
 }
 
-// The number of bytes from a place on, at most `most`.
-fn left_at(s: &[u8], at: usize, most: usize) -> usize
-    ensures { λ r. ⌜ r ≡ min most (length (now (s .entry)) - at) ⌝ }
-{
-    if s.len() <= at {
-        return 0;
-    }
-    let left = s.len() - at;
-    if most <= left { most } else { left }
-}
-
 // The bytes of the input from a place on, at most `most`, with capital letters made small; then 0s, nine in all.
 fn folded_beginning(s: &[u8], at: usize, most: usize) -> [u8; 9]
     requires { ⌜ most ≤ 9 ⌝ }
     ensures { λ r. ⌜ r ≡ inNine (beginning most (now (s .entry)) at) ⌝ }
 {
-    let n = left_at(s, at, most);
+    let n = base_notation::fitting(s.len(), at, most);
     let mut start = [0u8; 9];
     let mut j: usize = 0;
     while j < 9 {

@@ -34,6 +34,6 @@ longest (w ∷ ws) = max (length w) (longest ws)
 unfoldable pub wordTable : WordList → List ℕ
 wordTable list = filled 108 (inRows 9 (smallWords list))
 
--- AM is the same word as am, and September is the longest month
+-- AM is the same word as am, and September is the longest name of a month
 pub worked : (smallWords AmPm ≡ map utf8 ("am" ∷ "pm" ∷ "am" ∷ "pm" ∷ [])) × (longest (wordsOf MonthsFull) ≡ length (utf8 "September"))
 worked = (refl, refl)

@@ -8,9 +8,6 @@ use lib.Seq.{sets}
 use Rattle.line_buffers.proofs.Puts.{sets-suc, put-fitting}
 use Rattle.line_buffers.proofs.output.put_bytes.Statement.{statement}
 use Rattle.line_buffers.proofs.output.put_bytes.Tie as tie
-use Rattle.line_buffers.proofs.output.put_bytes.Reads as reads
-use Rattle.line_buffers.proofs.output.put_bytes.Lts as lts
-use Rattle.line_buffers.proofs.output.fitting.Reads as fitting-reads
 
 abbrev Inv-loop : tie.InvT-loop
 Inv-loop text out₀ at n i₀ out i = (i ≤ n) × (out ≡ sets out₀ at (take i text)) × (length out ≡ length out₀)

@@ -34,7 +34,7 @@ returns-2 c list e =
     let in-loop = c .before .before .before .before in
     found _ list _ _ (in-loop .loop-test .taken) (rw e at (c .before .spelled .ensures)) (c .if3 .taken) (in-loop .before .loop .inv .1 list e)
 
--- it is not, though its first byte is there, or that is another: on to the next row
+-- the word is not there, or its first byte is another: on to the next row
 loop-again : tie.Need-loop-again Inv-loop μ-loop
 loop-again c =
     let in-loop = c .before .before in

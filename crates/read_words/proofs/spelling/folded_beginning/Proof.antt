@@ -20,11 +20,11 @@ loop-holds : tie.Need-loop-holds Inv-loop μ-loop
 loop-holds c = (search needs, refl)
 
 -- as many bytes are folded as are wanted, or as there are
-ended : (c : tie.At-loop Inv-loop μ-loop) → c .loop .j ≡ c .before .left-at .result
+ended : (c : tie.At-loop Inv-loop μ-loop) → c .loop .j ≡ c .before .fitting .result
     → let args = c .before .before .before .args in c .loop .start ≡ inNine (beginning (args .most) (now (args .s)) (args .at))
 ended c e =
     let args = c .before .before .before .args in
-    c .loop .inv .1 ∙ all-put (now (args .s)) (args .at) _ _ (c .loop .j) (c .before .left-at .ensures) e
+    c .loop .inv .1 ∙ all-put (now (args .s)) (args .at) _ _ (c .loop .j) (c .before .fitting .ensures) e
 
 -- the input ends, or no word of the list is longer
 returns : tie.Need-returns Inv-loop μ-loop
