@@ -1,6 +1,7 @@
--- All that is promised of the date reader and its writer, in one file: a record for each demand, and in the end one of
--- them all. `kept` in proofs/Promises.antt proves it. t is a template, s an input, c the bytes of a compiled template,
--- ns nodes: any numbers of any length. What a name means is in the file that it is taken from.
+-- All that is promised of the date reader and its writer, in one file: a record for each demand, one for the change
+-- requests, and in the end one of them all. `kept` in proofs/Promises.antt proves it. t is a template, s an input, c
+-- the bytes of a compiled template, ns nodes: any numbers of any length. What a name means is in the file that it is
+-- taken from.
 use mathlib.Core.Path.{_≡_}
 use mathlib.Core.Bool.{true}
 use mathlib.Core.List.{List}
