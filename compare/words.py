@@ -36,7 +36,7 @@ def era(k):
     return 1 - 2024 if k % 2 else 2024, 1, 1, 0
 
 
-# for each pattern: its words in formatting.c's order, the template and the text after it, and the parts by the word's index
+# for each pattern: its words in formatting.c's order, the template and the text after it, the parts by the word's index
 LISTS = {
     "Month": (MONTHS, "DD", b"07", month),
     "Mon": ([m[:3] for m in MONTHS], "DD", b"07", month),
@@ -49,7 +49,9 @@ LISTS = {
     "RM": ("xii xi x ix viii vii vi v iv iii ii i".split(), "DD", b"07", roman_month),
 }
 
-PIECES = [b"\0", b" ", b".", b"@", b"[", b"`", b"{", b"0", b"a", b"Z", b"\x7f", "é".encode(), "€".encode(), b"\xc3", b"\xff"]
+# ends of the letters, a NUL, characters of two and three bytes, and bytes that are no character
+PIECES = [b"@", b"Z", b"[", b"`", b"a", b"{", b" ", b".", b"0", b"\0", b"\x7f"]
+PIECES += ["é".encode(), "€".encode(), b"\xc3", b"\xff"]
 
 
 def folded(text):
