@@ -107,7 +107,8 @@ uint8_t sorbilgan_date(const char *template_text, size_t template_length, const 
 
 /*
  * Writes a moment into a buffer of `room` bytes; the value is the length of the text, which has no final 0. The bytes
- * after the text stay as they were, and on refusal all of them do.
+ * after the text stay as they were, and on refusal all of them do. The markers am, pm, a.m. and p.m. are written in
+ * small letters, AM, PM, A.M. and P.M. in capitals.
  */
 uint8_t sorbilgan_write(const char *template_text, size_t template_length, int32_t year, int32_t month, int32_t day,
                         int32_t hour, int32_t minute, int32_t second, int32_t micros, char *text, size_t room,

@@ -1,4 +1,7 @@
-/* Marks lines by a template that is compiled once, then writes a moment by it. examples/c/run builds and runs this. */
+/*
+ * Marks lines by a template that is compiled once, then writes a moment by it and another by a template that is used
+ * once. examples/c/run builds and runs this.
+ */
 #include <inttypes.h>
 #include <stdio.h>
 #include <string.h>
@@ -34,6 +37,16 @@ static void print_leap_day(const uint8_t *nodes, size_t nodes_length) {
     }
 }
 
+static void print_evening(void) {
+    static const char clock[] = "HH12:MI am";
+    struct sorbilgan_value_answer answer;
+    char text[SORBILGAN_INPUT_LIMIT];
+
+    if (sorbilgan_write(clock, sizeof clock - 1, 2024, 2, 29, 21, 5, 0, 0, text, sizeof text, &answer) == 0) {
+        printf("%.*s\n", (int)answer.value, text);
+    }
+}
+
 int main(void) {
     uint8_t nodes[SORBILGAN_NODES];
     const int64_t nodes_length = sorbilgan_compile(template_text, template_length, nodes);
@@ -46,5 +59,6 @@ int main(void) {
     mark(nodes, (size_t)nodes_length, "ngày 29 tháng 02 năm 2023");
     mark(nodes, (size_t)nodes_length, "ngày hai mươi");
     print_leap_day(nodes, (size_t)nodes_length);
+    print_evening();
     return 0;
 }

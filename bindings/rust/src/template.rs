@@ -120,7 +120,7 @@ impl Template {
     }
 
     /// Writes a moment to the front of a buffer and answers the length of the text. The bytes after it stay as they
-    /// were.
+    /// were. Numbers have a fixed width, and a marker is in the case of its pattern.
     ///
     /// # Errors
     ///
@@ -154,6 +154,10 @@ impl Template {
     ///
     /// let moment = Moment::midnight(2024, 2, 29);
     /// assert_eq!(Template::compile("DD/MM/YYYY")?.format(&moment)?, "29/02/2024");
+    ///
+    /// let evening = Moment { hour: 21, minute: 5, ..moment };
+    /// assert_eq!(Template::compile("HH12:MI am")?.format(&evening)?, "09:05 pm");
+    /// assert_eq!(Template::compile("HH12:MI A.M.")?.format(&evening)?, "09:05 P.M.");
     ///
     /// let refusal = Template::compile("DD Month YYYY")?.format(&moment).unwrap_err();
     /// assert_eq!(refusal.pattern(), Some("Month"));

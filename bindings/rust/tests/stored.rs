@@ -39,7 +39,7 @@ fn days() {
 
 #[test]
 fn texts() {
-    replay("write", "crates/dates/lists/moments.in", "crates/dates/lists/moments.out", 3087);
+    replay("write", "crates/dates/lists/moments.in", "crates/dates/lists/moments.out", 3092);
 }
 
 /// moments.back has the seven numbers, the instant and the day where the template is full, else `-`.

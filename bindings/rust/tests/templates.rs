@@ -4,6 +4,7 @@ use sorbilgan::{write, Moment, Refusal, Template};
 use std::alloc::{GlobalAlloc, Layout, System};
 use std::cell::Cell;
 use std::collections::HashSet;
+use std::str;
 use std::thread;
 
 const LEAP_DAY: Moment = Moment::midnight(2024, 2, 29);
@@ -67,6 +68,23 @@ fn bytes_after_the_text_stay() {
             let mut buffer = vec![b'#'; room];
             assert_eq!(write(&LEAP_DAY, &mut buffer), Ok(10));
             assert_eq!(buffer, ["29.02.2024", &"#".repeat(room - 10)].concat().as_bytes());
+        }
+    }
+}
+
+/// Each of the eight markers writes in its own case, before noon and from noon on.
+#[test]
+fn markers_in_their_own_case() {
+    for write in writers("HH12 AM PM A.M. P.M. am pm a.m. p.m.") {
+        for (hour, text) in [
+            (0, "12 AM AM A.M. A.M. am am a.m. a.m."),
+            (11, "11 AM AM A.M. A.M. am am a.m. a.m."),
+            (12, "12 PM PM P.M. P.M. pm pm p.m. p.m."),
+            (23, "11 PM PM P.M. P.M. pm pm p.m. p.m."),
+        ] {
+            let mut buffer = [0; 34];
+            assert_eq!(write(&Moment { hour, ..LEAP_DAY }, &mut buffer), Ok(34));
+            assert_eq!(str::from_utf8(&buffer), Ok(text));
         }
     }
 }

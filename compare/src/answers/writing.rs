@@ -90,24 +90,18 @@ pub fn to_char(template: &str, micros: i64) -> String {
     to_char_timestamp(micros, template).expect("a date pattern writes every timestamp").unwrap_or_default()
 }
 
-/// The text by to_char, but for two patterns that the writer writes otherwise: markers in capitals whatever the
-/// pattern's case, and SSSSS filled with zeros. The template is cut around them, and what to_char writes for such a
-/// pattern alone is changed.
+/// The text by to_char, but for SSSSS, which the writer fills with zeros: the template is cut around it, and what to_char
+/// writes for it alone is filled.
 fn text(template: &str, micros: i64) -> String {
     let nodes = parse(template.as_bytes());
-    let otherwise = |node: &FmtNode| {
-        node.key.is_some_and(|key| matches!(key.id, DCH_SSSS | DCH_am | DCH_pm | DCH_a_m | DCH_p_m))
-    };
-    if !nodes.iter().any(otherwise) {
-        return to_char(template, micros);
-    }
     let (mut text, mut from) = (String::new(), 0);
-    for (node, start) in nodes.iter().zip(starts(template.as_bytes(), &nodes)).filter(|(node, _)| otherwise(node)) {
-        let end = start + length(node);
-        let own = to_char(&template[start..end], micros);
-        text += &to_char(&template[from..start], micros);
-        text += &if node.key().id == DCH_SSSS { format!("{own:0>5}") } else { own.to_ascii_uppercase() };
-        from = end;
+    for (node, start) in nodes.iter().zip(starts(template.as_bytes(), &nodes)) {
+        if node.key.is_some_and(|key| key.id == DCH_SSSS) {
+            let end = start + length(node);
+            text += &to_char(&template[from..start], micros);
+            text += &format!("{:0>5}", to_char(&template[start..end], micros));
+            from = end;
+        }
     }
     text + &to_char(&template[from..], micros)
 }

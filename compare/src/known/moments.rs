@@ -3,6 +3,7 @@
 type Known = (&'static str, &'static str, &'static str);
 
 const NOW: &str = "2024 2 29 15 4 5 6";
+const MARKERS: &str = "HH12:MI AM PM A.M. P.M. am pm a.m. p.m.";
 const TOO_LONG: &str = "1 - 0 0";
 const NOT_UTF8: &str = "2 - 0 0";
 const NO_MOMENT: &str = "20 - 0 0";
@@ -19,8 +20,8 @@ const WRITTEN: &[Known] = &[
         NOW,
         "0 ngày 29 tháng 02 năm 2024, 15 giờ 04 phút 05,000006 giây",
     ),
-    ("HH:MI:SS.US am DD.MM.YYYY", NOW, "0 03:04:05.000006 PM 29.02.2024"),
-    ("HH:MI:SS.US p.m. DD.MM.YYYY", NOW, "0 03:04:05.000006 P.M. 29.02.2024"),
+    ("HH:MI:SS.US am DD.MM.YYYY", NOW, "0 03:04:05.000006 pm 29.02.2024"),
+    ("HH:MI:SS.US p.m. DD.MM.YYYY", NOW, "0 03:04:05.000006 p.m. 29.02.2024"),
     ("HH:MI:SS.US P.M. DDD/YYYY", "1 1 1 0 0 0 0", "0 12:00:00.000000 A.M. 001/0001"),
     ("hh12:mi:ss.us AM ddd/yyyy", "9999 12 31 12 59 59 999999", "0 12:59:59.999999 PM 365/9999"),
     ("SSSSS.US YYYY DDD", "2024 12 31 0 0 0 0", "0 00000.000000 2024 366"),
@@ -38,8 +39,15 @@ const WRITTEN: &[Known] = &[
     ("\"", NOW, "0 "),
     ("ngà", NOW, "0 ngà"),
     ("\"20 - 0 0\"", NOW, "0 20 - 0 0"),
-    ("YYYY YYYY am", NOW, "0 2024 2024 PM"),
-    ("HH24 a.m.", "2024 2 29 11 59 59 999999", "0 11 A.M."),
+    ("YYYY YYYY am", NOW, "0 2024 2024 pm"),
+    ("HH24 a.m.", "2024 2 29 11 59 59 999999", "0 11 a.m."),
+    // every marker in its own case, on both sides of midnight and noon
+    (MARKERS, "2024 2 29 0 0 0 0", "0 12:00 AM AM A.M. A.M. am am a.m. a.m."),
+    (MARKERS, "2024 2 29 11 59 0 0", "0 11:59 AM AM A.M. A.M. am am a.m. a.m."),
+    (MARKERS, "2024 2 29 12 0 0 0", "0 12:00 PM PM P.M. P.M. pm pm p.m. p.m."),
+    (MARKERS, "2024 2 29 23 59 0 0", "0 11:59 PM PM P.M. P.M. pm pm p.m. p.m."),
+    // no markers: a literal's letters are written as they are
+    ("Am aM Pm pM A.m. a.M. \"am\"", "2024 2 29 21 0 0 0", "0 Am aM Pm pM A.m. a.M. am"),
     // numbers as strtol reads them
     ("MM", "2024 +2 029 15 4 5 6", "0 02"),
 ];

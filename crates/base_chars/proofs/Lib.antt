@@ -2,6 +2,8 @@
 pub mod Ranges
 -- the class of a byte by comparisons
 pub mod Classes
+-- a byte whose capital letter is made small
+pub mod Folds
 -- sets of numbers below 128, given by bits
 pub mod Sets
 -- the length of a character: 1 to 4, within the text

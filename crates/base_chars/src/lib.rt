@@ -7,6 +7,7 @@ ghost use lib.ListN.{length, drop, replicate};
 ghost use Rattle.base_notation.specs.Choice.{if_then_else_};
 ghost use Rattle.base_chars.specs.Character.{lead, Measured};
 ghost use Rattle.base_chars.specs.Class.{isSpace, isDigit, isLetter, isSeparator};
+ghost use Rattle.base_chars.specs.Fold.{folded as foldedByte};
 ghost use Rattle.base_chars.specs.Range.{_‥_};
 ghost use Rattle.base_chars.specs.Sets.{inSet};
 ghost use Rattle.base_chars.specs.Utf8.{begins, sequence, wellFormed, Passed};
@@ -34,6 +35,19 @@ pub fn is_alpha_c(b: u8) -> bool
     } else {
         b <= b'z'
     }
+}
+
+// A capital letter made small.
+pub fn folded(b: u8) -> u8
+    ensures { λ r. ⌜ r ≡ foldedByte b ⌝ }
+{
+    if b < b'A' {
+        return b;
+    }
+    if b <= b'Z' {
+        return b + 32;
+    }
+    b
 }
 
 // Printable ASCII that is no space, letter or digit.

@@ -20,6 +20,7 @@ use Rattle.write_pieces.specs.Pieces as P
 use Rattle.write_text.specs.Report.{unwrittenReport}
 use Rattle.write_text.specs.Text.{nodeText, nodesText, textOf}
 use Rattle.write_text.specs.Writer.{firstUnwritten, writtenTo}
+use Rattle.template_patterns.specs.Cases.{caseOf}
 use Rattle.template_nodes.specs.Examples.{nodes-compute}
 use Rattle.line_numbers.specs.Items.{itemsOf}
 use Rattle.line_numbers.specs.Numbers.{narrow, narrowed, numberOf}
@@ -70,8 +71,8 @@ days = (refl, refl)
 pub texts
     : (answerLine Write (utf8 "\"ngày \"DD\" tháng \"MM\" năm \"YYYY\" \"HH24:MI:SS.US\t2024 2 29 9 5 0 0")
     ≡ utf8 "0 ngày 29 tháng 02 năm 2024 09:05:00.000000")
-    × (answerLine Write (utf8 "YYYY-DDD HH12:MI:SS a.m.\t2024 2 29 21 5 0 0\r") ≡ utf8 "0 2024-060 09:05:00 P.M.")
+    × (answerLine Write (utf8 "YYYY-DDD HH12:MI:SS a.m.\t2024 2 29 21 5 0 0\r") ≡ utf8 "0 2024-060 09:05:00 p.m.")
     × (answerLine Write (utf8 "DD Month YYYY\t2024 2 29 0 0 0 0") ≡ utf8 "19 Month 0 0")
     × (answerLine Write (utf8 "YYYY-MM-DD\t2023 2 29 0 0 0 0") ≡ utf8 "20 - 0 0")
-unfolding line-computes textAnswer textOf nodesText nodeText writtenTo firstUnwritten unwrittenReport momentOf sevenOf numbersIn itemsOf narrow narrowed numberOf strtol-computes isMoment P.pieceOf P.pieceText P.numberOf D.decimal nodes-compute
+unfolding line-computes textAnswer textOf nodesText nodeText writtenTo firstUnwritten unwrittenReport momentOf sevenOf numbersIn itemsOf narrow narrowed numberOf strtol-computes isMoment P.pieceOf P.pieceText P.numberOf caseOf D.decimal nodes-compute
 texts = (refl, refl, refl, refl)

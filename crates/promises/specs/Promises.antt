@@ -25,6 +25,7 @@ use Rattle.moment_instants.specs.declared.epoch.Instant.the-variants.{Refused a
 use Rattle.moment_instants.specs.declared.epoch.Undated.{Undated}
 use Rattle.write_pieces.specs.Moment.{isMoment, PlainMoment}
 use Rattle.write_pieces.specs.declared.Moment.{Moment}
+use Rattle.write_text.specs.OwnCase.{OwnCase}
 use Rattle.write_text.specs.Report.{unwrittenReport}
 use Rattle.write_text.specs.Text.{textOf}
 use Rattle.write_text.specs.Writer.{bufferAfter, textIn, writtenIn, writtenTo}
@@ -151,6 +152,8 @@ pub record EveryTemplate : Type 0 where
 
 -- Change requests (docs/changes): what each promises beyond the demands
 pub record EveryRequest : Type 0 where
+  -- CR 1: each of the eight markers writes in its own case, in every template and at every moment
+  pub own-case : OwnCase
   -- CR 3: the beginning of the input, folded once, has the word that the input has
   pub fold-once : FoldOnce
 

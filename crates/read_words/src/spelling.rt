@@ -2,7 +2,6 @@
 ghost use mathlib.Core.Path.{_≡_};
 ghost use Prim.Native.Nat.{_*_, _<_, _≤_};
 ghost use lib.ListN.{length};
-ghost use Rattle.base_chars.specs.Fold.{folded as foldedByte};
 ghost use Rattle.base_notation.specs.Text.{byteAt};
 ghost use Rattle.template_patterns.specs.Search.{lengthAt};
 ghost use Rattle.template_patterns.specs.Words.{wordTable};
@@ -15,19 +14,6 @@ use template_patterns::WordList;
 pub enum Word {
     At { index: usize, len: usize },
     Nothing,
-}
-
-// A capital letter made small.
-fn folded(b: u8) -> u8
-    ensures { λ r. ⌜ r ≡ foldedByte b ⌝ }
-{
-    if b < b'A' {
-        return b;
-    }
-    if b <= b'Z' {
-        return b + 32;
-    }
-    b
 }
 
 // The bytes of the input from a place on, at most `most`, with capital letters made small; then 0s, nine in all.
@@ -43,7 +29,7 @@ fn folded_beginning(s: &[u8], at: usize, most: usize) -> [u8; 9]
             return start;
         }
         let b = s[at + j];
-        start[j] = folded(b);
+        start[j] = base_chars::folded(b);
         j += 1;
     }
     start

@@ -28,6 +28,8 @@ use Rattle.base_strtol.specs.Decimal.{decimal}
 use Rattle.base_strtol.specs.Runs.{digits, spaces}
 use Rattle.template_nodes.specs.Template.{action}
 use Rattle.template_nodes.specs.declared.Node.{Node}
+use Rattle.template_patterns.specs.Cases.{caseOf}
+use Rattle.template_patterns.specs.declared.Case.{Case}
 use Rattle.write_pieces.specs.Moment.{moment}
 use Rattle.readback.proofs.MomentFacts.{IsMoment}
 use Rattle.write_pieces.specs.Pieces.{widthOf, numberOf, isMorning, pieceOf, pieceText}
@@ -36,7 +38,7 @@ use Rattle.readback.proofs.Settings.{settings, filledBy}
 use Rattle.readback.proofs.Ahead.{ink-spaces}
 use Rattle.readback.proofs.Known.{taskFor, modeFor, sizeFor}
 use Rattle.readback.proofs.Literals.{Left, left-past}
-use Rattle.readback.proofs.Markers.{marker-found, dotted-found}
+use Rattle.readback.proofs.Markers.{marker-found}
 use Rattle.readback.proofs.Numbers.{number-read}
 use Rattle.readback.proofs.Sound.{Pattern}
 use Rattle.readback.proofs.Texts.{number-text, width-some, piece-written}
@@ -59,13 +61,13 @@ is-word = each (λ p. taskFor p .kind ≡ word) 14 1 (omega arith)
 no-exact : (p : ℕ) → 1 ≤ p → p ≤ 15 → eqb (taskFor p .kind) exact ≡ false
 no-exact p from to = ne-eqb (taskFor p .kind) exact (each (λ p. taskFor p .kind ≡ exact → ⊥) 1 14 (omega arith) p from to)
 
--- a marker's text is found in its list
-word-found : (s v : List ℕ) (at : ℕ) (m : Moment) (p : ℕ) → 14 ≤ p → p ≤ 15 → drop at s ≡ pieceText p m ++ v
+-- a marker's text, in whatever case, is found in its list
+word-found : (s v : List ℕ) (at : ℕ) (case : Case) (m : Moment) (p : ℕ) → 14 ≤ p → p ≤ 15 → drop at s ≡ pieceText p case m ++ v
     → wordAt (listOf (taskFor p .operand)) s at ≡ At (wordFor m) (sizeFor p)
 unfolding pieceText
-word-found s v at m =
-    each (λ p. drop at s ≡ pieceText p m ++ v → wordAt (listOf (taskFor p .operand)) s at ≡ At (wordFor m) (sizeFor p)) 14 1
-    (marker-found s v at (isMorning m), dotted-found s v at (isMorning m))
+word-found s v at case m =
+    each (λ p. drop at s ≡ pieceText p case m ++ v → wordAt (listOf (taskFor p .operand)) s at ≡ At (wordFor m) (sizeFor p)) 14 1
+    (marker-found case s v at false (isMorning m), marker-found case s v at true (isMorning m))
 
 -- the date mode is no field of a piece
 mode-apart : (p : ℕ) → 1 ≤ p → p ≤ 15 → (f : Fields) → get (withMode (modeFor p) f) (taskFor p .field) ≡ get f (taskFor p .field)
@@ -80,7 +82,8 @@ module _ (s : List ℕ) {y mo d h mi sec us : ℕ} (is : IsMoment y mo d h mi se
   abbrev now : Moment
   now = moment y mo d h mi sec us
 
-  module _ (p : ℕ) (from : 1 ≤ p) (f : Fields) (absent : get f (taskFor p .field) ≡ pos 0) (v : List ℕ) (at : ℕ) (here : drop at s ≡ pieceText p now ++ v) where
+  module _ (p : ℕ) (from : 1 ≤ p) (case : Case) (f : Fields) (absent : get f (taskFor p .field) ≡ pos 0) (v : List ℕ) (at : ℕ)
+      (here : drop at s ≡ pieceText p case now ++ v) where
     -- the piece's task at its text sets what the piece sets, and ends after the text
     abbrev Performs : Bool → Type 0
     Performs free =
@@ -92,7 +95,7 @@ module _ (s : List ℕ) {y mo d h mi sec us : ℕ} (is : IsMoment y mo d h mi se
         let task = is-number p from to in
         let small = number-small is p from to in
         let taken : at + widthOf p - at ≡ widthOf p = omega arith in
-        let digits-here : drop at s ≡ decimal (widthOf p) (numberOf p now) ++ v = rw (← number-text now p to) here in
+        let digits-here : drop at s ≡ decimal (widthOf p) (numberOf p now) ++ v = rw (← number-text case now p to) here in
         rw (
           task .kind,
           task .operand,
@@ -109,7 +112,7 @@ module _ (s : List ℕ) {y mo d h mi sec us : ℕ} (is : IsMoment y mo d h mi se
     word-performed : (free : Bool) → 14 ≤ p → p ≤ 15 → Performs free
     unfolding performed storedWord
     word-performed free low to =
-        rw (is-word p low to, word-found s v at now p low to here, mode-apart p from to f, absent, word-kept now p low to, word-stored now f p low to)
+        rw (is-word p low to, word-found s v at case now p low to here, mode-apart p from to f, absent, word-kept now p low to, word-stored now f p low to)
 
     piece-performed : (free : Bool) → (free ≡ true → digits v ≡ 0) → p ≤ 15 → Performs free
     piece-performed free stops to =
@@ -120,7 +123,7 @@ module _ (s : List ℕ) {y mo d h mi sec us : ℕ} (is : IsMoment y mo d h mi se
 
   -- the whole node: spaces are skipped before the text, where there are none, and after it
   pub pattern-step : (t : List ℕ) (next : Node) (first : Bool) (k : Pattern n) (f : Fields) (v : List ℕ) (at : ℕ)
-      → Left s at (pieceText (pieceOf (n .pattern)) now ++ v)
+      → Left s at (pieceText (pieceOf (n .pattern)) (caseOf (n .pattern)) now ++ v)
       → (isFree t n next ≡ true → digits v ≡ 0)
       → get f (taskFor (pieceOf (n .pattern)) .field) ≡ pos 0
       → mixes (modeFor (pieceOf (n .pattern))) (get f mode) ≡ false
@@ -129,11 +132,12 @@ module _ (s : List ℕ) {y mo d h mi sec us : ℕ} (is : IsMoment y mo d h mi se
   unfolding nodeRead entered actionRead pastSpaces
   pattern-step t next first k f v at h stops absent unmixed =
       let p = pieceOf (n .pattern) in
+      let case = caseOf (n .pattern) in
       let to : p ≤ 15 = omega (arith, k .reads .piece) in
-      let text = piece-written now p (k .some) to in
-      let none : spaces (drop at s) ≡ 0 = rw (h .is) (ink-spaces (pieceText p now) v (text .ink)) in
-      let after : drop (at + sizeFor p) s ≡ v = rw (← text .long) (left-past (pieceText p now) v h .is) in
-      let sets = piece-performed p (k .some) f absent v at (h .is) (isFree t n next) stops to in
+      let text = piece-written case now p (k .some) to in
+      let none : spaces (drop at s) ≡ 0 = rw (h .is) (ink-spaces (pieceText p case now) v (text .ink)) in
+      let after : drop (at + sizeFor p) s ≡ v = rw (← text .long) (left-past (pieceText p case now) v h .is) in
+      let sets = piece-performed p (k .some) case f absent v at (h .is) (isFree t n next) stops to in
       rw (
         eq-eqb (n .kind) action (k .is-action),
         k .reads .does,

@@ -13,12 +13,14 @@ pub mod Filled
 pub mod Known
 -- a number of fixed width is read back
 pub mod Numbers
--- a marker of the half of the day is read back
-pub mod Markers
 -- what each piece's field keeps of its number
 pub mod PieceNumbers
 -- how far a reader may be ahead
 pub mod Ahead
+-- what reading needs of a word that was written, by its folded bytes
+pub mod Words
+-- a marker of the half of the day is read back
+pub mod Markers
 -- the text of a piece: its length, its first byte, and that it is ASCII
 pub mod Texts
 -- the nodes of a template that is written, and their text

@@ -25,6 +25,7 @@ use Rattle.template_nodes.specs.declared.Node.{Node}
 use Rattle.write_text.specs.Full.{pieces, times}
 use Rattle.write_pieces.specs.Moment.{moment}
 use Rattle.readback.proofs.MomentFacts.{IsMoment}
+use Rattle.template_patterns.specs.Cases.{caseOf}
 use Rattle.write_pieces.specs.Pieces.{pieceOf, pieceText}
 use Rattle.write_text.specs.Text.{nodeText, nodesText}
 use Rattle.write_pieces.specs.declared.Moment.{Moment}
@@ -123,14 +124,15 @@ module _ (t s : List ℕ) {y mo d h mi sec us : ℕ} (is : IsMoment y mo d h mi 
         let f = expected done now in
         let u = nodesText t now ns in
         let x = pieceOf (n .pattern) in
+        let case = caseOf (n .pattern) in
         let ps = pieces ns in
         let text = pattern-written t now n p in
         let level : e ≡ 0 = ink-ahead (nodeText t now n) u (text .ink) e k in
-        let here : Left s at (pieceText x now ++ u) = rw (pattern-text t now n p) at left in
-        let size : length (pieceText x now) ≡ sizeFor x = rw (pattern-text t now n p) at (text .long) in
+        let here : Left s at (pieceText x case now ++ u) = rw (pattern-text t now n p) at left in
+        let size : length (pieceText x case now) ≡ sizeFor x = rw (pattern-text t now n p) at (text .long) in
         let all-fit : Fits done (x ∷ ps) = λ j. rw (pieces-pattern t n ns p) at (fits j) in
         let small = p .reads .piece in
-        let left-on : Left s (at + sizeFor x) u = rw size at (left-past (pieceText x now) u here) in
+        let left-on : Left s (at + sizeFor x) u = rw size at (left-past (pieceText x case now) u here) in
         rw (
           level,
           add-zero at,

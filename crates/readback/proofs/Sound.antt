@@ -22,6 +22,7 @@ use Rattle.base_chars.proofs.Characters.{lead-one}
 use Rattle.base_chars.proofs.Classes.{digit-bounds}
 use Rattle.base_chars.proofs.WellFormed.{empty-text, append-text}
 use Rattle.read_integers.specs.Suffix.{endsNumber, isFree}
+use Rattle.template_patterns.specs.Cases.{caseOf}
 use Rattle.template_patterns.specs.Patterns.{nameOf}
 use Rattle.read_input.specs.Reader.{headOf}
 use Rattle.base_strtol.specs.Runs.{leading, digits}
@@ -35,7 +36,8 @@ use Rattle.write_pieces.specs.declared.Moment.{Moment}
 use Rattle.readback.proofs.Ahead.{Ahead, ink-ahead, ink-some, ahead-all}
 use Rattle.readback.proofs.Known.{Reads, known, sizeFor, excess}
 use Rattle.readback.proofs.Nodes.{Literal, Good, is-literal, is-named, AllGood, lengths}
-use Rattle.readback.proofs.Texts.{Written, piece-written, word-stops}
+use Rattle.readback.proofs.Texts.{piece-written, word-stops}
+use Rattle.readback.proofs.Words.{Written}
 
 -- a pattern that the writer knows, without prefix or suffix
 pub record Pattern (n : Node) : Type 0 where
@@ -97,12 +99,12 @@ module _ (t : List ℕ) where
     unfolding nodeText
     literal-text n l = rw (l .no-action)
 
-    pub pattern-text : (n : Node) → Pattern n → nodeText t m n ≡ pieceText (pieceOf (n .pattern)) m
+    pub pattern-text : (n : Node) → Pattern n → nodeText t m n ≡ pieceText (pieceOf (n .pattern)) (caseOf (n .pattern)) m
     unfolding nodeText
     pattern-text n k = rw (eq-eqb (n .kind) action (k .is-action))
 
     pub pattern-written : (n : Node) → (k : Pattern n) → Written (sizeFor (pieceOf (n .pattern))) (nodeText t m n)
-    pattern-written n k = rw (pattern-text n k) (piece-written m (pieceOf (n .pattern)) (k .some) (omega (arith, k .reads .piece)))
+    pattern-written n k = rw (pattern-text n k) (piece-written (caseOf (n .pattern)) m (pieceOf (n .pattern)) (k .some) (omega (arith, k .reads .piece)))
 
     node-utf8 : (n : Node) → Sound t n → wellFormed (nodeText t m n) ≡ true
     node-utf8 n (a-literal l) = rw (literal-text n l) (l .whole)
@@ -153,7 +155,7 @@ module _ (t : List ℕ) where
         by (a-pattern k) =
             let word : not (ltb (pieceOf (x .pattern)) 14) ≡ true = rw (z, k .is-action, k .reads .digit) at e in
             rw (pattern-text x k)
-            (word-stops m (nodesText t m ns) (pieceOf (x .pattern)) (ltb-false _ _ (not-true _ word)) (omega (arith, k .reads .piece)))
+            (word-stops (caseOf (x .pattern)) m (nodesText t m ns) (pieceOf (x .pattern)) (ltb-false _ _ (not-true _ word)) (omega (arith, k .reads .piece)))
 
     pub blank-text : (ns : List Node) → AllSound t ns → Ahead (length (nodesText t m ns)) (nodesText t m ns) → pieces ns ≡ []
     unfolding nodesText pieces

@@ -1,5 +1,5 @@
 -- The text of a piece. Assumes nothing.
--- `piece-written`: it has the piece's size, is UTF-8 and begins with neither a space nor a separator (`Written`).
+-- `piece-written`: in every case it has the piece's size, is UTF-8 and begins with neither a space nor a separator.
 -- `number-text`: of a number piece it is the number in as many digits as its width, which is not 0 (`width-some`).
 -- `word-stops`: of a marker it begins with no digit.
 use mathlib.Core.Path.{_≡_, _∙_, refl, sym}
@@ -22,34 +22,29 @@ use Rattle.calendar_gregorian.proofs.Dates.{each}
 use Rattle.base_strtol.specs.Decimal.{decimal}
 use Rattle.base_strtol.specs.Runs.{leading, digits}
 use Rattle.base_strtol.proofs.Decimals.{AllDigits, decimal-length, decimal-digits}
+use Rattle.template_patterns.specs.declared.Case.{Case}
 use Rattle.write_pieces.specs.Pieces.{marker, dottedMarker, widthOf, numberOf, markerText, isMorning, pieceText}
 use Rattle.write_pieces.specs.declared.Moment.{Moment}
 use Rattle.readback.proofs.Ahead.{inked}
 use Rattle.readback.proofs.Known.{sizeFor}
+use Rattle.readback.proofs.Markers.{marker-spelled}
+use Rattle.readback.proofs.Words.{Written, ascii-first, spelled-written, spelled-stops}
 
 -- digits are ASCII
 digits-text : (u : List ℕ) → AllDigits u → wellFormed u ≡ true
 digits-text [] h = empty-text
-digits-text (b ∷ u) h =
-    let bounds = digit-bounds b (h .0) in
-    sym (past-sequence-at (b ∷ u) 0 1 (sym (ascii b u (inside (0 ‥ 127) b (omega arith) (omega arith))))) ∙ digits-text u (h .1)
+digits-text (b ∷ u) h = ascii-first b u (omega (arith, digit-bounds b (h .0))) (digits-text u (h .1))
 
 -- and neither spaces nor separators
 digits-inked : (u : List ℕ) → 0 < length u → AllDigits u → inked u ≡ true
 digits-inked [] z h = absurd (omega arith)
 digits-inked (b ∷ u) z h = rw (the-class (classOf b) digit (h .0))
 
--- what holds of the text of a piece, by the piece's size
-pub record Written (size : ℕ) (u : List ℕ) : Type 0 where
-  pub long : length u ≡ size
-  pub text : wellFormed u ≡ true
-  pub ink : inked u ≡ true
-
 pub width-some : (p : ℕ) → 1 ≤ p → p ≤ 13 → 0 < widthOf p
 width-some = each (λ p. 0 < widthOf p) 1 12 (omega arith)
 
-module _ (m : Moment) where
-  pub number-text : (p : ℕ) → p ≤ 13 → pieceText p m ≡ decimal (widthOf p) (numberOf p m)
+module _ (case : Case) (m : Moment) where
+  pub number-text : (p : ℕ) → p ≤ 13 → pieceText p case m ≡ decimal (widthOf p) (numberOf p m)
   unfolding pieceText
   number-text p h = rw (ne-eqb p 14 (omega arith), ne-eqb p 15 (omega arith))
 
@@ -61,31 +56,19 @@ module _ (m : Moment) where
         ink = digits-inked (decimal w n) (omega (arith, decimal-length w n)) (decimal-digits w n);
       }
 
-  marker-written : (dotted morning : Bool) → Written (if dotted then 4 else 2) (markerText dotted morning)
-  unfolding wellFormedAfter sequence classOf
-  marker-written true true = record { long = refl; text = refl; ink = refl }
-  marker-written true false = record { long = refl; text = refl; ink = refl }
-  marker-written false true = record { long = refl; text = refl; ink = refl }
-  marker-written false false = record { long = refl; text = refl; ink = refl }
-
-  pub piece-written : (p : ℕ) → 1 ≤ p → p ≤ 15 → Written (sizeFor p) (pieceText p m)
+  pub piece-written : (p : ℕ) → 1 ≤ p → p ≤ 15 → Written (sizeFor p) (pieceText p case m)
   unfolding pieceText
   piece-written p from to = by (eqb p marker) (eqb p dottedMarker) refl refl
     where
       by : (a b : Bool) → eqb p marker ≡ a → eqb p dottedMarker ≡ b
           → Written (if a then 2 else if b then 4 else widthOf p)
-          (if a then markerText false (isMorning m) else if b then markerText true (isMorning m) else decimal (widthOf p) (numberOf p m))
-      by true b q r = marker-written false (isMorning m)
-      by false true q r = marker-written true (isMorning m)
+          (if a then markerText case false (isMorning m) else if b then markerText case true (isMorning m) else decimal (widthOf p) (numberOf p m))
+      by true b q r = spelled-written (marker-spelled case false (isMorning m))
+      by false true q r = spelled-written (marker-spelled case true (isMorning m))
       by false false q r = number-written (widthOf p) (numberOf p m) (width-some p from (omega (arith, eqb-false p marker q, eqb-false p dottedMarker r)))
 
-  marker-stops : (dotted morning : Bool) (u : List ℕ) → digits (markerText dotted morning ++ u) ≡ 0
-  unfolding leading classOf
-  marker-stops true true u = refl
-  marker-stops true false u = refl
-  marker-stops false true u = refl
-  marker-stops false false u = refl
-
-  pub word-stops : (u : List ℕ) (p : ℕ) → 14 ≤ p → p ≤ 15 → digits (pieceText p m ++ u) ≡ 0
+  pub word-stops : (u : List ℕ) (p : ℕ) → 14 ≤ p → p ≤ 15 → digits (pieceText p case m ++ u) ≡ 0
   unfolding pieceText
-  word-stops u = each (λ p. digits (pieceText p m ++ u) ≡ 0) 14 1 (marker-stops false (isMorning m) u, marker-stops true (isMorning m) u)
+  word-stops u =
+      each (λ p. digits (pieceText p case m ++ u) ≡ 0) 14 1
+      (spelled-stops (marker-spelled case false (isMorning m)) u, spelled-stops (marker-spelled case true (isMorning m)) u)

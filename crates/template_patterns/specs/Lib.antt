@@ -1,6 +1,8 @@
 -- The tables of PostgreSQL's formatting.c, and what is looked up in them.
 -- the date patterns: their names, whether they are read as digits, their date modes
 pub mod Patterns
+-- the case of a pattern: capitals, small letters, or title case
+pub mod Cases
 -- names laid out in rows of equal width
 pub mod Rows
 -- the pattern at a place of a template, and the index by first byte

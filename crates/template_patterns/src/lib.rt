@@ -12,6 +12,7 @@ ghost use Prim.Native.Nat.{_<_, _+_, _*_};
 ghost use lib.ListN.{length};
 ghost use mathlib.Core.Bool.{true, false};
 ghost use mathlib.Core.List.{[], _∷_};
+ghost use Rattle.template_patterns.specs.Cases.{caseOf};
 ghost use Rattle.template_patterns.specs.Patterns.{nameOf, patternOf};
 ghost use Rattle.template_patterns.specs.Search.{indexOf, indexTable, lengthAt, nameTable, patternAt, startOf};
 ghost use Rattle.template_patterns.specs.Affixes.{bitAt};
@@ -22,6 +23,14 @@ pub const MODE_NONE: u8 = 0;
 pub const MODE_GREGORIAN: u8 = 1;
 
 pub const MODE_ISOWEEK: u8 = 2;
+
+// The case of a pattern's letters.
+pub enum Case {
+    Capitals,
+    Small,
+    // A capital, then small letters.
+    Title,
+}
 
 // What is at a place of a template: a pattern, by its number in the table, and the length of its name; or none.
 pub enum Found {
@@ -180,4 +189,17 @@ pub fn date_mode(k: u8) -> u8
         return MODE_ISOWEEK;
     }
     MODE_NONE
+}
+
+// The case of a pattern by its number.
+pub fn case_of(k: u8) -> Case
+    ensures { λ r. ⌜ r ≡ caseOf k ⌝ }
+{
+    if base_chars::in_set(0xfc00000000000000, 0xffffffffffff, k) {
+        return Case::Small;
+    }
+    if base_chars::in_set(0x6000001800, 0, k) {
+        return Case::Title;
+    }
+    Case::Capitals
 }

@@ -2,6 +2,8 @@
 
 -- texts and digits put into a buffer
 pub mod Puts
+-- the letters and dots of a marker, put into a buffer
+mod Markers
 -- the table of the code has each pattern's piece
 pub mod PieceTable
 -- the texts of pieces, and their lengths

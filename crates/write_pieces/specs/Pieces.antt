@@ -1,4 +1,5 @@
--- What the writer writes for a pattern: a number of fixed width, or a marker of the half of the day.
+-- What the writer writes for a pattern: a number of fixed width, or a marker of the half of the day in the pattern's
+-- case.
 use mathlib.Core.Path.{_≡_, refl}
 use mathlib.Core.Bool.{Bool, true, false}
 use mathlib.Core.List.{List, [], _∷_, map}
@@ -10,8 +11,11 @@ use lib.ListN.{getD}
 use Rattle.calendar_gregorian.specs.IsoWeek.{weeks-compute, isoWeek, isoWeekday, isoYear}
 use Rattle.base_notation.specs.Choice.{if_then_else_}
 use Rattle.base_notation.specs.Text.{utf8}
+use Rattle.base_chars.specs.Fold.{folded}
 use Rattle.calendar_gregorian.specs.Gregorian.{dayNumber, dayOfYear}
 use Rattle.template_patterns.specs.Patterns.{nameOf}
+use Rattle.template_patterns.specs.declared.Case.{Case}
+use Rattle.template_patterns.specs.declared.Case.the-variants.{Capitals, Small, Title}
 use Rattle.read_fields.specs.Tasks.{among}
 use Rattle.base_strtol.specs.Decimal.{decimal}
 use Rattle.write_pieces.specs.Moment.{moment}
@@ -140,20 +144,27 @@ numberOf p m =
     else if eqb p daySecond then h * 3600 + mi * 60 + s
     else natAbs (m .micros)
 
--- a marker in capitals, dotted where the pattern is
-abbrev pub markerText : Bool → Bool → List ℕ
-markerText dotted morning =
-    if dotted then (if morning then utf8 "A.M." else utf8 "P.M.") else (if morning then utf8 "AM" else utf8 "PM")
+-- a letter of a marker, given as a capital: small where the pattern is small
+abbrev pub letterIn : Case → ℕ → ℕ
+letterIn Small b = folded b
+letterIn Capitals b = b
+letterIn Title b = b
+
+-- a marker in a case, dotted where the pattern is
+abbrev pub markerText : Case → Bool → Bool → List ℕ
+markerText case dotted morning =
+    map (letterIn case)
+    (if dotted then (if morning then utf8 "A.M." else utf8 "P.M.") else (if morning then utf8 "AM" else utf8 "PM"))
 
 -- the moment is before noon
 abbrev pub isMorning : Moment → Bool
 isMorning m = ltb (natAbs (m .hour)) 12
 
--- the text of a piece at a moment, filled with zeros
-unfoldable pub pieceText : ℕ → Moment → List ℕ
-pieceText p m =
-    if eqb p marker then markerText false (isMorning m)
-    else if eqb p dottedMarker then markerText true (isMorning m)
+-- the text of a piece in a case at a moment, a number filled with zeros
+unfoldable pub pieceText : ℕ → Case → Moment → List ℕ
+pieceText p case m =
+    if eqb p marker then markerText case false (isMorning m)
+    else if eqb p dottedMarker then markerText case true (isMorning m)
     else decimal (widthOf p) (numberOf p m)
 
 -- yyyy is the year; FF1 is not written
@@ -163,7 +174,14 @@ known = (refl, refl)
 
 -- January 1 of 2021 is day 5 of week 53 of 2020; midnight is 12 AM
 pub worked
-    : (pieceText weekYear (moment 2021 1 1 0 0 0 7) ≡ utf8 "2020") × (pieceText hour12 (moment 2021 1 1 0 0 0 7) ≡ utf8 "12")
-    × (pieceText dottedMarker (moment 2021 1 1 0 0 0 7) ≡ utf8 "A.M.") × (pieceText micros (moment 2021 1 1 0 0 0 7) ≡ utf8 "000007")
+    : (pieceText weekYear Capitals (moment 2021 1 1 0 0 0 7) ≡ utf8 "2020") × (pieceText hour12 Capitals (moment 2021 1 1 0 0 0 7) ≡ utf8 "12")
+    × (pieceText marker Capitals (moment 2021 1 1 0 0 0 7) ≡ utf8 "AM") × (pieceText micros Small (moment 2021 1 1 0 0 0 7) ≡ utf8 "000007")
 unfolding pieceText numberOf decimal weeks-compute
 worked = (refl, refl, refl, refl)
+
+-- noon is pm; the last hour before it is a.m.
+pub cased
+    : (pieceText marker Small (moment 2021 1 1 12 0 0 0) ≡ utf8 "pm") × (pieceText dottedMarker Small (moment 2021 1 1 11 0 0 0) ≡ utf8 "a.m.")
+    × (pieceText dottedMarker Capitals (moment 2021 1 1 23 0 0 0) ≡ utf8 "P.M.")
+unfolding pieceText
+cased = (refl, refl, refl)

@@ -1,4 +1,5 @@
-// What is written for a pattern at a moment: a number of fixed width, or a marker of the half of the day.
+// What is written for a pattern at a moment: a number of fixed width, or a marker of the half of the day in the
+// pattern's case.
 mod numbers;
 mod output;
 
@@ -8,10 +9,11 @@ ghost use Prim.Native.Nat.{_+_, _<_, _≤_};
 ghost use lib.ListN.{length};
 ghost use Rattle.write_pieces.specs.Moment.{isMoment, sevenNumbers};
 ghost use Rattle.write_pieces.specs.Output.{Put};
-ghost use Rattle.write_pieces.specs.Pieces.{markerText, pieceLength, pieceOf, pieceText};
+ghost use Rattle.write_pieces.specs.Pieces.{letterIn, markerText, pieceLength, pieceOf, pieceText};
 ghost use Rattle.write_pieces.specs.Tables.{pieceTable};
 pub use numbers::is_moment;
 pub use output::put_bytes;
+use template_patterns::Case;
 
 // A moment: seven numbers.
 pub struct Moment {
@@ -118,33 +120,44 @@ pub fn piece_length(piece: u8) -> usize
     LENGTHS[piece as usize] as usize
 }
 
-// A marker put into the buffer.
-fn put_marker(dotted: bool, morning: bool, out: &mut [u8], at: usize) -> usize
-    requires { ⌜ at + length (markerText dotted morning) ≤ length (now out) ⌝ }
-    ensures { λ r. ⌜ Put (now (out .entry)) at (markerText dotted morning) (now (out .exit)) r ⌝ }
+// A letter of a marker, given as a capital: small where its pattern is small.
+fn letter_in(case: Case, capital: u8) -> u8
+    ensures { λ r. ⌜ r ≡ letterIn case capital ⌝ }
 {
+    match case {
+        Case::Small => base_chars::folded(capital),
+        _ => capital,
+    }
+}
+
+// A marker put into the buffer.
+fn put_marker(case: Case, dotted: bool, morning: bool, out: &mut [u8], at: usize) -> usize
+    requires { ⌜ at + length (markerText case dotted morning) ≤ length (now out) ⌝ }
+    ensures { λ r. ⌜ Put (now (out .entry)) at (markerText case dotted morning) (now (out .exit)) r ⌝ }
+{
+    let half = if morning { b'A' } else { b'P' };
+    let m = letter_in(case, b'M');
+    out[at] = letter_in(case, half);
     if dotted {
-        if morning {
-            return output::put_bytes(b"A.M.", out, at);
-        }
-        return output::put_bytes(b"P.M.", out, at);
+        out[at + 1] = b'.';
+        out[at + 2] = m;
+        out[at + 3] = b'.';
+        return at + 4;
     }
-    if morning {
-        return output::put_bytes(b"AM", out, at);
-    }
-    output::put_bytes(b"PM", out, at)
+    out[at + 1] = m;
+    at + 2
 }
 
 // The text of a piece put into the buffer.
-pub fn put_piece(piece: u8, m: Moment, out: &mut [u8], at: usize) -> usize
-    requires { ⌜ (piece < 16) × (isMoment m ≡ true) × (at + length (pieceText piece m) ≤ length (now out)) ⌝ }
-    ensures { λ r. ⌜ Put (now (out .entry)) at (pieceText piece m) (now (out .exit)) r ⌝ }
+pub fn put_piece(piece: u8, case: Case, m: Moment, out: &mut [u8], at: usize) -> usize
+    requires { ⌜ (piece < 16) × (isMoment m ≡ true) × (at + length (pieceText piece case m) ≤ length (now out)) ⌝ }
+    ensures { λ r. ⌜ Put (now (out .entry)) at (pieceText piece case m) (now (out .exit)) r ⌝ }
 {
     if piece == MARKER {
-        return put_marker(false, m.hour < 12, out, at);
+        return put_marker(case, false, m.hour < 12, out, at);
     }
     if piece == DOTTED_MARKER {
-        return put_marker(true, m.hour < 12, out, at);
+        return put_marker(case, true, m.hour < 12, out, at);
     }
     output::put_number(numbers::number_of(piece, m), piece_length(piece), out, at)
 }

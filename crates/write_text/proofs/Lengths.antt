@@ -12,6 +12,7 @@ use native.Mathlib.Omega.{arith}
 use borrow.Author.Tests.{eq-eqb, ne-eqb}
 use lib.Dec.{eqb}
 use lib.ListN.{length, take, drop, length-append, length-drop, length-take}
+use Rattle.template_patterns.specs.Cases.{caseOf}
 use Rattle.template_nodes.specs.Template.{action}
 use Rattle.template_nodes.specs.declared.Node.{Node}
 use Rattle.write_pieces.specs.Pieces.{pieceOf, pieceText}
@@ -22,7 +23,7 @@ use Rattle.write_text.specs.Measure.{nodeLength, nodesLength}
 use Rattle.write_text.specs.Text.{literalText, nodeText, nodesText}
 
 module _ (t : List ℕ) (m : Moment) (n : Node) where
-  pub action-text : n .kind ≡ action → nodeText t m n ≡ pieceText (pieceOf (n .pattern)) m
+  pub action-text : n .kind ≡ action → nodeText t m n ≡ pieceText (pieceOf (n .pattern)) (caseOf (n .pattern)) m
   unfolding nodeText
   action-text e = rw (eq-eqb (n .kind) action e)
 
@@ -35,7 +36,7 @@ module _ (t : List ℕ) (m : Moment) (n : Node) where
   node-size = split (eqb (n .kind) action) refl
     where
       split : (b : Bool) → eqb (n .kind) action ≡ b → length (nodeText t m n) ≡ nodeLength t n
-      split true e = rw e (piece-size m (pieceOf (n .pattern)) (piece-range (n .pattern)))
+      split true e = rw e (piece-size (caseOf (n .pattern)) m (pieceOf (n .pattern)) (piece-range (n .pattern)))
       split false e = rw e
 
 module _ (t : List ℕ) (n : Node) where

@@ -2,6 +2,8 @@
 
 -- the texts of nodes, and their lengths
 pub mod Lengths
+-- each of the eight markers writes in its own case
+pub mod OwnCase
 -- a length that is answered is the text's, and no longer than the buffer
 pub mod Room
 -- what the loops over the nodes have left

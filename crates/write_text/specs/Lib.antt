@@ -2,6 +2,8 @@
 
 -- the text of a moment by a template
 pub mod Text
+-- the eight markers: each writes in its own case
+pub mod OwnCase
 -- the writer's answer, and the buffer after it
 pub mod Writer
 -- the number of each refusal

@@ -12,6 +12,7 @@ use Rattle.base_strtol.specs.Decimal.{decimal}
 use Rattle.template_nodes.specs.Examples.{nodes-compute}
 use Rattle.template_nodes.specs.Template.{action, nodesOf}
 use Rattle.template_nodes.specs.declared.Node.{Node}
+use Rattle.template_patterns.specs.Cases.{caseOf}
 use Rattle.write_pieces.specs.Moment.{moment}
 use Rattle.write_pieces.specs.Pieces.{pieceOf, pieceText, numberOf}
 use Rattle.write_pieces.specs.declared.Moment.{Moment}
@@ -20,9 +21,9 @@ use Rattle.write_pieces.specs.declared.Moment.{Moment}
 abbrev pub literalText : List ℕ → Node → List ℕ
 literalText t n = take (n .len) (drop (n .start) t)
 
--- the text of a node: its piece's, or its literal
+-- the text of a node: its piece's in the pattern's case, or its literal
 unfoldable pub nodeText : List ℕ → Moment → Node → List ℕ
-nodeText t m n = if eqb (n .kind) action then pieceText (pieceOf (n .pattern)) m else literalText t n
+nodeText t m n = if eqb (n .kind) action then pieceText (pieceOf (n .pattern)) (caseOf (n .pattern)) m else literalText t n
 
 -- the texts of nodes one after another
 unfoldable pub nodesText : List ℕ → Moment → List Node → List ℕ

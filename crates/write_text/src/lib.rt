@@ -145,7 +145,8 @@ fn put_node(table: &[u8; 112], t: &[u8], n: Node, m: Moment, out: &mut [u8], at:
     ensures { λ r. ⌜ Put (now (out .entry)) at (nodeText (now (t .entry)) m n) (now (out .exit)) r ⌝ }
 {
     if n.kind == FN_ACTION {
-        return write_pieces::put_piece(write_pieces::piece_of(table, n.pattern), m, out, at);
+        let piece = write_pieces::piece_of(table, n.pattern);
+        return write_pieces::put_piece(piece, template_patterns::case_of(n.pattern), m, out, at);
     }
     let len = literal_length(t, n);
     if len == 0 {

@@ -21,7 +21,7 @@ put-marker-requires : tie.Need-put-marker-requires
 put-marker-requires c κs =
     let at-test = c .before .before .before in
     let at-start = at-test .before .before in
-    rw (early at-start) (rw (marker-text (at-start .args .m) (at-test .if1 .taken)) at (at-start .pre .2))
+    rw (early at-start) (rw (marker-text (at-start .args .case) (at-start .args .m) (at-test .if1 .taken)) at (at-start .pre .2))
 
 -- a marker without dots
 returns : tie.Need-returns
@@ -29,14 +29,14 @@ returns c =
     let after-put = c .before .before in
     let at-test = after-put .before .before .before .before in
     let at-start = at-test .before .before in
-    rw (marker-text (at-start .args .m) (at-test .if1 .taken)) (rw (early at-start) at (after-put .put-marker .ensures))
+    rw (marker-text (at-start .args .case) (at-start .args .m) (at-test .if1 .taken)) (rw (early at-start) at (after-put .put-marker .ensures))
 
 -- there is room for the dotted marker
 put-marker-requires-2 : tie.Need-put-marker-requires-2
 put-marker-requires-2 c κs =
     let at-test = c .before .before .before in
     let at-start = at-test .before .before .before in
-    rw (early at-start) (rw (dotted-text (at-start .args .m) (at-test .if2 .taken)) at (at-start .pre .2))
+    rw (early at-start) (rw (dotted-text (at-start .args .case) (at-start .args .m) (at-test .if2 .taken)) at (at-start .pre .2))
 
 -- a marker with dots
 returns-2 : tie.Need-returns-2
@@ -44,14 +44,14 @@ returns-2 c =
     let after-put = c .before .before in
     let at-test = after-put .before .before .before .before in
     let at-start = at-test .before .before .before in
-    rw (dotted-text (at-start .args .m) (at-test .if2 .taken)) (rw (early at-start) at (after-put .put-marker2 .ensures))
+    rw (dotted-text (at-start .args .case) (at-start .args .m) (at-test .if2 .taken)) (rw (early at-start) at (after-put .put-marker2 .ensures))
 
 -- there is room for the digits
 put-number-requires : tie.Need-put-number-requires
 put-number-requires c κs =
     let after-length = c .before in
     let at-start = after-length .before .before .before .before .before in
-    omega (arith, after-length .piece-length .ensures, piece-size (at-start .args .m) (at-start .args .piece) (at-start .pre .0), at-start .pre .2)
+    omega (arith, after-length .piece-length .ensures, piece-size (at-start .args .case) (at-start .args .m) (at-start .args .piece) (at-start .pre .0), at-start .pre .2)
 
 -- a number
 returns-3 : tie.Need-returns-3
@@ -61,7 +61,7 @@ returns-3 c =
     let at-test = after-length .before .before in
     let at-start = at-test .before .before .before in
     rw (
-      number-text (at-start .args .m) (at-start .args .piece) (at-start .pre .0) (at-test .before .if1 .left) (at-test .if2 .left),
+      number-text (at-start .args .case) (at-start .args .m) (at-start .args .piece) (at-start .pre .0) (at-test .before .if1 .left) (at-test .if2 .left),
       ← after-length .piece-length .ensures,
       ← after-length .before .number-of .ensures,
     ) (after-put .put-number .ensures)

@@ -6,6 +6,7 @@ use Prim.Native.Nat.{_+_, _-_}
 use borrow.Author.Needs.{needs}
 use denote.Ref.{now}
 use lib.ListN.{take, drop}
+use Rattle.template_patterns.specs.Cases.{caseOf}
 use Rattle.write_pieces.specs.Pieces.{pieceOf, pieceText}
 use Rattle.write_text.specs.Text.{nodeText}
 use Rattle.write_text.proofs.Lengths.{action-text, literal-end, literal-part, literal-text, no-literal}
@@ -14,24 +15,27 @@ use Rattle.write_pieces.proofs.Puts.{put-nothing}
 use Rattle.write_text.proofs.put_node.Statement.{statement}
 use Rattle.write_text.proofs.put_node.Tie as tie
 
--- the text of a pattern is its piece's
+-- the text of a pattern is its piece's, in its case
 piece : (c : tie.Then1) → let args = c .before .before .before .before .args in
-    nodeText (now (args .t)) (args .m) (args .n) ≡ pieceText (pieceOf (args .n .pattern)) (args .m)
+    nodeText (now (args .t)) (args .m) (args .n) ≡ pieceText (pieceOf (args .n .pattern)) (caseOf (args .n .pattern)) (args .m)
 piece c = let args = c .before .before .before .before .args in action-text (now (args .t)) (args .m) (args .n) (c .if1 .taken)
 
 -- there is room for the piece
 put-piece-requires : tie.Need-put-piece-requires
 put-piece-requires c κs =
-    let after-piece = c .before in
+    let after-case = c .before in
+    let after-piece = after-case .before in
     let at-start = after-piece .before .before .before .before .before in
-    rw (after-piece .piece-of .ensures) (piece-range _, at-start .pre .1, rw (piece (after-piece .before)) at (at-start .pre .2))
+    rw (after-piece .piece-of .ensures, after-case .case-of .ensures)
+    (piece-range _, at-start .pre .1, rw (piece (after-piece .before)) at (at-start .pre .2))
 
 -- a pattern
 returns : tie.Need-returns
 returns c =
     let after-put = c .before .before in
-    let after-piece = after-put .before .before in
-    rw (piece (after-piece .before), ← after-piece .piece-of .ensures) (after-put .put-piece .ensures)
+    let after-case = after-put .before .before in
+    let after-piece = after-case .before in
+    rw (piece (after-piece .before), ← after-piece .piece-of .ensures, ← after-case .case-of .ensures) (after-put .put-piece .ensures)
 
 -- the text of a literal that the template has nothing of
 nothing : (c : tie.Then2) → let args = c .before .before .before .before .before .before .args in
@@ -79,6 +83,7 @@ pub put-node-spec : {M : Type 1} → statement M
 put-node-spec =
     tie.close
     (tie.spec
+    (λ c κs. search needs)
     (λ c κs. search needs)
     put-piece-requires
     (λ c. search needs)

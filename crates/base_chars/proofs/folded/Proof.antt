@@ -1,10 +1,10 @@
--- `read_words::spelling::folded` meets its contract: the two comparisons say which side of A to Z a byte is on.
+-- `base_chars::folded` meets its contract: the two comparisons say which side of A to Z a byte is on.
 -- Assumes nothing.
 use borrow.Author.Needs.{needs}
 use Rattle.base_chars.specs.Range.{_‥_}
 use Rattle.base_chars.proofs.Ranges.{inside, below, above}
-use Rattle.read_words.proofs.spelling.folded.Statement.{statement}
-use Rattle.read_words.proofs.spelling.folded.Tie as tie
+use Rattle.base_chars.proofs.folded.Statement.{statement}
+use Rattle.base_chars.proofs.folded.Tie as tie
 
 -- below A
 returns : tie.Need-returns
