@@ -6,11 +6,16 @@ import shutil
 import subprocess
 import tempfile
 
-# Texts go in and out in hexadecimal digits, so that no byte means anything to COPY. An answer is 0 and the microseconds
-# since 1970-01-01, or the SQLSTATE, the message and its detail.
+# Texts go in and out in hexadecimal digits, so that no byte means anything to COPY. An answer to an input is 0 and the
+# microseconds since 1970-01-01, or the SQLSTATE, the message and its detail; to a moment it is its text, for which
+# to_char gives NULL where the template is empty.
+READ, WRITE = "instant_read", "text_written"
 PREPARE = """
 create unlogged table pairs (number bigint generated always as identity, template text, input text);
-create function answer(template text, input text) returns text language plpgsql as $$
+create function text_written(template text, moment text) returns text language sql as $$
+    select encode(textsend(coalesce(to_char(moment::timestamp, template), '')), 'hex')
+$$;
+create function instant_read(template text, input text) returns text language plpgsql as $$
 declare
     state text;
     message text;
@@ -25,7 +30,7 @@ end $$;
 TAKE = "copy pairs (template, input) from stdin"
 ANSWER = """
 copy (
-    select answer(convert_from(decode(template, 'hex'), 'UTF8'), convert_from(decode(input, 'hex'), 'UTF8'))
+    select {function}(convert_from(decode(template, 'hex'), 'UTF8'), convert_from(decode(input, 'hex'), 'UTF8'))
     from pairs
     order by number
 ) to stdout
@@ -109,7 +114,7 @@ class Server:
         command += ["--username=postgres", "--dbname=postgres", f"--command={sql}"]
         subprocess.run(command, check=True, stdin=stdin, stdout=stdout, env=self.surroundings)
 
-    def answers(self, pairs, answers):
+    def answers(self, function, pairs, answers):
         """Reads lines of two columns in hexadecimal digits from one file, and writes an answer for each to another."""
         self.ask(TAKE, stdin=pairs)
-        self.ask(ANSWER, stdout=answers)
+        self.ask(ANSWER.format(function=function), stdout=answers)
