@@ -9,7 +9,7 @@ use Rattle.base_chars.specs.Class.{letter, classOf}
 use Rattle.base_chars.specs.Fold.{folded}
 use Rattle.base_chars.specs.Range.{_‥_, _∈_}
 use Rattle.base_chars.proofs.Classes.{the-class, letter-test}
-use Rattle.base_chars.proofs.Ranges.{inside, below, above, bounds}
+use Rattle.base_chars.proofs.Ranges.{inside, above, bounds}
 
 module _ (b : ℕ) where
   pub fold-up : b ≤ folded b

@@ -1,7 +1,7 @@
 -- A marker of the half of the day that was written, in whatever case. Assumes nothing.
 -- `marker-spelled`: its folded bytes are the marker in small letters.
 -- `marker-found`: it is found in its list of words.
-use mathlib.Core.Path.{_≡_, _∙_, refl, ap}
+use mathlib.Core.Path.{_≡_, refl}
 use mathlib.Core.Bool.{Bool, true, false}
 use mathlib.Core.List.{List, [], _∷_, _++_, map}
 use Prim.Native.Nat.{ℕ}

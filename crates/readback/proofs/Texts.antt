@@ -2,7 +2,7 @@
 -- `piece-written`: in every case it has the piece's size, is UTF-8 and begins with neither a space nor a separator.
 -- `number-text`: of a number piece it is the number in as many digits as its width, which is not 0 (`width-some`).
 -- `word-stops`: of a marker it begins with no digit.
-use mathlib.Core.Path.{_≡_, _∙_, refl, sym}
+use mathlib.Core.Path.{_≡_, refl}
 use mathlib.Core.Bool.{Bool, true, false}
 use mathlib.Core.List.{List, [], _∷_, _++_}
 use Prim.Native.Nat.{ℕ, _≤_, _<_}
@@ -12,15 +12,12 @@ use lib.Dec.{eqb}
 use lib.ListN.{length}
 use Rattle.base_notation.specs.Choice.{if_then_else_}
 use Rattle.base_chars.specs.Class.{digit, classOf}
-use Rattle.base_chars.specs.Range.{_‥_}
-use Rattle.base_chars.specs.Utf8.{sequence, wellFormed, wellFormedAfter}
+use Rattle.base_chars.specs.Utf8.{wellFormed}
 use Rattle.base_chars.proofs.Classes.{the-class, digit-bounds}
-use Rattle.base_chars.proofs.Ranges.{inside}
-use Rattle.base_chars.proofs.Sequences.{ascii}
-use Rattle.base_chars.proofs.WellFormed.{empty-text, past-sequence-at}
+use Rattle.base_chars.proofs.WellFormed.{empty-text}
 use Rattle.calendar_gregorian.proofs.Dates.{each}
 use Rattle.base_strtol.specs.Decimal.{decimal}
-use Rattle.base_strtol.specs.Runs.{leading, digits}
+use Rattle.base_strtol.specs.Runs.{digits}
 use Rattle.base_strtol.proofs.Decimals.{AllDigits, decimal-length, decimal-digits}
 use Rattle.template_patterns.specs.declared.Case.{Case}
 use Rattle.write_pieces.specs.Pieces.{marker, dottedMarker, widthOf, numberOf, markerText, isMorning, pieceText}

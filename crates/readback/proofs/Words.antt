@@ -4,7 +4,7 @@
 -- `Spelled`: u is the word w, which is in small letters, in whatever case.
 -- `spelled-written`: such a text is `Written`. `spelled-stops`: it begins with no digit.
 -- `spelled-read`: it is found in a list that has its word, whatever follows it.
-use mathlib.Core.Path.{_≡_, _∙_, refl, sym, ap}
+use mathlib.Core.Path.{_≡_, _∙_, sym, ap}
 use mathlib.Core.Bool.{Bool, true, false, _&&_, false≢true}
 use mathlib.Core.List.{List, [], _∷_, _++_, map, map-append}
 use Prim.Native.Nat.{ℕ, _+_, _-_, _≤_}

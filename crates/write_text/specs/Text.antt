@@ -1,7 +1,6 @@
 -- The text of a moment by a template: its literals as they are, and the pieces of its patterns, in the template's
 -- order without gaps.
 use mathlib.Core.Path.{_≡_, refl}
-use mathlib.Core.Bool.{Bool, true, false}
 use mathlib.Core.List.{List, [], _∷_, _++_}
 use Prim.Native.Nat.{ℕ}
 use lib.Dec.{eqb}
