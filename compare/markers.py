@@ -1,10 +1,10 @@
 #!/usr/bin/env python3
 """Markers of the half of the day, written and read back by the line program: compare/markers.py PROGRAM SEED COUNT.
 
-Written from change request 1: am and pm write small letters, a.m. and p.m. dotted small letters, capitals capitals, and
-a full template is read back to the moment that it was written from. The numbers are Python's own calendar's. Many of
-the lines are spoilt: what is nearly a marker is a literal, and a marker with a prefix or suffix, a moment that does not
-exist and bytes that are no text are refused.
+Written from change request 1: am and pm write small letters, a.m. and p.m. dotted small letters, AM, PM, A.M. and P.M.
+capitals, and a full template is read back to the moment that it was written from. The numbers come from Python's own
+calendar. Many of the lines are spoilt: what is nearly a marker is a literal, a second marker is written but not read
+back, and a marker with a prefix or suffix, a moment that does not exist and bytes that are no text are refused.
 """
 import random
 import subprocess
@@ -16,7 +16,7 @@ Question = namedtuple("Question", "line due back")
 
 DATES = (("YYYY", "MM", "DD"), ("YYYY", "DDD"), ("IYYY", "IW", "ID"))
 MARKERS = ("AM", "PM", "A.M.", "P.M.", "am", "pm", "a.m.", "p.m.")
-# none of them is a marker, however it is followed by a space
+# none of these is a marker, whatever pattern comes next
 NEARLY = ("Am ", "aM ", "Pm ", "pM ", "A.m. ", "a.M. ", "P.m. ", "p.M. ", "a.m ", "P.M ", "A. M. ", '"am"', '"P.M."')
 LITERALS = ("", "", " ", "-", ":", ", ", "/", '"lúc "', '" giờ"', '"a"', "ứ", "0 ", '"PM "', "| ")
 HOURS = (0, 1, 11, 12, 13, 23)
@@ -62,7 +62,8 @@ def random_moment(random_):
     last = date.max.toordinal()
     day = date.fromordinal(random_.choice((1, 365, last, random_.randint(1, last), random_.randint(1, last))))
     hour = random_.choice(HOURS + (random_.randrange(24),))
-    return day.year, day.month, day.day, hour, random_.randrange(60), random_.randrange(60), random_.randrange(1_000_000)
+    rest = random_.randrange(60), random_.randrange(60), random_.randrange(1_000_000)
+    return day.year, day.month, day.day, hour, *rest
 
 
 def random_parts(random_):
@@ -88,7 +89,7 @@ def spoilt(random_, parts, moment):
     elif kind == 3:
         parts[at] = name + random_.choice(("TH", "th", "SP"))
     elif kind == 4:
-        wrong = random_.choice(((0, 0), (0, 10000), (1, 13), (2, 32), (3, 24), (3, -1), (4, 60), (6, 1_000_000)))
+        wrong = random_.choice(((0, 0), (0, 10000), (1, 13), (2, 32), (3, 24), (3, -1), (5, 60), (6, 1_000_000)))
         moment = (*moment[: wrong[0]], wrong[1], *moment[wrong[0] + 1 :])
     due = {2: f"19 {name} 0 0", 3: f"19 {name} 0 0", 4: "20 - 0 0", 5: "2 - 0 0"}.get(kind)
     return asked(parts, moment, due or "0 " + text_of(parts, moment), b"\xff" if kind == 5 else b"", None)
@@ -108,25 +109,37 @@ def question(random_):
 
 
 def answers(program, mode, lines):
-    run = subprocess.run([program, mode], input=b"".join(line + b"\n" for line in lines), stdout=subprocess.PIPE, check=True)
+    given = b"".join(line + b"\n" for line in lines)
+    run = subprocess.run([program, mode], input=given, stdout=subprocess.PIPE, check=True)
     answered = run.stdout.split(b"\n")[:-1]
     if len(answered) != len(lines):
         sys.exit(f"{len(lines)} lines, {len(answered)} answers")
     return answered
 
 
-def main(program, seed, count):
-    random_ = random.Random(int(seed))
-    questions = [question(random_) for _ in range(int(count))]
+def write(program, questions):
+    """The texts, each of them as it is due."""
     texts = answers(program, "write", [one.line for one in questions])
     for one, text in zip(questions, texts):
         if text != one.due:
             sys.exit(f"{one.line!r}: {text!r}, and {one.due!r} is due")
-    full = [(one, text[2:]) for one, text in zip(questions, texts) if one.back]
+    return texts
+
+
+def read_back(program, full):
+    """Each text of a full template is read as its moment."""
     lines = [one.line.split(b"\t")[0] + b"\t" + text for one, text in full]
     for (one, text), read in zip(full, answers(program, "parts", lines)):
         if read != one.back:
             sys.exit(f"{one.line!r} is written as {text!r} and read as {read!r}")
+
+
+def main(program, seed, count):
+    random_ = random.Random(int(seed))
+    questions = [question(random_) for _ in range(int(count))]
+    texts = write(program, questions)
+    full = [(one, text[2:]) for one, text in zip(questions, texts) if one.back]
+    read_back(program, full)
     print(f"the same texts of {len(questions)} lines, {len(full)} of them read back")
 
 

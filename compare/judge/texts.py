@@ -2,12 +2,14 @@
 
 import itertools
 import re
-from collections import Counter, namedtuple
+from collections import namedtuple
+
+from judge.tally import SHOWN
 
 Line = namedtuple("Line", "template moment text")
 
-# of the differences for no known reason, so many are printed
-SHOWN = 20
+# a quote that is a character of its own, or a text in quotes
+QUOTED = re.compile(rb'\\"|"(?:\\.|[^"\\])*"?', re.DOTALL)
 
 
 def written(lines, answers):
@@ -27,33 +29,41 @@ def question(line):
 
 
 def is_unfilled(line, theirs):
-    """Whether the texts differ by SSSSS alone: PostgreSQL writes no zeros before the second of the day."""
+    """Whether the texts differ by SSSSS alone, of which PostgreSQL writes none with zeros in front.
+
+    As many times as the template has SSSSS, five digits of the text that are the second of the day lose their zeros.
+    """
     hour, minute, second = line.moment[3:6]
     seconds = (hour * 60 + minute) * 60 + second
     filled = re.compile(b"(?=%05d)" % seconds)
+    patterns = QUOTED.sub(b" ", line.template)
     texts = {line.text}
-    for _ in range(line.template.upper().count(b"SSSSS")):
+    for _ in range(patterns.count(b"SSSSS") + patterns.count(b"sssss")):
         places = [(text, found.start()) for text in texts for found in filled.finditer(text)]
-        texts |= {b"%s%d%s" % (text[:at], seconds, text[at + 5 :]) for text, at in places}
+        texts = {b"%s%d%s" % (text[:at], seconds, text[at + 5 :]) for text, at in places}
     return theirs in texts
 
 
 class Texts:
     def __init__(self):
-        self.counts = Counter()
+        self.same = 0
+        self.unfilled = 0
+        self.unknown = 0
         self.shown = []
 
     def add(self, line, theirs):
         if line.text == theirs:
-            self.counts["the same text"] += 1
+            self.same += 1
         elif is_unfilled(line, theirs):
-            self.counts["SSSSS filled with zeros here alone"] += 1
+            self.unfilled += 1
         else:
-            self.counts["another text for no known reason"] += 1
-            self.shown.append(f"{line} there {theirs}")
+            self.unknown += 1
+            if len(self.shown) < SHOWN:
+                self.shown.append(f"{line} there {theirs}")
 
     def report(self):
-        for words, count in self.counts.items():
-            print(f"{words} {count}")
-        for shown in self.shown[:SHOWN]:
+        print(f"the same text {self.same}")
+        print(f"the same but for zeros in front of SSSSS {self.unfilled}")
+        print(f"another text for no known reason {self.unknown}")
+        for shown in self.shown:
             print(f"  {shown}")

@@ -25,16 +25,20 @@ static void mark(const uint8_t *nodes, size_t nodes_length, const char *line) {
     }
 }
 
+static void print_text(const struct sorbilgan_value_answer *answer, const char *text) {
+    if (answer->number == 0) {
+        printf("%.*s\n", (int)answer->value, text);
+    } else {
+        printf("refusal %" PRId64 "\n", answer->number);
+    }
+}
+
 static void print_leap_day(const uint8_t *nodes, size_t nodes_length) {
     struct sorbilgan_value_answer answer;
     char text[SORBILGAN_INPUT_LIMIT];
 
     sorbilgan_write_by(nodes, nodes_length, template_text, template_length, 2024, 2, 29, 0, 0, 0, 0, text, sizeof text, &answer);
-    if (answer.number == 0) {
-        printf("%.*s\n", (int)answer.value, text);
-    } else {
-        printf("refusal %" PRId64 "\n", answer.number);
-    }
+    print_text(&answer, text);
 }
 
 static void print_evening(void) {
@@ -42,9 +46,8 @@ static void print_evening(void) {
     struct sorbilgan_value_answer answer;
     char text[SORBILGAN_INPUT_LIMIT];
 
-    if (sorbilgan_write(clock, sizeof clock - 1, 2024, 2, 29, 21, 5, 0, 0, text, sizeof text, &answer) == 0) {
-        printf("%.*s\n", (int)answer.value, text);
-    }
+    sorbilgan_write(clock, sizeof clock - 1, 2024, 2, 29, 21, 5, 0, 0, text, sizeof text, &answer);
+    print_text(&answer, text);
 }
 
 int main(void) {

@@ -90,8 +90,8 @@ pub fn to_char(template: &str, micros: i64) -> String {
     to_char_timestamp(micros, template).expect("a date pattern writes every timestamp").unwrap_or_default()
 }
 
-/// The text by to_char, but for SSSSS, which the writer fills with zeros: the template is cut around it, and what to_char
-/// writes for it alone is filled.
+/// The text by to_char, but for SSSSS, which the writer fills with zeros: the template is cut around it, and what
+/// to_char writes for it alone is filled.
 fn text(template: &str, micros: i64) -> String {
     let nodes = parse(template.as_bytes());
     let (mut text, mut from) = (String::new(), 0);

@@ -1,5 +1,6 @@
--- Laws of a byte whose capital letter is made small. Assumes nothing.
--- `fold-up`: it is no less. `fold-class`: it is of the same class. `fold-twice`: made small again it stays.
+-- Laws of a folded byte. Assumes nothing.
+-- `fold-up`: it is no less than the byte. `fold-class`: it is of the byte's class. `fold-twice`: folded again it is the
+-- same.
 use mathlib.Core.Path.{_≡_, _∙_, refl, sym}
 use mathlib.Core.Bool.{true}
 use Prim.Native.Nat.{ℕ, _+_, _≤_}
@@ -15,7 +16,7 @@ module _ (b : ℕ) where
   pub fold-up : b ≤ folded b
   fold-up = by-if (λ x. b ≤ x) (b ∈ 65 ‥ 90) _ _ (λ e. omega arith) (λ e. omega arith)
 
-  -- a capital letter and the small one
+  -- a capital letter, and the small one made of it, are letters
   capital : b ∈ 65 ‥ 90 ≡ true → classOf b ≡ letter
   capital e = the-class _ letter (letter-test b ∙ rw e)
 

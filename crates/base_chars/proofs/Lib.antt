@@ -2,7 +2,7 @@
 pub mod Ranges
 -- the class of a byte by comparisons
 pub mod Classes
--- a byte whose capital letter is made small
+-- a folded byte
 pub mod Folds
 -- sets of numbers below 128, given by bits
 pub mod Sets

@@ -32,11 +32,7 @@ module _ (case : Case) where
   fold-case [] = refl
   fold-case (b ∷ w) = rw (fold-letter case b, fold-case w)
 
-  -- a marker in small letters
-  abbrev small : Bool → Bool → List ℕ
-  small dotted morning = if dotted then (if morning then utf8 "a.m." else utf8 "p.m.") else (if morning then utf8 "am" else utf8 "pm")
-
-  pub marker-spelled : (dotted morning : Bool) → Spelled (if dotted then 4 else 2) (small dotted morning) (markerText case dotted morning)
+  pub marker-spelled : (dotted morning : Bool) → Spelled (if dotted then 4 else 2) (markerText Small dotted morning) (markerText case dotted morning)
   unfolding classOf
   marker-spelled true true = record { same = fold-case (utf8 "A.M."); long = refl; word = refl }
   marker-spelled true false = record { same = fold-case (utf8 "P.M."); long = refl; word = refl }

@@ -33,6 +33,7 @@ use Rattle.write_pieces.specs.Pieces.{micros, pieceOf, pieceText}
 use Rattle.write_text.specs.Text.{nodeText, nodesText, literalText}
 use Rattle.write_text.specs.Writer.{allWritten, firstUnwritten, isWritten, named}
 use Rattle.write_pieces.specs.declared.Moment.{Moment}
+use Rattle.write_text.proofs.Lengths.{action-text}
 use Rattle.readback.proofs.Ahead.{Ahead, ink-ahead, ink-some, ahead-all}
 use Rattle.readback.proofs.Known.{Reads, known, sizeFor, excess}
 use Rattle.readback.proofs.Nodes.{Literal, Good, is-literal, is-named, AllGood, lengths}
@@ -100,8 +101,7 @@ module _ (t : List ℕ) where
     literal-text n l = rw (l .no-action)
 
     pub pattern-text : (n : Node) → Pattern n → nodeText t m n ≡ pieceText (pieceOf (n .pattern)) (caseOf (n .pattern)) m
-    unfolding nodeText
-    pattern-text n k = rw (eq-eqb (n .kind) action (k .is-action))
+    pattern-text n k = action-text t m n (k .is-action)
 
     pub pattern-written : (n : Node) → (k : Pattern n) → Written (sizeFor (pieceOf (n .pattern))) (nodeText t m n)
     pattern-written n k = rw (pattern-text n k) (piece-written (caseOf (n .pattern)) m (pieceOf (n .pattern)) (k .some) (omega (arith, k .reads .piece)))

@@ -1,5 +1,5 @@
 -- The text of a piece. Assumes nothing.
--- `piece-written`: in every case it has the piece's size, is UTF-8 and begins with neither a space nor a separator.
+-- `piece-written`: whatever its case, it has the piece's size, is UTF-8 and begins with no space or separator.
 -- `number-text`: of a number piece it is the number in as many digits as its width, which is not 0 (`width-some`).
 -- `word-stops`: of a marker it begins with no digit.
 use mathlib.Core.Path.{_≡_, refl}

@@ -1,7 +1,7 @@
 -- What reading needs of a word that was written, by its folded bytes. Assumes nothing.
 -- `Written`: what holds of the text of a piece, by the piece's size.
 -- `ascii-first`: an ASCII byte before a text in UTF-8 leaves it so.
--- `Spelled`: u is the word w, which is in small letters, in whatever case.
+-- `Spelled`: u is the word w in some case; w is ASCII in small letters and begins with a letter.
 -- `spelled-written`: such a text is `Written`. `spelled-stops`: it begins with no digit.
 -- `spelled-read`: it is found in a list that has its word, whatever follows it.
 use mathlib.Core.Path.{_≡_, _∙_, sym, ap}

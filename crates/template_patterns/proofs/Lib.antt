@@ -7,5 +7,5 @@ pub mod Names
 pub mod Affixes
 -- the search from the index's entry on finds the first pattern
 pub mod Search
--- the sets of patterns that are read as digits or have a date mode
+-- the sets of patterns that are read as digits, have a date mode, or are in small letters or title case
 pub mod Sets

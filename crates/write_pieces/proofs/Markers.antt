@@ -15,6 +15,12 @@ use Rattle.template_patterns.specs.declared.Case.{Case}
 use Rattle.template_patterns.specs.declared.Case.the-variants.{Capitals, Small, Title}
 use Rattle.write_pieces.specs.Pieces.{letterIn, markerText}
 
+-- a dot is the same in every case
+dot : (case : Case) → letterIn case (code ".") ≡ code "."
+dot Capitals = refl
+dot Small = refl
+dot Title = refl
+
 module _ (case : Case) where
   pub marker-size : (dotted morning : Bool) → length (markerText case dotted morning) ≡ (if dotted then 4 else 2)
   marker-size true true = refl
@@ -25,15 +31,6 @@ module _ (case : Case) where
   pub marker-some : (dotted morning : Bool) → 2 ≤ length (markerText case dotted morning)
   marker-some true morning = omega (arith, marker-size true morning)
   marker-some false morning = omega (arith, marker-size false morning)
-
-  -- a dot is the same in every case
-  dot : letterIn case (code ".") ≡ code "."
-  dot =
-      (elim case as (λ k. letterIn k (code ".") ≡ code ".") [
-        | Capitals ↦ refl
-        | Small ↦ refl
-        | Title ↦ refl
-      ])
 
   -- the letter of the half of the day
   abbrev pub half : Bool → ℕ
@@ -65,5 +62,5 @@ module _ (case : Case) where
       dotted-put = rw (first, second, next, next-2, next-3) (by b)
         where
           by : (b : Bool) → set (set (set (set l at (half b)) (suc at) (code ".")) (suc (suc at)) m) (suc (suc (suc at))) (code ".") ≡ sets l at (markerText case true b)
-          by true = rw dot
-          by false = rw dot
+          by true = rw (dot case)
+          by false = rw (dot case)

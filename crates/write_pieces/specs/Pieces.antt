@@ -144,7 +144,7 @@ numberOf p m =
     else if eqb p daySecond then h * 3600 + mi * 60 + s
     else natAbs (m .micros)
 
--- a letter of a marker, given as a capital: small where the pattern is small
+-- a byte of a marker in capitals, in a case: its letters are small where the pattern is; no marker's is in title case
 abbrev pub letterIn : Case → ℕ → ℕ
 letterIn Small b = folded b
 letterIn Capitals b = b
@@ -179,9 +179,9 @@ pub worked
 unfolding pieceText numberOf decimal weeks-compute
 worked = (refl, refl, refl, refl)
 
--- noon is pm; the last hour before it is a.m.
+-- noon is pm, the hour before it a.m., the last hour of the day P.M.; in title case a marker would have capitals
 pub cased
     : (pieceText marker Small (moment 2021 1 1 12 0 0 0) ≡ utf8 "pm") × (pieceText dottedMarker Small (moment 2021 1 1 11 0 0 0) ≡ utf8 "a.m.")
-    × (pieceText dottedMarker Capitals (moment 2021 1 1 23 0 0 0) ≡ utf8 "P.M.")
+    × (pieceText dottedMarker Capitals (moment 2021 1 1 23 0 0 0) ≡ utf8 "P.M.") × (pieceText marker Title (moment 2021 1 1 0 0 0 0) ≡ utf8 "AM")
 unfolding pieceText
-cased = (refl, refl, refl)
+cased = (refl, refl, refl, refl)

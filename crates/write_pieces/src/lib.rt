@@ -120,7 +120,7 @@ pub fn piece_length(piece: u8) -> usize
     LENGTHS[piece as usize] as usize
 }
 
-// A letter of a marker, given as a capital: small where its pattern is small.
+// A letter of a marker, given as a capital, in the case of its pattern.
 fn letter_in(case: Case, capital: u8) -> u8
     ensures { λ r. ⌜ r ≡ letterIn case capital ⌝ }
 {

@@ -22,6 +22,7 @@ Writes name early late =
     (t : List ℕ) (m : Moment) (n : Node) → n .kind ≡ action → nameOf (n .pattern) ≡ utf8 name
     → nodeText t m n ≡ (if isMorning m then utf8 early else utf8 late)
 
+-- all eight markers
 pub record OwnCase : Type 0 where
   pub capitals : Writes "AM" "AM" "PM" × Writes "PM" "AM" "PM"
   pub small : Writes "am" "am" "pm" × Writes "pm" "am" "pm"

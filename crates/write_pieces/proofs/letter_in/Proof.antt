@@ -1,4 +1,5 @@
--- `write_pieces::letter_in` meets its contract: its arms are the definition's cases. Assumes nothing.
+-- `write_pieces::letter_in` meets its contract: one arm folds, and the other leaves the capital, as the definition does
+-- in its two other cases. Assumes nothing.
 use mathlib.Core.Path.{_≡_, refl}
 use mathlib.Core.List.{[], _∷_}
 use mathlib.Core.Logic.{⊎-elim}

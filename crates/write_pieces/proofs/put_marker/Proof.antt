@@ -17,7 +17,7 @@ use Rattle.write_pieces.proofs.put_marker.Tie as tie
 chosen : (c : tie.Joined1) → c .if1 .half ≡ (if c .before .before .args .morning then 65 else 80)
 chosen c = (elim (c .if1 .came) [ inl w ↦ rw (w .0 .taken) (w .1) | inr w ↦ rw (w .0 .left) (w .1) ])
 
--- the first letter is in the case, as is the M
+-- the first letter is that of the half of the day, in the case
 first : (c : tie.After-letter-in2) → let args = c .before .before .before .before .args in c .letter-in2 .result ≡ half (args .case) (args .morning)
 first c =
     let args = c .before .before .before .before .args in
@@ -63,6 +63,7 @@ put-marker-spec =
     (λ c κs. search needs)
     (λ c κs. search needs)
     (λ c. omega (arith, two c))
+    -- with dots: room for each byte, and the text that is put
     (λ c. search (needs, four c))
     (λ c. rw length-set (omega (arith, four c)))
     (λ c. search (needs, four c))
@@ -72,6 +73,7 @@ put-marker-spec =
     (λ c. search (needs, four c))
     (λ c. search needs)
     returns
+    -- without dots: the same
     (λ c. search needs)
     (λ c. rw length-set (two (c .before)))
     (λ c. search needs)
