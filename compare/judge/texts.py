@@ -29,9 +29,9 @@ def question(line):
 
 
 def is_unfilled(line, theirs):
-    """Whether the texts differ by SSSSS alone, of which PostgreSQL writes none with zeros in front.
+    """Whether the texts differ by SSSSS alone, in front of which PostgreSQL writes no zeros.
 
-    As many times as the template has SSSSS, five digits of the text that are the second of the day lose their zeros.
+    The second of the day, in five digits, loses its zeros as many times as the template has SSSSS.
     """
     hour, minute, second = line.moment[3:6]
     seconds = (hour * 60 + minute) * 60 + second

@@ -21,8 +21,7 @@ use Rattle.base_chars.specs.Utf8.{wellFormed}
 use Rattle.base_chars.proofs.Classes.{the-class}
 use Rattle.base_chars.proofs.Folds.{fold-up, fold-class}
 use Rattle.base_chars.proofs.Ranges.{inside}
-use Rattle.base_chars.proofs.Sequences.{ascii}
-use Rattle.base_chars.proofs.WellFormed.{empty-text, past-sequence-at}
+use Rattle.base_chars.proofs.WellFormed.{ascii-run, empty-text}
 use Rattle.base_strtol.specs.Runs.{leading, digits}
 use Rattle.template_patterns.specs.Words.{wordsOf, longest}
 use Rattle.template_patterns.specs.declared.tables.WordList.{WordList}
@@ -38,14 +37,14 @@ pub record Written (size : ℕ) (u : List ℕ) : Type 0 where
   pub ink : inked u ≡ true
 
 pub ascii-first : (b : ℕ) (u : List ℕ) → b ≤ 127 → wellFormed u ≡ true → wellFormed (b ∷ u) ≡ true
-ascii-first b u h e =
-    sym (past-sequence-at (b ∷ u) 0 1 (sym (ascii b u (inside (0 ‥ 127) b (omega arith) h)))) ∙ e
+ascii-first b u h e = sym (ascii-run 1 (b ∷ u) (rw (inside (0 ‥ 127) b (omega arith) h))) ∙ e
 
--- all bytes are ASCII, and the first is a letter
+-- all bytes are ASCII
 abbrev allAscii : List ℕ → Bool
 allAscii [] = true
 allAscii (b ∷ u) = leb b 127 && allAscii u
 
+-- the first byte is a letter
 abbrev lettered : List ℕ → Bool
 lettered [] = false
 lettered (b ∷ u) = isLetter b

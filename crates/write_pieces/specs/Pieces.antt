@@ -144,7 +144,7 @@ numberOf p m =
     else if eqb p daySecond then h * 3600 + mi * 60 + s
     else natAbs (m .micros)
 
--- a byte of a marker in capitals, in a case: its letters are small where the pattern is; no marker's is in title case
+-- a byte of a marker in capitals, as it is written in a case; no marker's pattern is in title case
 abbrev pub letterIn : Case → ℕ → ℕ
 letterIn Small b = folded b
 letterIn Capitals b = b
