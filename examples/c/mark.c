@@ -42,11 +42,11 @@ static void print_leap_day(const uint8_t *nodes, size_t nodes_length) {
 }
 
 static void print_evening(void) {
-    static const char clock[] = "HH12:MI am";
+    static const char spoken[] = "DD FMMonth YYYY, HH12:MI am";
     struct sorbilgan_value_answer answer;
     char text[SORBILGAN_INPUT_LIMIT];
 
-    sorbilgan_write(clock, sizeof clock - 1, 2024, 2, 29, 21, 5, 0, 0, text, sizeof text, &answer);
+    sorbilgan_write(spoken, sizeof spoken - 1, 2024, 2, 29, 21, 5, 0, 0, text, sizeof text, &answer);
     print_text(&answer, text);
 }
 

@@ -54,7 +54,8 @@ pub enum Cause {
     InstantRange = 17,
     /// The day is outside 32 bits, or at one of their ends.
     DateRange = 18,
-    /// The writer has no such pattern, or the pattern has a prefix or suffix: the pattern.
+    /// The writer has no such pattern, or not with its prefix or suffix; FM is written on the full name of a month
+    /// alone, which needs it: the pattern.
     NotWritten = 19,
     /// The seven numbers are no moment of the years 1 to 9999.
     NoMoment = 20,

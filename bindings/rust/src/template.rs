@@ -120,7 +120,8 @@ impl Template {
     }
 
     /// Writes a moment to the front of a buffer and answers the length of the text. The bytes after it stay as they
-    /// were. Numbers have a fixed width, and a marker is in the case of its pattern.
+    /// were. Numbers have a fixed width, and a marker (`AM`, `a.m.`) and the name of a month (`FMMonth`, `MON`) are in
+    /// the case of their pattern.
     ///
     /// # Errors
     ///

@@ -24,7 +24,7 @@ fn lines() {
             count += 1;
         }
     }
-    assert_eq!(count, 16);
+    assert_eq!(count, 18);
 }
 
 /// The table under "What is accepted": a template, a line, and its answer or how that begins.

@@ -89,11 +89,42 @@ fn markers_in_their_own_case() {
     }
 }
 
+/// Each of the six patterns writes the name of the month in its own case, FM or fm before the full ones.
+#[test]
+fn months_by_name() {
+    for write in writers("FMMonth fmmonth FMMONTH Mon mon MON") {
+        for (month, text) in [
+            (1, "January january JANUARY Jan jan JAN"),
+            (5, "May may MAY May may MAY"),
+            (6, "June june JUNE Jun jun JUN"),
+            (7, "July july JULY Jul jul JUL"),
+            (9, "September september SEPTEMBER Sep sep SEP"),
+            (12, "December december DECEMBER Dec dec DEC"),
+        ] {
+            let mut buffer = [0; 41];
+            let length = write(&Moment { month, day: 1, ..LEAP_DAY }, &mut buffer).unwrap();
+            assert_eq!(str::from_utf8(&buffer[..length]), Ok(text));
+        }
+    }
+}
+
+/// The length that a buffer lacks is that of this moment's text.
+#[test]
+fn the_length_of_a_name_is_the_moments() {
+    for write in writers("YYYYFMMonthDDSSSSSUS") {
+        for (month, length) in [(5, 20), (9, 26)] {
+            let moment = Moment { month, day: 1, ..LEAP_DAY };
+            assert_eq!(write(&moment, &mut [0; 19]).unwrap_err().figures(), [length, 0]);
+            assert_eq!(write(&moment, &mut [0; 26]), Ok(length as usize));
+        }
+    }
+}
+
 #[test]
 fn a_refusal_leaves_the_buffer() {
     let no_leap_day = Moment { year: 2023, ..LEAP_DAY };
     for (text, moment, room, number) in
-        [("DD.MM.YYYY", LEAP_DAY, 9, 21), ("DD.MM.YYYY", no_leap_day, 20, 20), ("DD.Mon.YYYY", LEAP_DAY, 20, 19)]
+        [("DD.MM.YYYY", LEAP_DAY, 9, 21), ("DD.MM.YYYY", no_leap_day, 20, 20), ("DD.Month.YYYY", LEAP_DAY, 20, 19)]
     {
         for write in writers(text) {
             let mut buffer = vec![b'#'; room];

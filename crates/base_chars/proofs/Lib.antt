@@ -2,7 +2,7 @@
 pub mod Ranges
 -- the class of a byte by comparisons
 pub mod Classes
--- a folded byte
+-- a folded byte, and a raised one
 pub mod Folds
 -- sets of numbers below 128, given by bits
 pub mod Sets

@@ -7,7 +7,7 @@ ghost use lib.ListN.{length, drop, replicate};
 ghost use Rattle.base_notation.specs.Choice.{if_then_else_};
 ghost use Rattle.base_chars.specs.Character.{lead, Measured};
 ghost use Rattle.base_chars.specs.Class.{isSpace, isDigit, isLetter, isSeparator};
-ghost use Rattle.base_chars.specs.Fold.{folded as foldedByte};
+ghost use Rattle.base_chars.specs.Fold.{folded as foldedByte, raised as raisedByte};
 ghost use Rattle.base_chars.specs.Range.{_‥_};
 ghost use Rattle.base_chars.specs.Sets.{inSet};
 ghost use Rattle.base_chars.specs.Utf8.{begins, sequence, wellFormed, Passed};
@@ -46,6 +46,19 @@ pub fn folded(b: u8) -> u8
     }
     if b <= b'Z' {
         return b + 32;
+    }
+    b
+}
+
+// A small letter made a capital.
+pub fn raised(b: u8) -> u8
+    ensures { λ r. ⌜ r ≡ raisedByte b ⌝ }
+{
+    if b < b'a' {
+        return b;
+    }
+    if b <= b'z' {
+        return b - 32;
     }
     b
 }

@@ -18,6 +18,7 @@ use Rattle.moment_instants.proofs.Ranges.{instant-answered, day-answered}
 use Rattle.moment_instants.proofs.Own.{instant-own, day-own, timestamp-own, date-own}
 use Rattle.write_pieces.proofs.Moments.{moment-plain, plain-moment}
 use Rattle.write_text.proofs.Own.{written-own, written-in-own}
+use Rattle.write_text.proofs.ByName.{by-name}
 use Rattle.write_text.proofs.OwnCase.{own-case}
 use Rattle.write_text.specs.Writer.{bufferAfter}
 use Rattle.write_text.specs.declared.Unwritten.{Unwritten}
@@ -123,7 +124,7 @@ pub every-template : EveryTemplate
 every-template = record { covered = covered; once = compile-once }
 
 pub every-request : EveryRequest
-every-request = record { own-case = own-case; fold-once = fold-once }
+every-request = record { own-case = own-case; fold-once = fold-once; by-name = by-name }
 
 pub kept : Promises
 kept =

@@ -25,6 +25,7 @@ use Rattle.moment_instants.specs.declared.epoch.Instant.the-variants.{Refused a
 use Rattle.moment_instants.specs.declared.epoch.Undated.{Undated}
 use Rattle.write_pieces.specs.Moment.{isMoment, PlainMoment}
 use Rattle.write_pieces.specs.declared.Moment.{Moment}
+use Rattle.write_text.specs.ByName.{ByName}
 use Rattle.write_text.specs.OwnCase.{OwnCase}
 use Rattle.write_text.specs.Report.{unwrittenReport}
 use Rattle.write_text.specs.Text.{textOf}
@@ -156,6 +157,8 @@ pub record EveryRequest : Type 0 where
   pub own-case : OwnCase
   -- CR 3: the beginning of the input, folded once, has the word that the input has
   pub fold-once : FoldOnce
+  -- CR 6: each of the six patterns of month names writes the month's, in its own case; reading back is in demand 3
+  pub by-name : ByName
 
 -- all of them
 pub record Promises : Type 2 where

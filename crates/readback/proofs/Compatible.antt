@@ -41,7 +41,7 @@ goes all p = not (has all p) || (leb (times p all) 1 && (clear all p && oneMode 
 
 -- each piece goes so, and no two settings of one field differ
 abbrev pub together : List ℕ → Bool
-together all = inPairs (has all) settings && allFrom (λ (p x : ℕ). goes all p) 0 (replicate 16 0)
+together all = inPairs (has all) settings && allFrom (λ (p x : ℕ). goes all p) 0 (replicate 18 0)
 
 no-field : (k : ℕ) → get noFields k ≡ pos 0
 no-field k =
@@ -66,17 +66,17 @@ unfolding times
 own-times p ps = rw (eq-eqb p p refl)
 
 -- the pieces done, the piece p, and those that follow it are all
-module _ (all : List ℕ) (c : together all ≡ true) (m : Moment) (done : List ℕ) (p : ℕ) (ps : List ℕ) (small : p < 16)
+module _ (all : List ℕ) (c : together all ≡ true) (m : Moment) (done : List ℕ) (p : ℕ) (ps : List ℕ) (small : p < 18)
     (fits : (q : ℕ) → times q done + times q (p ∷ ps) ≡ times q all) where
   -- p is one of all, so it passes the test
   here : has all p ≡ true
   here = lt-ltb 0 (times p all) (omega (arith, fits p, own-times p ps))
 
-  pairs : (inPairs (has all) settings ≡ true) × (allFrom (λ (p x : ℕ). goes all p) 0 (replicate 16 0) ≡ true)
+  pairs : (inPairs (has all) settings ≡ true) × (allFrom (λ (p x : ℕ). goes all p) 0 (replicate 18 0) ≡ true)
   pairs = both (inPairs (has all) settings) _ c
 
   needs : (leb (times p all) 1 ≡ true) × (clear all p && oneMode all p ≡ true)
-  needs = both (leb (times p all) 1) _ (other (has all p) _ here (entry (λ (p x : ℕ). goes all p) 0 (replicate 16 0) (pairs .1) p small))
+  needs = both (leb (times p all) 1) _ (other (has all p) _ here (entry (λ (p x : ℕ). goes all p) 0 (replicate 18 0) (pairs .1) p small))
 
   -- it was not read before
   unread : times p done ≡ 0

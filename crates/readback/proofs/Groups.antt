@@ -1,7 +1,7 @@
 -- The pieces of a full template are those of a date group, a time group and US, in some order. Assumes nothing.
 -- `EachFull`: a property of the pieces of each date group with each time group and US.
 -- `grouped`: pieces that are full occur as often as in one of these lists, which has each property of all (`Grouped`).
--- `pieces-below`: the pieces of sound nodes are below 16.
+-- `pieces-below`: the pieces of sound nodes are below 18.
 -- `expected-same`: what pieces set depends on how often each occurs, and on nothing else.
 use mathlib.Core.Path.{_≡_, _∙_, refl, sym}
 use mathlib.Core.Bool.{Bool, true, false, false≢true}
@@ -48,30 +48,30 @@ Timed P date = AllOf (λ time. P (joined date time)) timeGroups
 abbrev pub EachFull : (List ℕ → Type 0) → Type 0
 EachFull P = AllOf (Timed P) dateGroups
 
--- each of the pieces 0 to 15 occurs as often
+-- each of the pieces 0 to 17 occurs as often
 same-each : (ps qs : List ℕ) (n i : ℕ) → sameFrom (countFrom i (suc n)) ps qs ≡ true → Each (λ q. times q ps ≡ times q qs) i n
 same-each ps qs zero i e = eqb-true _ _ (both (eqb (times i ps) (times i qs)) _ e .0)
 same-each ps qs (suc n) i e =
     let split = both (eqb (times i ps) (times i qs)) _ e in
     (eqb-true _ _ (split .0), same-each ps qs n (suc i) (split .1))
 
--- pieces are below 16
-abbrev pub below16 : List ℕ → Bool
-below16 ps = allFrom (λ (i p : ℕ). ltb p 16) 0 ps
+-- pieces are below 18
+abbrev pub below18 : List ℕ → Bool
+below18 ps = allFrom (λ (i p : ℕ). ltb p 18) 0 ps
 
-none-above : (ps : List ℕ) (i q : ℕ) → allFrom (λ (i p : ℕ). ltb p 16) i ps ≡ true → 16 ≤ q → times q ps ≡ 0
+none-above : (ps : List ℕ) (i q : ℕ) → allFrom (λ (i p : ℕ). ltb p 18) i ps ≡ true → 18 ≤ q → times q ps ≡ 0
 unfolding times
 none-above [] i q e h = refl
 none-above (p ∷ ps) i q e h =
-    let split = both (ltb p 16) _ e in
-    rw (ne-eqb q p (omega (arith, ltb-true p 16 (split .0)))) (none-above ps (suc i) q (split .1) h)
+    let split = both (ltb p 18) _ e in
+    rw (ne-eqb q p (omega (arith, ltb-true p 18 (split .0)))) (none-above ps (suc i) q (split .1) h)
 
 -- so each number occurs as often
-pub same-times : (ps qs : List ℕ) → below16 ps ≡ true → below16 qs ≡ true → same ps qs ≡ true → (q : ℕ) → times q ps ≡ times q qs
+pub same-times : (ps qs : List ℕ) → below18 ps ≡ true → below18 qs ≡ true → same ps qs ≡ true → (q : ℕ) → times q ps ≡ times q qs
 same-times ps qs b c e q =
-    (elim (ltb q 16) as (λ w. ltb q 16 ≡ w → times q ps ≡ times q qs) [
-      | true ↦ λ w. each (λ q. times q ps ≡ times q qs) 0 15 (same-each ps qs 15 0 e) q (omega arith) (omega (arith, ltb-true q 16 w))
-      | false ↦ λ w. none-above ps 0 q b (ltb-false q 16 w) ∙ sym (none-above qs 0 q c (ltb-false q 16 w))
+    (elim (ltb q 18) as (λ w. ltb q 18 ≡ w → times q ps ≡ times q qs) [
+      | true ↦ λ w. each (λ q. times q ps ≡ times q qs) 0 17 (same-each ps qs 17 0 e) q (omega arith) (omega (arith, ltb-true q 18 w))
+      | false ↦ λ w. none-above ps 0 q b (ltb-false q 18 w) ∙ sym (none-above qs 0 q c (ltb-false q 18 w))
     ]) refl
 
 -- pieces that are, in some order, those of two groups and US
@@ -80,10 +80,13 @@ pub record Grouped (ps : List ℕ) : Type 1 where
   pub as-often : (q : ℕ) → times q ps ≡ times q all
   pub pick : (P : List ℕ → Type 0) → EachFull P → P all
 
-all-below : EachFull (λ all. below16 all ≡ true)
-all-below = ((refl, (refl, (refl, (refl, tt)))), ((refl, (refl, (refl, (refl, tt)))), ((refl, (refl, (refl, (refl, tt)))), tt)))
+all-below : EachFull (λ all. below18 all ≡ true)
+all-below = (
+  (refl, (refl, (refl, (refl, tt)))),
+  ((refl, (refl, (refl, (refl, tt)))), ((refl, (refl, (refl, (refl, tt)))), ((refl, (refl, (refl, (refl, tt)))), ((refl, (refl, (refl, (refl, tt)))), tt)))),
+)
 
-pub grouped : (ps : List ℕ) → below16 ps ≡ true → areFull ps ≡ true → Grouped ps
+pub grouped : (ps : List ℕ) → below18 ps ≡ true → areFull ps ≡ true → Grouped ps
 unfolding areFull
 grouped ps below e =
     any-of (Grouped ps) dateGroups dated e
@@ -98,16 +101,16 @@ grouped ps below e =
 
     whole : (all : List ℕ) → ((P : List ℕ → Type 0) → EachFull P → P all) → same ps all ≡ true → Grouped ps
     whole all pick r =
-        record { all = all; as-often = same-times ps all below (pick (λ x. below16 x ≡ true) all-below) r; pick = pick }
+        record { all = all; as-often = same-times ps all below (pick (λ x. below18 x ≡ true) all-below) r; pick = pick }
 
-pub pieces-below : (t : List ℕ) (ns : List Node) (i : ℕ) → AllSound t ns → allFrom (λ (i p : ℕ). ltb p 16) i (pieces ns) ≡ true
+pub pieces-below : (t : List ℕ) (ns : List Node) (i : ℕ) → AllSound t ns → allFrom (λ (i p : ℕ). ltb p 18) i (pieces ns) ≡ true
 unfolding pieces
 pieces-below t [] i a = refl
 pieces-below t (n ∷ ns) i a = by (a .0) (λ j. pieces-below t ns j (a .1))
   where
-    by : Sound t n → ((j : ℕ) → allFrom (λ (i p : ℕ). ltb p 16) j (pieces ns) ≡ true) → allFrom (λ (i p : ℕ). ltb p 16) i (pieces (n ∷ ns)) ≡ true
+    by : Sound t n → ((j : ℕ) → allFrom (λ (i p : ℕ). ltb p 18) j (pieces ns) ≡ true) → allFrom (λ (i p : ℕ). ltb p 18) i (pieces (n ∷ ns)) ≡ true
     by (a-literal l) ih = rw (pieces-literal t n ns l) (ih i)
-    by (a-pattern k) ih = rw (pieces-pattern t n ns k, lt-ltb (pieceOf (n .pattern)) 16 (k .reads .piece)) (ih (suc i))
+    by (a-pattern k) ih = rw (pieces-pattern t n ns k, lt-ltb (pieceOf (n .pattern)) 18 (k .reads .piece)) (ih (suc i))
 
 pub expected-same : (m : Moment) (ps qs : List ℕ) → ((q : ℕ) → times q ps ≡ times q qs) → expected ps m ≡ expected qs m
 unfolding expected

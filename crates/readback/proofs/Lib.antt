@@ -17,23 +17,23 @@ pub mod Numbers
 pub mod PieceNumbers
 -- how far a reader may be ahead
 pub mod Ahead
--- what reading needs of a word that was written, by its folded bytes
+-- a word is found in its list by its folded bytes, whatever follows it
 pub mod Words
--- a marker of the half of the day is read back
-pub mod Markers
--- the text of a piece: its length, its first byte, and that it is ASCII
+-- the text of a piece, and what is read as if it were that text
 pub mod Texts
--- the nodes of a template that is written, and their text
+-- the nodes of a template that is written, their pieces and their text
 pub mod Sound
+-- inputs that spell the nodes of a template
+pub mod Spells
 -- a literal is read, and the reader stays ahead by what it may
 pub mod Literals
--- a pattern is read at the text of its piece, and sets what the piece sets
+-- a pattern is read at what spells its piece, and sets what the piece sets
 pub mod Actions
 -- the pieces of a full template are those of a date group, a time group and US
 pub mod Groups
 -- pieces of a full template do not get in each other's way
 pub mod Compatible
--- reading the text of all nodes sets what all pieces set
+-- reading what spells all nodes sets what all pieces set
 pub mod Simulation
 -- the first half of reading back: what reading the text of a full template sets
 pub mod ReadText

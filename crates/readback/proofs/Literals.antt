@@ -1,7 +1,7 @@
 -- Reading a literal. A reader may be ahead by spaces and separators, which it skipped and which still pay for literals:
 -- past the literal it is ahead so again. Assumes nothing.
 -- `Left`: what is left of the input from a place on, with its length and bytes; `left-past`: after a first part of it.
--- `literal-step`: a reader that is ahead at a literal's text is ahead after it (`Passed`).
+-- `literal-step`: a reader that is ahead at what is read as a literal is ahead after it (`Passed`).
 use mathlib.Core.Path.{_≡_, _∙_, refl, sym, ap}
 use mathlib.Core.Bool.{Bool, true, false, _&&_, _||_, false≢true}
 use mathlib.Core.List.{List, [], _∷_, _++_}
@@ -20,7 +20,7 @@ use Rattle.read_literals.specs.Literals.{place, literalPassed}
 use Rattle.template_nodes.specs.Template.{separator, space}
 use Rattle.template_nodes.specs.declared.Node.{Node}
 use Rattle.readback.proofs.Ahead.{Ahead, ahead-more}
-use Rattle.readback.proofs.Nodes.{isBlank, Literal}
+use Rattle.readback.proofs.Nodes.{isBlank, Alike, Literal}
 
 -- u is left of the input s from at on
 pub record Left (s : List ℕ) (at : ℕ) (u : List ℕ) : Type 0 where
@@ -62,13 +62,17 @@ none : (u v : List ℕ) → length u ≡ 0 → u ++ v ≡ v
 none [] v e = refl
 none (b ∷ u) v e = absurd (omega arith)
 
-module _ (s t : List ℕ) (n : Node) (l : Literal t n) (v : List ℕ) (at : ℕ) (h : Left s at (l .b ∷ l .others ++ v)) where
+module _ (s t : List ℕ) (n : Node) (l : Literal t n) {x : List ℕ} (a : Alike t n x) (v : List ℕ) (at : ℕ) (h : Left s at (a .b ∷ a .others ++ v)) where
   abbrev blankKind : Bool
   blankKind = eqb (n .kind) separator || eqb (n .kind) space
 
   own-length : charLength s (at + 0) ≡ n .len
   unfolding charLength
-  own-length = rw (left-byte h 0) (omega (arith, l .long, l .size, left-length h, length-append (l .others) v))
+  own-length = rw (left-byte h 0) (omega (arith, a .long, a .size, left-length h, length-append (a .others) v))
+
+  -- a space or separator is read at one of the template
+  blank-here : blankKind ≡ true → isBlank (a .b) ≡ true
+  blank-here q = rw (a .class) (l .blank q)
 
   -- a reader that is not ahead: the literal takes its own bytes
   in-place : Passed s n at 0 v
@@ -80,16 +84,16 @@ module _ (s t : List ℕ) (n : Node) (l : Literal t n) (v : List ℕ) (at : ℕ)
 
       by : (w : Bool) → blankKind ≡ w → literalPassed s n (place (at + 0) 0 false) ≡ place (at + n .len + 0) 0 false
       by true q =
-          rw (q, lt-ltb (at + 0) (length s) inside, left-byte h 0, l .blank q)
-          (moved 0 (omega (arith, l .long, blank-one (l .b) (l .blank q))))
+          rw (q, lt-ltb (at + 0) (length s) inside, left-byte h 0, blank-here q)
+          (moved 0 (omega (arith, a .long, blank-one (a .b) (blank-here q))))
       by false q = rw q (moved 0 (omega (arith, own-length)))
 
-  module _ (e : ℕ) (k : Ahead (suc e) (l .b ∷ l .others ++ v)) where
+  module _ (e : ℕ) (k : Ahead (suc e) (a .b ∷ a .others ++ v)) where
     one-byte : n .len ≡ 1
-    one-byte = sym (l .long) ∙ blank-one (l .b) (k .0)
+    one-byte = sym (a .long) ∙ blank-one (a .b) (k .0)
 
-    rest : l .others ++ v ≡ v
-    rest = none (l .others) v (omega (arith, l .size, one-byte))
+    rest : a .others ++ v ≡ v
+    rest = none (a .others) v (omega (arith, a .size, one-byte))
 
     -- a byte that was skipped pays for the literal, which has one byte
     paid : literalPassed s n (place (at + suc e) (suc e) false) ≡ place (at + suc e) e false → Passed s n at (suc e) v
@@ -102,8 +106,8 @@ module _ (s t : List ℕ) (n : Node) (l : Literal t n) (v : List ℕ) (at : ℕ)
         (elim (ltb (at + suc e) (length s) && isBlank (byteAt s (at + suc e))) as (λ w. (ltb (at + suc e) (length s) && isBlank (byteAt s (at + suc e))) ≡ w → Passed s n at (suc e) v) [
           | true ↦ λ w.
               let next-blank = both (ltb (at + suc e) (length s)) _ w in
-              let inside : suc e < length (l .b ∷ l .others ++ v) = omega (arith, ltb-true (at + suc e) (length s) (next-blank .0), left-length h) in
-              let more = ahead-more (suc e) (l .b ∷ l .others ++ v) k inside (rw (left-byte h (suc e)) at (next-blank .1)) in
+              let inside : suc e < length (a .b ∷ a .others ++ v) = omega (arith, ltb-true (at + suc e) (length s) (next-blank .0), left-length h) in
+              let more = ahead-more (suc e) (a .b ∷ a .others ++ v) k inside (rw (left-byte h (suc e)) at (next-blank .1)) in
               record { next = suc e; is = rw (q, w) (moved (suc e) (omega (arith, one-byte))); ahead = rw rest at (more .1) }
           | false ↦ λ w. paid (rw (q, w))
         ]) refl
@@ -116,6 +120,6 @@ module _ (s t : List ℕ) (n : Node) (l : Literal t n) (v : List ℕ) (at : ℕ)
           | false ↦ λ q. paid (rw (q, lt-ltb 0 (suc e) (omega arith)))
         ]) refl
 
-  pub literal-step : (e : ℕ) → Ahead e (l .b ∷ l .others ++ v) → Passed s n at e v
+  pub literal-step : (e : ℕ) → Ahead e (a .b ∷ a .others ++ v) → Passed s n at e v
   literal-step zero k = in-place
   literal-step (suc e) k = ahead-step e k

@@ -1,27 +1,29 @@
 -- The nodes of a well-formed template. Assumes nothing.
+-- `Alike`: what is read as a literal: as long, and of the class of its first byte.
 -- `good-nodes`: each node is a literal of one whole character (`Literal`) or a pattern of the table (`Named`), and
--- together they have no more bytes than the template. The idea: each step begins where a character begins (`Taken`).
+-- together, with FM before a name, they have no more bytes than the template. The idea: each step begins where a character begins (`Taken`).
 use mathlib.Core.Path.{_≡_, _∙_, refl, sym}
 use mathlib.Core.Bool.{Bool, true, false, not, _||_, false≢true}
 use mathlib.Core.List.{List, [], _∷_, _++_}
 use Prim.Native.Nat.{ℕ, zero, suc, _+_, _≤_, _<_}
 use native.Mathlib.Omega.{arith}
-use borrow.Author.Tests.{eqb-true, ltb-true}
+use borrow.Author.Tests.{eqb-true, ltb-true, ne-eqb}
+use lib.Bits.{bitOr, or-zero-l}
 use lib.Dec.{eqb, ltb}
 use lib.ListN.{length, take, drop, length-take, length-drop}
 use lib.Seq.{drop-cons}
 use Rattle.base_notation.specs.Choice.{if_then_else_}
-use Rattle.base_notation.specs.Text.{byteAt}
+use Rattle.base_notation.specs.Text.{byteAt, utf8}
 use Rattle.base_notation.proofs.Cases.{both, by-if}
 use Rattle.base_chars.specs.Character.{charLength, lead}
-use Rattle.base_chars.specs.Class.{isSpace, isSeparator}
+use Rattle.base_chars.specs.Class.{classOf, isSpace, isSeparator}
 use Rattle.base_chars.specs.Utf8.{wellFormed, sequence}
 use Rattle.base_chars.proofs.Characters.{measure}
 use Rattle.base_chars.proofs.Sequences.{sequence-lead}
 use Rattle.base_chars.proofs.WellFormed.{char-is-sequence, next-boundary, one-character}
 use Rattle.template_patterns.specs.Affixes.{affixLength, bitAt}
 use Rattle.template_patterns.specs.Patterns.{nameOf}
-use Rattle.template_patterns.specs.Search.{patternAt}
+use Rattle.template_patterns.specs.Search.{matchesAt, patternAt}
 use Rattle.template_patterns.specs.declared.Found.{Found}
 use Rattle.template_patterns.specs.declared.Found.the-variants.{Pattern, Nothing}
 use Rattle.template_patterns.proofs.Search.{found-range, found-name}
@@ -35,18 +37,22 @@ use Rattle.readback.proofs.Boundaries.{Boundary, past-byte, past-affix,
 abbrev pub isBlank : ℕ → Bool
 isBlank b = isSpace b || isSeparator b
 
--- a literal: one character, its first byte and the others
-pub record Literal (t : List ℕ) (n : Node) : Type 0 where
+-- x is one character, as long as the literal n and of the class of its first byte
+pub record Alike (t : List ℕ) (n : Node) (x : List ℕ) : Type 0 where
   pub b : ℕ
   pub others : List ℕ
-  pub text : literalText t n ≡ b ∷ others
+  pub is : x ≡ b ∷ others
   pub size : n .len ≡ suc (length others)
   pub long : lead b ≡ n .len
-  pub first : byteAt t (n .start) ≡ b
-  pub whole : wellFormed (literalText t n) ≡ true
+  pub class : classOf b ≡ classOf (byteAt t (n .start))
+  pub whole : wellFormed x ≡ true
+
+-- a literal: one character of the template
+pub record Literal (t : List ℕ) (n : Node) : Type 0 where
+  pub own : Alike t n (literalText t n)
   pub no-action : eqb (n .kind) action ≡ false
   pub no-end : eqb (n .kind) end ≡ false
-  pub blank : (eqb (n .kind) separator || eqb (n .kind) space) ≡ true → isBlank b ≡ true
+  pub blank : (eqb (n .kind) separator || eqb (n .kind) space) ≡ true → isBlank (byteAt t (n .start)) ≡ true
 
 -- a pattern of the table
 pub record Named (n : Node) : Type 0 where
@@ -62,10 +68,13 @@ abbrev pub AllGood : List ℕ → List Node → Type 0
 AllGood t [] = Unit {0}
 AllGood t (n ∷ ns) = Good t n × AllGood t ns
 
--- the bytes of the template that nodes are made from
+-- the bytes of the template that nodes are made from, with FM where it is the only affix
+abbrev pub prefixBytes : ℕ → ℕ
+prefixBytes bits = if eqb bits 1 then 2 else 0
+
 abbrev pub lengths : List Node → ℕ
 lengths [] = 0
-lengths (n ∷ ns) = n .len + lengths ns
+lengths (n ∷ ns) = n .len + prefixBytes (n .suffix) + lengths ns
 
 -- a kind of literals: of a character as it is, or by its class
 record Kind (kind b : ℕ) : Type 0 where
@@ -90,7 +99,7 @@ class-kind b = by (isSeparator b) (isSpace b) refl refl
 record Taken (t : List ℕ) (at : ℕ) (s : Step) : Type 0 where
   next : Boundary t (s .next)
   from : at ≤ s .next
-  node : s .made ≡ true → Good t (s .node) × (at + s .node .len ≤ s .next)
+  node : s .made ≡ true → Good t (s .node) × (at + s .node .len + prefixBytes (s .node .suffix) ≤ s .next)
 
 module _ (t : List ℕ) where
   -- a literal character at p
@@ -109,13 +118,15 @@ module _ (t : List ℕ) where
           is-literal ((elim (charLength t p) as (λ n. charLength t p ≡ n → Literal t (literal kind p (charLength t p))) [
             | zero ↦ λ q. absurd (omega (arith, one-char .some))
             | suc n ↦ λ q. record {
-              b = x;
-              others = take n r;
-              text = rw (q, d);
-              size = omega (arith, q, length-take n r, length-drop (suc p) t, one-char .within);
-              long = long;
-              first = refl;
-              whole = one-character t p h (b .begins);
+              own = record {
+                b = x;
+                others = take n r;
+                is = rw (q, d);
+                size = omega (arith, q, length-take n r, length-drop (suc p) t, one-char .within);
+                long = long;
+                class = refl;
+                whole = one-character t p h (b .begins);
+              };
               no-action = k .no-action;
               no-end = k .no-end;
               blank = k .blank;
@@ -161,9 +172,27 @@ module _ (t : List ℕ) where
       kind true = plain-kind _
       kind false = class-kind _
 
-  -- a pattern with its suffix, or a literal
-  element-taken : (from at prefix : ℕ) (f : Found) → patternAt t at ≡ f → from ≤ at → at < length t → Boundary t at → Taken t from (elementOf f t at prefix)
-  element-taken from at prefix Nothing e l h b = literal-taken from at false l h b
+  -- no suffix has the bit of FM
+  no-prefix : (at : ℕ) → bitAt false t at ≡ 1 → ⊥
+  unfolding bitAt
+  no-prefix at =
+      let P : ℕ → Type 0 = λ (bit : ℕ). bit ≡ 1 → ⊥ in
+      by-if P (matchesAt (utf8 "TH") t at) 2 _ (λ e q. omega (arith, q))
+      (λ e. by-if P (matchesAt (utf8 "th") t at) 4 _ (λ e q. omega (arith, q))
+      (λ e. by-if P (matchesAt (utf8 "SP") t at) 8 0 (λ e q. omega (arith, q)) (λ e q. omega (arith, q))))
+
+  -- so where FM is the only affix, it is the prefix, of two bytes
+  prefix-bytes : (prefix at : ℕ) → prefixBytes (bitOr prefix (bitAt false t at)) ≤ affixLength prefix
+  prefix-bytes prefix at = by (eqb prefix 0) refl
+    where
+      by : (b : Bool) → eqb prefix 0 ≡ b → prefixBytes (bitOr prefix (bitAt false t at)) ≤ (if b then 0 else 2)
+      by true e = rw (eqb-true prefix 0 e, or-zero-l (bitAt false t at), ne-eqb (bitAt false t at) 1 (no-prefix at)) (omega arith)
+      by false e = by-if (λ (n : ℕ). n ≤ 2) (eqb (bitOr prefix (bitAt false t at)) 1) 2 0 (λ q. omega arith) (λ q. omega arith)
+
+  -- a pattern with its prefix and suffix, or a literal
+  element-taken : (from at prefix : ℕ) (f : Found) → patternAt t at ≡ f → from + affixLength prefix ≤ at → at < length t → Boundary t at
+      → Taken t from (elementOf f t at prefix)
+  element-taken from at prefix Nothing e l h b = literal-taken from at false (omega arith) h b
   element-taken from at prefix (Pattern k n) e l h b =
       let number = found-range t at k n e in
       let name = found-name t at k n e in
@@ -171,7 +200,7 @@ module _ (t : List ℕ) where
       record {
         next = past-affix t (at + n) past false;
         from = omega arith;
-        node = λ q. (is-named (record { is-action = refl; known = number .0; size = name .0 }), omega arith);
+        node = λ q. (is-named (record { is-action = refl; known = number .0; size = name .0 }), omega (arith, prefix-bytes prefix (at + n)));
       }
 
   -- outside quotes a prefix may come first

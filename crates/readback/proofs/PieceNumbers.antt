@@ -2,11 +2,11 @@
 -- `number-small`: it fits the width of its piece, and 32 bits.
 -- `number-kept`: what is kept of it in its field is the piece's own number, as Settings has it.
 -- `number-stored`: with it in the field, and what else reading a number notes, the fields are as Settings has them.
--- `word-kept`, `word-stored`: the same of a marker, whose number is its index in its list (`wordFor`).
+-- `word-kept`, `word-stored`: the same of a word, by its index in its list.
 use mathlib.Core.Path.{_≡_, _∙_, refl, ap}
 use mathlib.Core.Bool.{Bool, true, false}
 use mathlib.Core.List.{[], _∷_}
-use Prim.Native.Nat.{ℕ, _+_, _*_, _%_, _^_, _≤_, _<_}
+use Prim.Native.Nat.{ℕ, _+_, _-_, _*_, _%_, _^_, _≤_, _<_}
 use native.Mathlib.Omega.{arith}
 use lib.IntN.{pos}
 use Rattle.base_notation.specs.Choice.{if_then_else_}
@@ -28,7 +28,7 @@ use Rattle.readback.proofs.MomentFacts.{IsMoment}
 use Rattle.write_pieces.specs.Pieces.{widthOf, numberOf, isMorning}
 use Rattle.write_pieces.specs.declared.Moment.{Moment}
 use Rattle.readback.proofs.Settings.{settings, ownOf, filledBy}
-use Rattle.readback.proofs.Known.{taskFor, modeFor}
+use Rattle.readback.proofs.Known.{taskFor, modeFor, indexFor}
 
 module _ {y mo d h mi s us : ℕ} (is : IsMoment y mo d h mi s us) where
   abbrev now : Moment
@@ -55,6 +55,17 @@ module _ {y mo d h mi s us : ℕ} (is : IsMoment y mo d h mi s us) where
       let whole : wrap32 (pos (us * 1)) ≡ pos us = wrap-pos (us * 1) (omega arith) ∙ ap pos (omega arith) in
       each (λ p. kept (taskFor p .rule) (pos (numberOf p now)) (widthOf p) ≡ pos (ownOf p now)) 1 12 (search depth 20)
 
+  pub word-kept : (p : ℕ) → 14 ≤ p → p ≤ 17 → keptWord (taskFor p .rule) (meant (taskFor p .rule) (indexFor p now)) ≡ ownOf p now
+  unfolding meant ownOf
+  word-kept =
+      let month : mo - 1 + 1 ≡ mo = omega (arith, is .date .month-from) in
+      each (λ p. keptWord (taskFor p .rule) (meant (taskFor p .rule) (indexFor p now)) ≡ ownOf p now) 14 3
+      (by (isMorning now), (by (isMorning now), (month, month)))
+    where
+      by : (t : Bool) → (if t then 0 else 1) % 2 ≡ (if t then 0 else 1)
+      by true = refl
+      by false = refl
+
 pub number-stored : (m : Moment) (f : Fields) (p : ℕ) → 1 ≤ p → p ≤ 13
     → noted (taskFor p .rule) (taskFor p .operand) (put (withMode (modeFor p) f) (taskFor p .field) (pos (ownOf p m))) ≡ filledBy settings (p ∷ []) m f
 unfolding noted filledBy times
@@ -62,22 +73,9 @@ number-stored m f =
     each (λ p. noted (taskFor p .rule) (taskFor p .operand) (put (withMode (modeFor p) f) (taskFor p .field) (pos (ownOf p m))) ≡ filledBy settings (p ∷ []) m f) 1 12
     (refl, (refl, (refl, (refl, (refl, (refl, (refl, (refl, (refl, (refl, (refl, (refl, refl))))))))))))
 
-pub word-stored : (m : Moment) (f : Fields) (p : ℕ) → 14 ≤ p → p ≤ 15
+pub word-stored : (m : Moment) (f : Fields) (p : ℕ) → 14 ≤ p → p ≤ 17
     → notedWord (taskFor p .rule) (put (withMode (modeFor p) f) (taskFor p .field) (pos (ownOf p m))) ≡ filledBy settings (p ∷ []) m f
 unfolding filledBy times
 word-stored m f =
-    each (λ p. notedWord (taskFor p .rule) (put (withMode (modeFor p) f) (taskFor p .field) (pos (ownOf p m))) ≡ filledBy settings (p ∷ []) m f) 14 1
-    (refl, refl)
-
--- the first of the two markers is the morning's
-abbrev pub wordFor : Moment → ℕ
-wordFor m = if isMorning m then 0 else 1
-
-pub word-kept : (m : Moment) (p : ℕ) → 14 ≤ p → p ≤ 15 → keptWord (taskFor p .rule) (meant (taskFor p .rule) (wordFor m)) ≡ ownOf p m
-unfolding meant ownOf
-word-kept m =
-    each (λ p. keptWord (taskFor p .rule) (meant (taskFor p .rule) (wordFor m)) ≡ ownOf p m) 14 1 (by (isMorning m), by (isMorning m))
-  where
-    by : (t : Bool) → (if t then 0 else 1) % 2 ≡ (if t then 0 else 1)
-    by true = refl
-    by false = refl
+    each (λ p. notedWord (taskFor p .rule) (put (withMode (modeFor p) f) (taskFor p .field) (pos (ownOf p m))) ≡ filledBy settings (p ∷ []) m f) 14 3
+    (refl, (refl, (refl, refl)))

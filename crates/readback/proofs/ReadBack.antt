@@ -1,17 +1,17 @@
 -- The theorem of reading back, `every-back`: for every full template and every moment the text is written, no other
 -- moment has it, and it is read as the moment. Assumes nothing. Two halves, joined here:
 -- 1. Reading the text sets exactly what the template's pieces set: `text-is-read`, `fields-read` in ReadText.
---    A template is whole characters and known patterns (Boundaries, Nodes, Known, Texts, Sound). A pattern, read at the
---    text of its piece, sets the fields of the piece (Settings, Numbers, Markers, PieceNumbers, Actions). A reader may
---    be ahead by spaces and separators, and literals let it (Ahead, Literals). The pieces are those of a date group,
---    a time group and US (Groups), and can be read in any order (Filled, Compatible). So, by induction on the nodes,
---    the whole text is read (Simulation).
+--    A template is whole characters and known patterns (Boundaries, Nodes, Known, Sound), and the text spells them
+--    (Words, Texts, Spells). A pattern, read at what spells its piece, sets the fields of the piece (Settings, Numbers,
+--    PieceNumbers, Actions). A reader may be ahead by spaces and separators, and literals let it (Ahead, Literals). The
+--    pieces are those of a date group, a time group and US (Groups), and can be read in any order (Filled, Compatible).
+--    So, by induction on the nodes, any input that spells them is read (Simulation).
 -- 2. Fields that are set so are read as the moment: `moment-read` in MomentRead. They make the date (GroupFields,
 --    FieldSteps, DateGroups) and the time (TimeGroups).
 use mathlib.Core.Path.{_≡_, refl, sym, _∙_, ap}
 use mathlib.Core.Bool.{true}
 use mathlib.Core.List.{List}
-use Prim.Native.Nat.{ℕ, _≤_}
+use Prim.Native.Nat.{ℕ, _+_, _≤_}
 use native.Mathlib.Omega.{arith}
 use borrow.Author.Tests.{le-ltb}
 use lib.IntN.{natAbs}
@@ -72,15 +72,27 @@ each-read is = (
   ),
   (
     (
-      moment-read is by-day of-24 _ (λ k h. refl),
-      (moment-read is by-day of-12 _ (λ k h. refl), (moment-read is by-day of-12 _ (λ k h. refl), (moment-read is by-day by-second _ (λ k h. refl), tt))),
+      moment-read is by-month of-24 _ (λ k h. refl),
+      (moment-read is by-month of-12 _ (λ k h. refl), (moment-read is by-month of-12 _ (λ k h. refl), (moment-read is by-month by-second _ (λ k h. refl), tt))),
     ),
     (
       (
-        moment-read is by-week of-24 _ (λ k h. refl),
-        (moment-read is by-week of-12 _ (λ k h. refl), (moment-read is by-week of-12 _ (λ k h. refl), (moment-read is by-week by-second _ (λ k h. refl), tt))),
+        moment-read is by-month of-24 _ (λ k h. refl),
+        (moment-read is by-month of-12 _ (λ k h. refl), (moment-read is by-month of-12 _ (λ k h. refl), (moment-read is by-month by-second _ (λ k h. refl), tt))),
       ),
-      tt,
+      (
+        (
+          moment-read is by-day of-24 _ (λ k h. refl),
+          (moment-read is by-day of-12 _ (λ k h. refl), (moment-read is by-day of-12 _ (λ k h. refl), (moment-read is by-day by-second _ (λ k h. refl), tt))),
+        ),
+        (
+          (
+            moment-read is by-week of-24 _ (λ k h. refl),
+            (moment-read is by-week of-12 _ (λ k h. refl), (moment-read is by-week of-12 _ (λ k h. refl), (moment-read is by-week by-second _ (λ k h. refl), tt))),
+          ),
+          tt,
+        ),
+      ),
     ),
   ),
 )
@@ -120,8 +132,8 @@ module _ (t : List ℕ) (full : isFull t ≡ true) where
     read-back : ReadAs t (textOf t m) m
     read-back = rw (plain m n) (text-read (is-moment n))
 
-    length-within : length (textOf t m) ≤ inputLimit
-    length-within = rw (plain m n) (text-within t full (is-moment n) .1)
+    length-within : (length (textOf t m) ≤ length t + 6) × (length (textOf t m) ≤ inputLimit)
+    length-within = rw (plain m n) (text-within t full (is-moment n))
 
     -- a buffer of that length is enough
     all-written : (room : ℕ) → length (textOf t m) ≤ room → writtenTo t m room ≡ Length (length (textOf t m))
@@ -152,7 +164,8 @@ momentIn (Refused why) other = other
 pub every-back : EveryBack
 every-back t m full is = record {
   written = λ before h. rw (all-written t full m is (length before) h) (refl, refl);
-  within = length-within t full m is;
+  longer = length-within t full m is .0;
+  within = length-within t full m is .1;
   same = λ n other. (
     λ same-text.
         ap (λ a. momentIn a m)

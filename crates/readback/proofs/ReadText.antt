@@ -1,6 +1,7 @@
 -- Reading back, first half: the text of a moment by a full template, and what reading it sets. Assumes nothing.
 -- `full-is`: what the test of a full template says (`Full`).
--- `text-is-utf8`, `text-within`: the text is UTF-8, and within the limit of an input.
+-- `text-is-utf8`, `text-within`: the text is UTF-8, at most six bytes longer than the template, and within the limit of
+-- an input.
 -- `text-is-read`: reading it by the template accepts it, and sets exactly what the template's pieces set.
 -- `fields-read`: what holds of what each date group sets with each time group and US holds of the fields that are read.
 use mathlib.Core.Path.{_≡_, refl}
@@ -21,7 +22,7 @@ use Rattle.template_nodes.specs.Template.{nodesOf}
 use Rattle.write_text.specs.Full.{pieces, times, areFull, isFull}
 use Rattle.write_pieces.specs.Moment.{moment}
 use Rattle.readback.proofs.MomentFacts.{IsMoment}
-use Rattle.write_pieces.specs.Pieces.{micros}
+use Rattle.write_pieces.specs.Pieces.{micros, monthName}
 use Rattle.write_text.specs.Text.{nodesText, textOf}
 use Rattle.write_text.specs.Writer.{allWritten, firstUnwritten}
 use Rattle.write_pieces.specs.declared.Moment.{Moment}
@@ -30,16 +31,19 @@ use Rattle.readback.proofs.Compatible.{together}
 use Rattle.readback.proofs.Groups.{EachFull, Grouped, grouped, pieces-below, expected-same}
 use Rattle.readback.proofs.Nodes.{good-nodes}
 use Rattle.readback.proofs.Simulation.{Ends, simulated}
-use Rattle.readback.proofs.Sound.{AllSound, sound-nodes, text-utf8, text-length}
+use Rattle.readback.proofs.Sound.{AllSound, sound-nodes}
+use Rattle.readback.proofs.Spells.{AllSpelled, extra, spelled-length, spelled-utf8, text-spelled}
 
--- each date group goes with each time group, and has one US
+-- each date group goes with each time group, and their text is at most six bytes longer than the template
 abbrev tested : List ℕ → Bool
-tested all = together all && eqb (times micros all) 1
+tested all = together all && leb (extra all) 6
 
 all-tested : EachFull (λ all. tested all ≡ true)
 unfolding times
-all-tested =
-    ((refl, (refl, (refl, (refl, tt)))), ((refl, (refl, (refl, (refl, tt)))), ((refl, (refl, (refl, (refl, tt)))), tt)))
+all-tested = (
+  (refl, (refl, (refl, (refl, tt)))),
+  ((refl, (refl, (refl, (refl, tt)))), ((refl, (refl, (refl, (refl, tt)))), ((refl, (refl, (refl, (refl, tt)))), ((refl, (refl, (refl, (refl, tt)))), tt)))),
+)
 
 none-expected : (m : Moment) → expected [] m ≡ noFields
 unfolding expected filledBy times
@@ -69,22 +73,28 @@ module _ (t : List ℕ) (is-full : isFull t ≡ true) where
   groups : Grouped (pieces (nodesOf t))
   groups = grouped (pieces (nodesOf t)) (pieces-below t (nodesOf t) 0 sound) (checks .full)
 
-  goes : (together (groups .all) ≡ true) × (eqb (times micros (groups .all)) 1 ≡ true)
+  goes : (together (groups .all) ≡ true) × (leb (extra (groups .all)) 6 ≡ true)
   goes = both (together (groups .all)) _ (groups .pick (λ all. tested all ≡ true) all-tested)
 
   module _ {y mo d h mi s us : ℕ} (is : IsMoment y mo d h mi s us) where
     abbrev now : Moment
     now = moment y mo d h mi s us
 
+    -- the text spells the nodes
+    spelled : AllSpelled t now (nodesOf t) (nodesText t now (nodesOf t))
+    spelled = text-spelled t now (nodesOf t) sound
+
     pub text-is-utf8 : wellFormed (textOf t now) ≡ true
     unfolding textOf
-    text-is-utf8 = text-utf8 t now (nodesOf t) sound
+    text-is-utf8 = spelled-utf8 t is (nodesOf t) (nodesText t now (nodesOf t)) spelled
 
-    -- it is at most 4 bytes longer than the template, and so within the limit of an input
-    pub text-within : (length (textOf t now) ≤ length t + 4) × (length (textOf t now) ≤ inputLimit)
+    -- it is at most six bytes longer than the template, and so within the limit of an input
+    pub text-within : (length (textOf t now) ≤ length t + 6) × (length (textOf t now) ≤ inputLimit)
     unfolding textOf
     text-within =
-        omega (arith, text-length t now (nodesOf t) sound, good-nodes t (checks .text) .1, groups .as-often micros, eqb-true (times micros (groups .all)) 1 (goes .1), checks .short)
+        let longer = spelled-length t is (nodesOf t) (nodesText t now (nodesOf t)) spelled in
+        let most = leb-true (extra (groups .all)) 6 (goes .1) in
+        omega (arith, longer, most, good-nodes t (checks .text) .1, groups .as-often micros, groups .as-often monthName, checks .short)
 
     -- what the template's pieces set is what its groups set
     by-groups : expected (pieces (nodesOf t)) now ≡ expected (groups .all) now
@@ -94,7 +104,7 @@ module _ (t : List ℕ) (is-full : isFull t ≡ true) where
     unfolding textOf readAll times
     text-is-read =
         rw (by-groups, ← none-expected now)
-        (simulated t (nodesText t now (nodesOf t)) is (groups .all) (goes .0) (nodesOf t) sound true 0 0 [] (record { within = omega arith; is = refl }) tt
+        (simulated t (nodesText t now (nodesOf t)) is (groups .all) (goes .0) (nodesOf t) true _ 0 0 [] spelled (record { within = omega arith; is = refl }) tt
         (λ q. omega (arith, groups .as-often q)))
 
     pub fields-read : (P : Fields → Type 0) → EachFull (λ all. P (expected all now)) → P (readAll t (textOf t now) (nodesOf t) .fields)

@@ -6,7 +6,7 @@ use mathlib.Core.Bool.{_||_}
 use mathlib.Core.List.{List, [], _∷_, map}
 use Prim.Native.Nat.{ℕ, _+_, _%_}
 use lib.Dec.{eqb, ltb}
-use lib.IntN.{ℤ, pos}
+use lib.IntN.{ℤ, pos, natAbs}
 use Rattle.base_notation.specs.Choice.{if_then_else_}
 use Rattle.calendar_gregorian.specs.IsoWeek.{weeks-compute}
 use Rattle.template_patterns.specs.Patterns as P
@@ -14,7 +14,7 @@ use Rattle.read_fields.specs.Fields as F
 use Rattle.read_fields.specs.declared.Fields.{Fields}
 use Rattle.write_text.specs.Full.{times}
 use Rattle.write_pieces.specs.Moment.{moment}
-use Rattle.write_pieces.specs.Pieces.{year, month, day, yearDay, weekYear, week, weekday, hour24, hour12, minute, second, daySecond, micros, marker, dottedMarker, numberOf, isMorning}
+use Rattle.write_pieces.specs.Pieces.{year, month, day, yearDay, weekYear, week, weekday, hour24, hour12, minute, second, daySecond, micros, marker, dottedMarker, monthName, shortMonth, numberOf, isMorning}
 use Rattle.write_pieces.specs.declared.Moment.{Moment}
 
 -- what goes into a field: a number whatever the moment is, or the piece's own
@@ -62,13 +62,18 @@ settings =
     ∷ marker sets F.clock to always 12
     ∷ dottedMarker sets F.pm to own
     ∷ dottedMarker sets F.clock to always 12
+    ∷ monthName sets F.mode to always P.gregorian
+    ∷ monthName sets F.mm to own
+    ∷ shortMonth sets F.mode to always P.gregorian
+    ∷ shortMonth sets F.mm to own
     ∷ []
 
--- a piece's own number: of a marker 0 for the morning and 1 for the afternoon; of a weekday 1 for Sunday, 2 for Monday;
--- else what was written
+-- a piece's own number: of a marker 0 for the morning and 1 for the afternoon; of a name its month; of a weekday 1 for
+-- Sunday, 2 for Monday; else what was written
 unfoldable pub ownOf : ℕ → Moment → ℕ
 ownOf p m =
     if eqb p marker || eqb p dottedMarker then (if isMorning m then 0 else 1)
+    else if eqb p monthName || eqb p shortMonth then natAbs (m .month)
     else if eqb p weekday then numberOf p m % 7 + 1
     else numberOf p m
 
@@ -94,3 +99,10 @@ pub worked
     ≡ pos 2 ∷ pos 3 ∷ pos 1 ∷ pos 12 ∷ pos 4 ∷ pos 5 ∷ pos 6 ∷ pos 2020 ∷ pos 4 ∷ pos 53 ∷ pos 6 ∷ pos 0 ∷ []
 unfolding expected filledBy times ownOf numberOf weeks-compute
 worked = refl
+
+-- a name sets the month and the date mode
+pub names
+    : map (F.get (expected (day ∷ monthName ∷ year ∷ []) (moment 2021 9 1 15 4 5 6))) (F.mode ∷ F.year ∷ F.mm ∷ F.dd ∷ F.hh ∷ [])
+    ≡ pos 1 ∷ pos 2021 ∷ pos 9 ∷ pos 1 ∷ pos 0 ∷ []
+unfolding expected filledBy times ownOf numberOf
+names = refl

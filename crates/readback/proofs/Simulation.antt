@@ -1,7 +1,7 @@
--- Reading the text of nodes by the nodes. Assumes nothing.
--- `simulated`: reading the text accepts it and sets what all pieces set (`Ends`). By induction on the nodes. At each
--- node the pieces done and those to come are all, the fields are those of the pieces done, and the reader is ahead
--- of the text that is left by spaces and separators alone.
+-- Reading an input that spells the nodes of a template. Assumes nothing.
+-- `simulated`: it is accepted, and sets what all pieces set (`Ends`). By induction on the nodes. At each node what is
+-- left of the input spells the nodes to come, the pieces done and those to come are all, the fields are those of the
+-- pieces done, and the reader is ahead by spaces and separators alone.
 use mathlib.Core.Path.{_≡_, _∙_, refl}
 use mathlib.Core.Bool.{Bool, true, false}
 use mathlib.Core.List.{List, [], _∷_, _++_}
@@ -25,19 +25,18 @@ use Rattle.template_nodes.specs.declared.Node.{Node}
 use Rattle.write_text.specs.Full.{pieces, times}
 use Rattle.write_pieces.specs.Moment.{moment}
 use Rattle.readback.proofs.MomentFacts.{IsMoment}
-use Rattle.template_patterns.specs.Cases.{caseOf}
-use Rattle.write_pieces.specs.Pieces.{pieceOf, pieceText}
-use Rattle.write_text.specs.Text.{nodeText, nodesText}
+use Rattle.write_pieces.specs.Pieces.{pieceOf}
 use Rattle.write_pieces.specs.declared.Moment.{Moment}
 use Rattle.readback.proofs.Settings.{expected}
 use Rattle.readback.proofs.Actions.{pattern-step}
 use Rattle.readback.proofs.Ahead.{Ahead, ahead-within, ahead-spaces, ahead-skip, ink-ahead}
 use Rattle.readback.proofs.Compatible.{together, absent, unmixed, stored, fits-next}
 use Rattle.readback.proofs.Groups.{expected-same}
-use Rattle.readback.proofs.Known.{sizeFor}
 use Rattle.readback.proofs.Literals.{Left, left-length, left-past, literal-step}
-use Rattle.readback.proofs.Nodes.{Literal}
-use Rattle.readback.proofs.Sound.{Pattern, Sound, a-literal, a-pattern, AllSound, pieces-literal, pieces-pattern, literal-text, pattern-text, pattern-written, stops, blank-text}
+use Rattle.readback.proofs.Nodes.{Alike, Literal}
+use Rattle.readback.proofs.Sound.{Pattern, bare, pieces-literal, pieces-pattern}
+use Rattle.readback.proofs.Spells.{Spells, as-literal, as-pattern, AllSpelled, stops, blank-left}
+use Rattle.readback.proofs.Texts.{SpellsPiece, spelled-written}
 
 module _ (t s : List ℕ) where
   -- a literal node, with the spaces that are skipped before it if it is the first
@@ -94,69 +93,59 @@ module _ (t s : List ℕ) {y mo d h mi sec us : ℕ} (is : IsMoment y mo d h mi 
   abbrev Finishes : List Node → Bool → ℕ → ℕ → List ℕ → Type 0
   Finishes ns first at e done = Ends (expected all now) (readFrom t s ns first (expected done now) (place (at + e) e false))
 
-  -- wherever the text of the nodes is what is left
+  -- wherever what is left spells the nodes
   abbrev Simulates : List Node → Bool → Type 0
   Simulates ns first =
-      (at e : ℕ) (done : List ℕ) → Left s at (nodesText t now ns) → Ahead e (nodesText t now ns) → Fits done (pieces ns) → Finishes ns first at e done
+      (u : List ℕ) (at e : ℕ) (done : List ℕ) → AllSpelled t now ns u → Left s at u → Ahead e u → Fits done (pieces ns) → Finishes ns first at e done
 
-  module _ (n : Node) (ns : List Node) (a : AllSound t ns) (rest : Simulates ns false) (first : Bool) (at e : ℕ) (done : List ℕ)
-      (left : Left s at (nodesText t now (n ∷ ns))) (k : Ahead e (nodesText t now (n ∷ ns))) (fits : Fits done (pieces (n ∷ ns)))
-      (more : at + e < length s) where
+  module _ (n : Node) (ns : List Node) (rest : Simulates ns false) (x u : List ℕ) (a : AllSpelled t now ns u) (first : Bool) (at e : ℕ) (done : List ℕ)
+      (left : Left s at (x ++ u)) (k : Ahead e (x ++ u)) (fits : Fits done (pieces (n ∷ ns))) (more : at + e < length s) where
     -- a literal is read, and the others after it
-    of-literal : Literal t n → Finishes (n ∷ ns) first at e done
-    unfolding nodesText
-    of-literal l =
+    of-literal : Literal t n → Alike t n x → Finishes (n ∷ ns) first at e done
+    of-literal l c =
         let f = expected done now in
-        let u = nodesText t now ns in
-        let same : nodesText t now (n ∷ ns) ≡ l .b ∷ l .others ++ u = rw (literal-text t now n l, l .text) in
-        let here : Left s at (l .b ∷ l .others ++ u) = rw same at left in
-        let before = literal-entered t s n first at e (l .b ∷ l .others ++ u) (l .no-action) here (rw same at k) in
-        let past = literal-step s t n l u at here (before .skip) (before .ahead) in
-        let left-on : Left s (at + n .len) u = rw (l .size) (left-past (l .b ∷ l .others) u here) in
+        let here : Left s at (c .b ∷ c .others ++ u) = rw (c .is) at left in
+        let before = literal-entered t s n first at e (c .b ∷ c .others ++ u) (l .no-action) here (rw (c .is) at k) in
+        let past = literal-step s t n l c u at here (before .skip) (before .ahead) in
+        let left-on : Left s (at + n .len) u = rw (c .size) (left-past (c .b ∷ c .others) u here) in
         rw (step t s n ns first f (place (at + e) e false) f (place (at + n .len + past .next) (past .next) false) more
         (rw (literal-read t s n (headOf ns) first f (place (at + e) e false) (l .no-action), before .is, past .is)))
-        (rest (at + n .len) (past .next) done left-on (past .ahead) (λ x. rw (pieces-literal t n ns l) at (fits x)))
+        (rest u (at + n .len) (past .next) done a left-on (past .ahead) (λ q. rw (pieces-literal t n ns l) at (fits q)))
 
-    -- a pattern is read at the text of its piece, and the others after it
-    of-pattern : Pattern n → Finishes (n ∷ ns) first at e done
-    unfolding nodesText
-    of-pattern p =
+    -- a pattern is read at what spells its piece, and the others after it
+    of-pattern : Pattern n → SpellsPiece (pieceOf (n .pattern)) now x → Finishes (n ∷ ns) first at e done
+    of-pattern p w =
         let f = expected done now in
-        let u = nodesText t now ns in
-        let x = pieceOf (n .pattern) in
-        let case = caseOf (n .pattern) in
+        let y = pieceOf (n .pattern) in
         let ps = pieces ns in
-        let text = pattern-written t now n p in
-        let level : e ≡ 0 = ink-ahead (nodeText t now n) u (text .ink) e k in
-        let here : Left s at (pieceText x case now ++ u) = rw (pattern-text t now n p) at left in
-        let size : length (pieceText x case now) ≡ sizeFor x = rw (pattern-text t now n p) at (text .long) in
-        let all-fit : Fits done (x ∷ ps) = λ j. rw (pieces-pattern t n ns p) at (fits j) in
+        let level : e ≡ 0 = ink-ahead x u (spelled-written is (p .some) w .ink) e k in
+        let all-fit : Fits done (y ∷ ps) = λ j. rw (pieces-pattern t n ns p) at (fits j) in
         let small = p .reads .piece in
-        let left-on : Left s (at + sizeFor x) u = rw size at (left-past (pieceText x case now) u here) in
         rw (
           level,
           add-zero at,
-          step t s n ns first f (place at 0 false) (expected (x ∷ done) now) (place (at + sizeFor x + spaces u) (spaces u) false) (omega arith)
-              (pattern-step s is n (p .bare) t (headOf ns) first p f u at here (stops t now n (p .bare) ns a)
-              (absent all c now done x ps small all-fit) (unmixed all c now done x ps small all-fit) ∙ rw (stored all c now done x ps small all-fit)),
+          step t s n ns first f (place at 0 false) (expected (y ∷ done) now) (place (at + length x + spaces u) (spaces u) false) (omega arith)
+              (pattern-step s is n t (headOf ns) first p f x u at w left (λ to. stops t is n (bare p to) ns u a)
+              (absent all c now done y ps small all-fit) (unmixed all c now done y ps small all-fit) ∙ rw (stored all c now done y ps small all-fit)),
         )
-        (rest (at + sizeFor x) (spaces u) (x ∷ done) left-on (ahead-spaces u) (fits-next all c now done x ps small all-fit))
+        (rest u (at + length x) (spaces u) (y ∷ done) a (left-past x u left) (ahead-spaces u) (fits-next all c now done y ps small all-fit))
 
   -- where the input ends, no pattern is left
-  ended : (ns : List Node) (a : AllSound t ns) (first : Bool) (at e : ℕ) (done : List ℕ) → Left s at (nodesText t now ns) → Ahead e (nodesText t now ns)
+  ended : (ns : List Node) (first : Bool) (u : List ℕ) (at e : ℕ) (done : List ℕ) → AllSpelled t now ns u → Left s at u → Ahead e u
       → Fits done (pieces ns) → length s ≤ at + e → Finishes ns first at e done
-  ended ns a first at e done left k fits h =
-      let u = nodesText t now ns in
+  ended ns first u at e done a left k fits h =
       let whole : e ≡ length u = omega (arith, ahead-within e u k, left-length left) in
-      let none : pieces ns ≡ [] = blank-text t now ns a (rw whole at k) in
+      let none : pieces ns ≡ [] = blank-left t is ns u a (rw whole at k) in
       rw (at-end t s ns first (expected done now) (place (at + e) e false) h) (finished done (place (at + e) e false) (λ q. rw none at (fits q)))
 
-  pub simulated : (ns : List Node) → AllSound t ns → (first : Bool) → Simulates ns first
+  pub simulated : (ns : List Node) (first : Bool) → Simulates ns first
   unfolding readFrom pieces
-  simulated [] a first at e done left k fits = finished done (place (at + e) e false) fits
-  simulated (n ∷ ns) a first at e done left k fits = by (a .0) (ltb (at + e) (length s)) refl (simulated ns (a .1) false)
+  simulated [] first u at e done a left k fits = finished done (place (at + e) e false) fits
+  simulated (n ∷ ns) first u at e done a left k fits = by (a .first) (ltb (at + e) (length s)) refl (simulated ns false)
     where
-      by : Sound t n → (w : Bool) → ltb (at + e) (length s) ≡ w → Simulates ns false → Finishes (n ∷ ns) first at e done
-      by x false w rest = ended (n ∷ ns) a first at e done left k fits (ltb-false _ _ w)
-      by (a-literal l) true w rest = of-literal n ns (a .1) rest first at e done left k fits (ltb-true _ _ w) l
-      by (a-pattern p) true w rest = of-pattern n ns (a .1) rest first at e done left k fits (ltb-true _ _ w) p
+      by : Spells t now n (a .part) → (w : Bool) → ltb (at + e) (length s) ≡ w → Simulates ns false → Finishes (n ∷ ns) first at e done
+      by y false w rest = ended (n ∷ ns) first u at e done a left k fits (ltb-false _ _ w)
+      by (as-literal l c) true w rest =
+          of-literal n ns rest (a .part) (a .rest) (a .others) first at e done (rw (a .is) at left) (rw (a .is) at k) fits (ltb-true _ _ w) l c
+      by (as-pattern p y) true w rest =
+          of-pattern n ns rest (a .part) (a .rest) (a .others) first at e done (rw (a .is) at left) (rw (a .is) at k) fits (ltb-true _ _ w) p y

@@ -1,18 +1,22 @@
--- What reading needs of a word that was written, by its folded bytes. Assumes nothing.
--- `Written`: what holds of the text of a piece, by the piece's size.
--- `ascii-first`: an ASCII byte before a text in UTF-8 leaves it so.
--- `Spelled`: u is the word w in some case; w is ASCII in small letters and begins with a letter.
--- `spelled-written`: such a text is `Written`. `spelled-stops`: it begins with no digit.
--- `spelled-read`: it is found in a list that has its word, whatever follows it.
-use mathlib.Core.Path.{_≡_, _∙_, sym, ap}
-use mathlib.Core.Bool.{Bool, true, false, _&&_, false≢true}
+-- Words that are read as they were written, in whatever case, from any list. Assumes nothing.
+-- `Written`: what holds of the text of every piece. `ascii-first`: an ASCII byte before a text in UTF-8 leaves it so.
+-- `wordOf`: a word of a list in small letters. `differs`: two words differ at a place that both have.
+-- `Fit`: a word of a list is ASCII, begins with a letter, and differs so from each word before it; `fit`, `is-fit`: the
+-- same as a test.
+-- Of what has the folded bytes of such a word:
+-- `word-written`, `word-stops`, `word-size`: it is `Written`, begins with no digit, and is as short as its list's words.
+-- `word-read`: it is found in the list, whatever follows it; no word before it begins it or is begun by it.
+use mathlib.Core.Path.{_≡_, _∙_, refl, sym, ap}
+use mathlib.Core.Bool.{Bool, true, false, not, _&&_, _||_, false≢true}
 use mathlib.Core.List.{List, [], _∷_, _++_, map, map-append}
-use Prim.Native.Nat.{ℕ, _+_, _-_, _≤_}
+use Prim.Native.Nat.{ℕ, zero, suc, _+_, _-_, _≤_}
+use native.Mathlib.Nat.{add-zero, add-suc, suc-add, zero-add}
 use native.Mathlib.Omega.{arith}
-use borrow.Author.Tests.{leb-true}
-use lib.Dec.{leb}
-use lib.ListN.{length, take, drop, length-map}
-use lib.Seq.{take-append-add}
+use borrow.Author.Tests.{eq-eqb, leb-true}
+use lib.Dec.{eqb, leb}
+use lib.ListN.{length, take, drop, getD, length-map}
+use lib.Seq.{drop-drop, getD-drop, take-append-add}
+use Rattle.base_notation.specs.Text.{byteAt}
 use Rattle.base_notation.proofs.Cases.{both}
 use Rattle.base_chars.specs.Class.{letter, isLetter, classOf}
 use Rattle.base_chars.specs.Fold.{folded}
@@ -23,16 +27,16 @@ use Rattle.base_chars.proofs.Folds.{fold-up, fold-class}
 use Rattle.base_chars.proofs.Ranges.{inside}
 use Rattle.base_chars.proofs.WellFormed.{ascii-run, empty-text}
 use Rattle.base_strtol.specs.Runs.{leading, digits}
-use Rattle.template_patterns.specs.Words.{wordsOf, longest}
+use Rattle.template_patterns.specs.Search.{matchesAt}
+use Rattle.template_patterns.specs.Words.{wordsOf, smallWords, longest}
 use Rattle.template_patterns.specs.declared.tables.WordList.{WordList}
-use Rattle.read_words.specs.FoldOnce.{beginning, wordIn}
+use Rattle.read_words.specs.FoldOnce.{beginning, firstIn, wordIn}
 use Rattle.read_words.specs.Spelling.{wordAt}
-use Rattle.read_words.specs.declared.spelling.Word.{Word}
+use Rattle.read_words.specs.declared.spelling.Word.the-variants.{At}
 use Rattle.read_words.proofs.FoldOnce.{fold-once}
 use Rattle.readback.proofs.Ahead.{inked}
 
-pub record Written (size : ℕ) (u : List ℕ) : Type 0 where
-  pub long : length u ≡ size
+pub record Written (u : List ℕ) : Type 0 where
   pub text : wellFormed u ≡ true
   pub ink : inked u ≡ true
 
@@ -49,10 +53,69 @@ abbrev lettered : List ℕ → Bool
 lettered [] = false
 lettered (b ∷ u) = isLetter b
 
-pub record Spelled (size : ℕ) (w u : List ℕ) : Type 0 where
-  pub same : map folded u ≡ w
-  pub long : length w ≡ size
-  pub word : lettered w && allAscii w ≡ true
+abbrev pub differs : List ℕ → List ℕ → Bool
+differs [] w = false
+differs (a ∷ v) [] = false
+differs (a ∷ v) (b ∷ w) = not (eqb b a) || differs v w
+
+-- each of the first k words differs from w
+abbrev apartBefore : List (List ℕ) → ℕ → List ℕ → Bool
+apartBefore [] k w = false
+apartBefore (v ∷ ws) zero w = true
+apartBefore (v ∷ ws) (suc k) w = differs v w && apartBefore ws k w
+
+abbrev pub wordOf : WordList → ℕ → List ℕ
+wordOf list k = getD (smallWords list) k []
+
+pub record Fit (list : WordList) (k : ℕ) : Type 0 where
+  pub begins : lettered (wordOf list k) ≡ true
+  pub ascii : allAscii (wordOf list k) ≡ true
+  pub short : length (wordOf list k) ≤ longest (wordsOf list)
+  pub apart : apartBefore (smallWords list) k (wordOf list k) ≡ true
+
+-- the same as a test
+abbrev pub fit : WordList → ℕ → Bool
+fit list k =
+    let w = wordOf list k in
+    lettered w && (allAscii w && (leb (length w) (longest (wordsOf list)) && apartBefore (smallWords list) k w))
+
+pub is-fit : (list : WordList) (k : ℕ) → fit list k ≡ true → Fit list k
+is-fit list k e =
+    let w = wordOf list k in
+    let first = both (lettered w) _ e in
+    let second = both (allAscii w) _ (first .1) in
+    let third = both (leb (length w) (longest (wordsOf list))) _ (second .1) in
+    record { begins = first .0; ascii = second .0; short = leb-true _ _ (third .0); apart = third .1 }
+
+-- the search in a text t
+module _ (t : List ℕ) where
+  byte-here : (at : ℕ) {b : ℕ} {u : List ℕ} → drop at t ≡ b ∷ u → byteAt t at ≡ b
+  byte-here at {b} e = let first : byteAt t (at + 0) ≡ b = rw (← getD-drop at t 0 0, e) in rw (add-zero at) at first
+
+  rest-here : (at : ℕ) {b : ℕ} {u : List ℕ} → drop at t ≡ b ∷ u → drop (at + 1) t ≡ u
+  rest-here at e = rw (← drop-drop 1 at t, e)
+
+  matched : (w rest : List ℕ) (at : ℕ) → drop at t ≡ w ++ rest → matchesAt w t at ≡ true
+  matched [] rest at e = refl
+  matched (b ∷ w) rest at e = rw (byte-here at e, eq-eqb b b refl) (matched w rest (at + 1) (rest-here at e))
+
+  unmatched : (v w rest : List ℕ) (at : ℕ) → differs v w ≡ true → drop at t ≡ w ++ rest → matchesAt v t at ≡ false
+  unmatched [] w rest at d e = absurd (false≢true d)
+  unmatched (a ∷ v) [] rest at d e = absurd (false≢true d)
+  unmatched (a ∷ v) (b ∷ w) rest at d e = rw (byte-here at e) (by (eqb b a) d (λ later. unmatched v w rest (at + 1) later (rest-here at e)))
+    where
+      by : (same : Bool) → (not same || differs v w) ≡ true → (differs v w ≡ true → matchesAt v t (at + 1) ≡ false)
+          → (same && matchesAt v t (at + 1)) ≡ false
+      by true d further = further d
+      by false d further = refl
+
+  first-found : (ws : List (List ℕ)) (i k : ℕ) (rest : List ℕ) → apartBefore ws k (getD ws k []) ≡ true → t ≡ getD ws k [] ++ rest
+      → firstIn i ws t ≡ At (i + k) (length (getD ws k []))
+  first-found [] i k rest a e = absurd (false≢true a)
+  first-found (v ∷ ws) i zero rest a e = rw (matched v rest 0 e, add-zero i)
+  first-found (v ∷ ws) i (suc k) rest a e =
+      let tests = both (differs v (getD ws k [])) _ a in
+      rw (unmatched v (getD ws k []) rest 0 (tests .0) e, add-suc i k, ← suc-add i k) (first-found ws (suc i) k rest (tests .1) e)
 
 -- bytes that are ASCII once they are folded were ASCII before
 ascii-text : (u : List ℕ) → allAscii (map folded u) ≡ true → wellFormed u ≡ true
@@ -74,31 +137,36 @@ unfolding leading
 letter-stops [] v e = absurd (false≢true e)
 letter-stops (b ∷ u) v e = rw (first-letter b e)
 
-module _ {size : ℕ} {w u : List ℕ} (is : Spelled size w u) where
-  tests : (lettered (map folded u) ≡ true) × (allAscii (map folded u) ≡ true)
-  tests = rw (is .same) (both (lettered w) _ (is .word))
+-- u has the folded bytes of the word k of a list
+module _ {list : WordList} {k : ℕ} (ok : Fit list k) (u : List ℕ) (same : map folded u ≡ wordOf list k) where
+  pub word-written : Written u
+  word-written = record { text = ascii-text u (rw same (ok .ascii)); ink = letter-inked u (rw same (ok .begins)) }
 
-  size-same : length u ≡ size
-  size-same = sym (length-map u folded) ∙ ap length (is .same) ∙ is .long
+  pub word-stops : (v : List ℕ) → digits (u ++ v) ≡ 0
+  word-stops v = letter-stops u v (rw same (ok .begins))
 
-  pub spelled-written : Written size u
-  spelled-written = record { long = size-same; text = ascii-text u (tests .1); ink = letter-inked u (tests .0) }
+  size : length (wordOf list k) ≡ length u
+  size = ap length (sym same) ∙ length-map u folded
 
-  pub spelled-stops : (v : List ℕ) → digits (u ++ v) ≡ 0
-  spelled-stops v = letter-stops u v (tests .0)
+  pub word-size : length u ≤ longest (wordsOf list)
+  word-size = omega (arith, size, ok .short)
 
-  module _ (s v : List ℕ) (at : ℕ) (here : drop at s ≡ u ++ v) (list : WordList) (fits : size ≤ longest (wordsOf list)) where
+  module _ (s v : List ℕ) (at : ℕ) (here : drop at s ≡ u ++ v) where
     -- what a search gets: the word and some of what follows it
     abbrev more : ℕ
     more = longest (wordsOf list) - length u
 
     taken : take (longest (wordsOf list)) (u ++ v) ≡ u ++ take more v
     taken =
-        let enough : longest (wordsOf list) ≡ length u + more = omega (arith, size-same) in
+        let enough : longest (wordsOf list) ≡ length u + more = omega (arith, word-size) in
         ap (λ (n : ℕ). take n (u ++ v)) enough ∙ take-append-add u v more
 
-    begun : beginning (longest (wordsOf list)) s at ≡ w ++ map folded (take more v)
-    begun = rw (here, taken) (map-append folded u (take more v) ∙ rw (is .same))
+    begun : beginning (longest (wordsOf list)) s at ≡ wordOf list k ++ map folded (take more v)
+    begun = rw (here, taken) (map-append folded u (take more v) ∙ rw same)
 
-    pub spelled-read : (r : Word) → ((rest : List ℕ) → wordIn list (w ++ rest) ≡ r) → wordAt list s at ≡ r
-    spelled-read r found = sym (fold-once .same list s at) ∙ ap (wordIn list) begun ∙ found (map folded (take more v))
+    pub word-read : wordAt list s at ≡ At k (length u)
+    unfolding wordIn
+    word-read =
+        sym (fold-once .same list s at)
+        ∙ first-found _ (smallWords list) 0 k (map folded (take more v)) (ok .apart) begun
+        ∙ rw (zero-add k, size)

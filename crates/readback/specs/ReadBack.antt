@@ -1,10 +1,14 @@
 -- Reading back: what it is for a text to be read as a moment, and what is promised of every full template and moment.
-use mathlib.Core.Path.{_≡_}
+use mathlib.Core.Path.{_≡_, refl}
 use mathlib.Core.Bool.{true}
 use mathlib.Core.List.{List, _++_}
-use Prim.Native.Nat.{ℕ, _≤_}
+use Prim.Native.Nat.{ℕ, _+_, _≤_}
 use lib.IntN.{ℤ, pos, natAbs}
 use lib.ListN.{length, drop}
+use Rattle.base_notation.specs.Text.{utf8}
+use Rattle.base_strtol.specs.Decimal.{decimal}
+use Rattle.template_nodes.specs.Examples.{nodes-compute}
+use Rattle.template_patterns.specs.Cases.{caseOf}
 use Rattle.moment_instants.specs.ByTemplate.{timestampOf, dateOf}
 use Rattle.moment_instants.specs.Plain.{daysSince1970, microsSince1970}
 use Rattle.moment_instants.specs.declared.epoch.Day.the-variants.{Number}
@@ -14,8 +18,9 @@ use Rattle.moment_parts.specs.declared.Answer.the-variants.{Moment as Accepted}
 use Rattle.moment_time.specs.declared.Offset.the-variants.{Absent}
 use Rattle.moment_parts.specs.declared.Parts.{Parts}
 use Rattle.write_text.specs.Full.{isFull}
-use Rattle.write_pieces.specs.Moment.{isMoment}
-use Rattle.write_text.specs.Text.{textOf}
+use Rattle.write_pieces.specs.Moment.{isMoment, moment}
+use Rattle.write_pieces.specs.Pieces.{numberOf, pieceOf, pieceText}
+use Rattle.write_text.specs.Text.{nodeText, nodesText, textOf}
 use Rattle.write_text.specs.Writer.{writtenTo, bufferAfter}
 use Rattle.write_pieces.specs.declared.Moment.{Moment}
 use Rattle.write_text.specs.declared.Written.{Written}
@@ -57,7 +62,9 @@ pub record Back (t : List ℕ) (m : Moment) : Type 0 where
   pub written : (before : List ℕ) → length (textOf t m) ≤ length before
       → (writtenTo t m (length before) ≡ Length (length (textOf t m)))
       × (bufferAfter (writtenTo t m (length before)) (textOf t m) before ≡ textOf t m ++ drop (length (textOf t m)) before)
-  -- the text is within the limit of an input
+  -- the text is at most six bytes longer than the template
+  pub longer : length (textOf t m) ≤ length t + 6
+  -- and within the limit of an input
   pub within : length (textOf t m) ≤ inputLimit
   -- another moment has the same text exactly where it is the same moment
   pub same : (n : Moment) → isMoment n ≡ true → (textOf t m ≡ textOf t n → m ≡ n) × (m ≡ n → textOf t m ≡ textOf t n)
@@ -85,3 +92,9 @@ pub record WroteAndRead (t : List ℕ) (m : Moment) (before after : List ℕ) (r
   pub back : isFull t ≡ true → isMoment m ≡ true → length (textOf t m) ≤ length before
       → (r ≡ Read (length (textOf t m)) (Accepted (partsIn m)) (Micros (microsOf m)) (Number (daysOf m)))
       × (after ≡ textOf t m ++ drop (length (textOf t m)) before) × Back t m
+
+-- six bytes are reached: 20 of the template make 26 in September
+pub worked
+    : (length (utf8 "YYYYFMMonthDDSSSSSUS") ≡ 20) × (length (textOf (utf8 "YYYYFMMonthDDSSSSSUS") (moment 2024 9 5 0 0 1 7)) ≡ 26)
+unfolding textOf nodesText nodeText pieceOf caseOf pieceText numberOf decimal nodes-compute
+worked = (refl, refl)

@@ -1,5 +1,6 @@
 -- The letters and dots of a marker, put into a buffer one after the other. Assumes nothing.
 -- `marker-size`: a marker has two bytes, a dotted one four. `marker-some`: it has two or more.
+-- `half`: its first letter, that of the half of the day.
 -- `plain-put`, `dotted-put`: its letters, without and with dots, put from a place on are its text put there.
 use mathlib.Core.Path.{_≡_, refl}
 use mathlib.Core.Bool.{Bool, true, false}
@@ -13,10 +14,10 @@ use lib.Seq.{sets}
 use Rattle.base_notation.specs.Choice.{if_then_else_}
 use Rattle.template_patterns.specs.declared.Case.{Case}
 use Rattle.template_patterns.specs.declared.Case.the-variants.{Capitals, Small, Title}
-use Rattle.write_pieces.specs.Pieces.{letterIn, markerText}
+use Rattle.write_pieces.specs.Words.{letterIn, markerText}
 
 -- a dot is the same in every case
-dot : (case : Case) → letterIn case (code ".") ≡ code "."
+dot : (case : Case) → letterIn case false (code ".") ≡ code "."
 dot Capitals = refl
 dot Small = refl
 dot Title = refl
@@ -34,10 +35,10 @@ module _ (case : Case) where
 
   -- the letter of the half of the day
   abbrev pub half : Bool → ℕ
-  half morning = letterIn case (if morning then code "A" else code "P")
+  half morning = letterIn case true (if morning then code "A" else code "P")
 
   abbrev m : ℕ
-  m = letterIn case (code "M")
+  m = letterIn case false (code "M")
 
   module _ (l : List ℕ) (at : ℕ) where
     next : at + 1 ≡ suc at

@@ -7,6 +7,7 @@
 -- `cast`, `value`: such a number may be cast to a u32, and keeps its value.
 -- `last-number`: the number of a piece that is none of the first twelve is the microsecond.
 -- `morning`: the code's test of the hour is the definition's.
+-- `named-month`: the month that the code casts to a u32 is the moment's, 1 to 12.
 use mathlib.Core.Path.{_≡_, _∙_, refl, ap}
 use mathlib.Core.Bool.{Bool, true, not}
 use Prim.Native.Nat.{ℕ, zero, suc, _-_, _<_, _≤_, _^_}
@@ -212,3 +213,10 @@ last-number p m (((((((((((((u, not-1), not-2), not-3), not-4), not-5), not-6), 
 -- the test of the hour
 pub morning : (m : Moment) → isMoment m ≡ true → ltZ (read (m .hour)) (pos 12) ≡ isMorning m
 morning m e = rw (read-plain (numbers m e .hour) w32 tt)
+
+-- the month by which its name is chosen
+pub named-month : (m : Moment) → isMoment m ≡ true
+    → let month = natAbs (read (m .month)) in (month ≡ natAbs (m .month)) × (1 ≤ month) × (month ≤ 12)
+named-month m e =
+    let known = numbers m e in
+    rw (value (known .month) w32 tt) (refl, known .date .month-from, known .date .month-to)

@@ -1,5 +1,6 @@
 -- Texts put into a buffer one after the other, and digits put from the last on. Assumes nothing.
 -- `put-length`: a text that is put leaves the buffer's length. `put-nothing`: to put no text changes nothing.
+-- `put-same`: where a text is put, any text that is the same is put.
 -- `put-after`: two texts, one put after the other, are put as one.
 -- `next-byte`, `no-byte`: what is left of a text is put by its next byte and then the rest; at its end nothing is left.
 -- `one-byte`: a text of one byte is put by that byte.
@@ -22,6 +23,9 @@ put-length {before} {at} {text} p = ap length (p .is) ∙ length-sets before at 
 
 pub put-nothing : (l : List ℕ) (at : ℕ) → Put l at [] l at
 put-nothing l at = record { is = refl; next = omega arith }
+
+pub put-same : {before : List ℕ} {at : ℕ} {text same after : List ℕ} {r : ℕ} → text ≡ same → Put before at text after r → Put before at same after r
+put-same e p = rw e at p
 
 -- a text put after another: the two as one
 pub put-after : (l : List ℕ) (at : ℕ) (xs ys : List ℕ) → sets (sets l at xs) (at + length xs) ys ≡ sets l at (xs ++ ys)

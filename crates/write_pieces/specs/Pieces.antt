@@ -1,5 +1,5 @@
--- What the writer writes for a pattern: a number of fixed width, or a marker of the half of the day in the pattern's
--- case.
+-- What the writer writes for a pattern: a number of fixed width; or a marker of the half of the day or the name of a
+-- month, in the pattern's case.
 use mathlib.Core.Path.{_≡_, refl}
 use mathlib.Core.Bool.{Bool, true, false}
 use mathlib.Core.List.{List, [], _∷_, map}
@@ -11,7 +11,6 @@ use lib.ListN.{getD}
 use Rattle.calendar_gregorian.specs.IsoWeek.{weeks-compute, isoWeek, isoWeekday, isoYear}
 use Rattle.base_notation.specs.Choice.{if_then_else_}
 use Rattle.base_notation.specs.Text.{utf8}
-use Rattle.base_chars.specs.Fold.{folded}
 use Rattle.calendar_gregorian.specs.Gregorian.{dayNumber, dayOfYear}
 use Rattle.template_patterns.specs.Patterns.{nameOf}
 use Rattle.template_patterns.specs.declared.Case.{Case}
@@ -19,10 +18,11 @@ use Rattle.template_patterns.specs.declared.Case.the-variants.{Capitals, Small,
 use Rattle.read_fields.specs.Tasks.{among}
 use Rattle.base_strtol.specs.Decimal.{decimal}
 use Rattle.write_pieces.specs.Moment.{moment}
+use Rattle.write_pieces.specs.Words.{markerText, monthText}
 use Rattle.write_pieces.specs.declared.Moment.{Moment}
 
 -- the pieces: none; year, month and day; day of the year; ISO year, week and weekday; hour of 24 and of 12, minute,
--- second; second of the day; microsecond; markers without and with dots
+-- second; second of the day; microsecond; markers without and with dots; names of months, full and of three letters
 abbrev pub none : ℕ
 none = 0
 
@@ -71,6 +71,12 @@ marker = 14
 abbrev pub dottedMarker : ℕ
 dottedMarker = 15
 
+abbrev pub monthName : ℕ
+monthName = 16
+
+abbrev pub shortMonth : ℕ
+shortMonth = 17
+
 -- a row of the table below: names of patterns, and their piece
 pub record Row : Type 0 where
   pub names : List (List ℕ)
@@ -98,6 +104,8 @@ rows =
     ∷ ("US" ∷ [] ⇒ micros)
     ∷ ("AM" ∷ "PM" ∷ [] ⇒ marker)
     ∷ ("A.M." ∷ "P.M." ∷ [] ⇒ dottedMarker)
+    ∷ ("MONTH" ∷ [] ⇒ monthName)
+    ∷ ("MON" ∷ [] ⇒ shortMonth)
     ∷ []
 
 -- the piece of the first row that has the name
@@ -113,9 +121,9 @@ pieceOf k = pieceNamed (nameOf k) rows
 abbrev pub widthOf : ℕ → ℕ
 widthOf p = getD (0 ∷ 4 ∷ 2 ∷ 2 ∷ 3 ∷ 4 ∷ 2 ∷ 1 ∷ 2 ∷ 2 ∷ 2 ∷ 2 ∷ 5 ∷ 6 ∷ []) p 0
 
--- the bytes of a piece: the digits of a number, two or four of a marker
-abbrev pub pieceLength : ℕ → ℕ
-pieceLength p = getD (0 ∷ 4 ∷ 2 ∷ 2 ∷ 3 ∷ 4 ∷ 2 ∷ 1 ∷ 2 ∷ 2 ∷ 2 ∷ 2 ∷ 5 ∷ 6 ∷ 2 ∷ 4 ∷ []) p 0
+-- the prefix that a piece's pattern has, by its bit: FM on the full name of a month, none on any other
+abbrev pub prefixOf : ℕ → ℕ
+prefixOf p = if eqb p monthName then 1 else 0
 
 -- the hour of the 12-hour clock: 12 for 0 and 12
 abbrev pub of12 : ℕ → ℕ
@@ -144,18 +152,6 @@ numberOf p m =
     else if eqb p daySecond then h * 3600 + mi * 60 + s
     else natAbs (m .micros)
 
--- a byte of a marker in capitals, as it is written in a case; no marker's pattern is in title case
-abbrev pub letterIn : Case → ℕ → ℕ
-letterIn Small b = folded b
-letterIn Capitals b = b
-letterIn Title b = b
-
--- a marker in a case, dotted where the pattern is
-abbrev pub markerText : Case → Bool → Bool → List ℕ
-markerText case dotted morning =
-    map (letterIn case)
-    (if dotted then (if morning then utf8 "A.M." else utf8 "P.M.") else (if morning then utf8 "AM" else utf8 "PM"))
-
 -- the moment is before noon
 abbrev pub isMorning : Moment → Bool
 isMorning m = ltb (natAbs (m .hour)) 12
@@ -165,12 +161,14 @@ unfoldable pub pieceText : ℕ → Case → Moment → List ℕ
 pieceText p case m =
     if eqb p marker then markerText case false (isMorning m)
     else if eqb p dottedMarker then markerText case true (isMorning m)
+    else if eqb p monthName then monthText case true (natAbs (m .month))
+    else if eqb p shortMonth then monthText case false (natAbs (m .month))
     else decimal (widthOf p) (numberOf p m)
 
--- yyyy is the year; FF1 is not written
-pub known : (pieceOf 108 ≡ year) × (pieceOf 14 ≡ none)
+-- yyyy is the year, and Month and mon are names of months; FF1 is not written
+pub known : (pieceOf 108 ≡ year) × (pieceOf 37 ≡ monthName) × (pieceOf 91 ≡ shortMonth) × (pieceOf 14 ≡ none)
 unfolding pieceOf
-known = (refl, refl)
+known = (refl, refl, refl, refl)
 
 -- January 1 of 2021 is day 5 of week 53 of 2020; midnight is 12 AM
 pub worked
@@ -179,9 +177,9 @@ pub worked
 unfolding pieceText numberOf decimal weeks-compute
 worked = (refl, refl, refl, refl)
 
--- noon is pm, the hour before it a.m., the last hour of the day P.M.; in title case a marker would have capitals
+-- noon is pm, the hour before it a.m.; the month is named in the pattern's case
 pub cased
     : (pieceText marker Small (moment 2021 1 1 12 0 0 0) ≡ utf8 "pm") × (pieceText dottedMarker Small (moment 2021 1 1 11 0 0 0) ≡ utf8 "a.m.")
-    × (pieceText dottedMarker Capitals (moment 2021 1 1 23 0 0 0) ≡ utf8 "P.M.") × (pieceText marker Title (moment 2021 1 1 0 0 0 0) ≡ utf8 "AM")
+    × (pieceText monthName Title (moment 2024 9 5 0 0 0 0) ≡ utf8 "September") × (pieceText shortMonth Capitals (moment 2024 9 5 0 0 0 0) ≡ utf8 "SEP")
 unfolding pieceText
 cased = (refl, refl, refl, refl)

@@ -8,7 +8,7 @@ use Rattle.base_notation.specs.Text.{utf8}
 use Rattle.template_patterns.specs.Search.{countFrom}
 use Rattle.write_pieces.specs.Pieces.{pieceOf}
 
--- a piece by its letter: A for 1 to O for 15, @ for none
+-- a piece by its letter: A for 1 to Q for 17, @ for none
 abbrev pub letterOf : ℕ → ℕ
 letterOf piece = code "@" + piece
 

@@ -1,19 +1,22 @@
-// What is written for a pattern at a moment: a number of fixed width, or a marker of the half of the day in the
-// pattern's case.
+// What is written for a pattern at a moment: a number of fixed width; or a marker of the half of the day or the name of
+// a month, in the pattern's case.
 mod numbers;
 mod output;
+mod words;
 
 ghost use mathlib.Core.Path.{_≡_};
 ghost use mathlib.Core.Bool.{true};
 ghost use Prim.Native.Nat.{_+_, _<_, _≤_};
 ghost use lib.ListN.{length};
+ghost use Rattle.template_patterns.specs.declared.Case.{Case};
 ghost use Rattle.write_pieces.specs.Moment.{isMoment, sevenNumbers};
 ghost use Rattle.write_pieces.specs.Output.{Put};
-ghost use Rattle.write_pieces.specs.Pieces.{letterIn, markerText, pieceLength, pieceOf, pieceText};
+ghost use Rattle.write_pieces.specs.Pieces.{pieceOf, pieceText, prefixOf};
 ghost use Rattle.write_pieces.specs.Tables.{pieceTable};
 pub use numbers::is_moment;
 pub use output::put_bytes;
 use template_patterns::Case;
+use template_patterns::SUFFIX_FM;
 
 // A moment: seven numbers.
 pub struct Moment {
@@ -82,14 +85,18 @@ pub const MARKER: u8 = 14;
 
 pub const DOTTED_MARKER: u8 = 15;
 
-// The piece of each pattern in table order, by its letter: A for 1 to O for 15, @ for none.
+pub const MONTH_NAME: u8 = 16;
+
+pub const SHORT_MONTH: u8 = 17;
+
+// The piece of each pattern in table order, by its letter: A for 1 to Q for 17, @ for none.
 const PIECES: [u8; 112] = *b"\
     @O@N@@@@DC@@@@@@\
     @@@@@HII@GFE@@@@\
-    JB@@@@@@ON@@L@K@\
+    JBPQ@PQ@ON@@L@K@\
     @@M@@@A@@@@O@N@@\
     @@DC@@@@@@@@@HII\
-    @GFE@@@@JB@@@@ON\
+    @GFE@@@@JBPQ@@ON\
     @@L@K@@@M@@@A@@@";
 
 // The table is laid out once and lent to what writes by it.
@@ -110,54 +117,45 @@ pub fn piece_of(table: &[u8; 112], pattern: u8) -> u8
     table[pattern as usize] - b'@'
 }
 
-// How many bytes each piece has.
+// The prefix that the pattern of a piece has: FM on the full name of a month, none on any other.
+pub fn prefix_of(piece: u8) -> u8
+    ensures { λ r. ⌜ r ≡ prefixOf piece ⌝ }
+{
+    if piece == MONTH_NAME {
+        return SUFFIX_FM;
+    }
+    0
+}
+
+// How many bytes each number and marker has.
 const LENGTHS: [u8; 16] = [0, 4, 2, 2, 3, 4, 2, 1, 2, 2, 2, 2, 5, 6, 2, 4];
 
-pub fn piece_length(piece: u8) -> usize
-    requires { ⌜ piece < 16 ⌝ }
-    ensures { λ r. ⌜ r ≡ pieceLength piece ⌝ }
+// The length of a piece's text at a moment, which is the same in every case.
+pub fn piece_length(piece: u8, m: Moment) -> usize
+    requires { ⌜ (piece < 18) × (isMoment m ≡ true) ⌝ }
+    ensures { λ r. ⌜ ((case : Case) → r ≡ length (pieceText piece case m)) × (r ≤ 9) ⌝ }
 {
+    if piece >= MONTH_NAME {
+        return words::month_length(piece == MONTH_NAME, m.month as u32);
+    }
     LENGTHS[piece as usize] as usize
-}
-
-// A letter of a marker, given as a capital, in the case of its pattern.
-fn letter_in(case: Case, capital: u8) -> u8
-    ensures { λ r. ⌜ r ≡ letterIn case capital ⌝ }
-{
-    match case {
-        Case::Small => base_chars::folded(capital),
-        _ => capital,
-    }
-}
-
-// A marker put into the buffer.
-fn put_marker(case: Case, dotted: bool, morning: bool, out: &mut [u8], at: usize) -> usize
-    requires { ⌜ at + length (markerText case dotted morning) ≤ length (now out) ⌝ }
-    ensures { λ r. ⌜ Put (now (out .entry)) at (markerText case dotted morning) (now (out .exit)) r ⌝ }
-{
-    let half = if morning { b'A' } else { b'P' };
-    let m = letter_in(case, b'M');
-    out[at] = letter_in(case, half);
-    if dotted {
-        out[at + 1] = b'.';
-        out[at + 2] = m;
-        out[at + 3] = b'.';
-        return at + 4;
-    }
-    out[at + 1] = m;
-    at + 2
 }
 
 // The text of a piece put into the buffer.
 pub fn put_piece(piece: u8, case: Case, m: Moment, out: &mut [u8], at: usize) -> usize
-    requires { ⌜ (piece < 16) × (isMoment m ≡ true) × (at + length (pieceText piece case m) ≤ length (now out)) ⌝ }
+    requires { ⌜ (piece < 18) × (isMoment m ≡ true) × (at + length (pieceText piece case m) ≤ length (now out)) ⌝ }
     ensures { λ r. ⌜ Put (now (out .entry)) at (pieceText piece case m) (now (out .exit)) r ⌝ }
 {
-    if piece == MARKER {
-        return put_marker(case, false, m.hour < 12, out, at);
+    if piece < MARKER {
+        return output::put_number(
+            numbers::number_of(piece, m),
+            piece_length(piece, m),
+            out,
+            at,
+        );
     }
-    if piece == DOTTED_MARKER {
-        return put_marker(case, true, m.hour < 12, out, at);
+    if piece < MONTH_NAME {
+        return words::put_marker(case, piece == DOTTED_MARKER, m.hour < 12, out, at);
     }
-    output::put_number(numbers::number_of(piece, m), piece_length(piece), out, at)
+    words::put_month(piece == MONTH_NAME, m.month as u32, case, out, at)
 }

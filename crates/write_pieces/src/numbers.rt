@@ -53,7 +53,7 @@ pub fn is_moment(m: Moment) -> bool
     in_range(0, 999999, m.micros)
 }
 
-// The number of a piece that is none of the markers.
+// The number of a piece that is one: no marker, and no name of a month.
 pub fn number_of(piece: u8, m: Moment) -> u32
     requires { ⌜ isMoment m ≡ true ⌝ }
     ensures { λ r. ⌜ r ≡ numberOf piece m ⌝ }

@@ -1,26 +1,21 @@
 -- The texts of templates, and their lengths. Assumes nothing.
 -- `action-text`, `literal-text`: the text of a node is its piece's, or its literal's.
--- `nodes-size`: the text of nodes is as long as it is measured.
+-- `action-size`: a pattern's text is as long as its piece's.
 -- `literal-size`: the length of what the template has of a literal.
 -- `literal-part`, `literal-end`: a literal is the part of the template from its start on, and ends within the template.
 -- `no-literal`: a literal of length 0 has no text.
 use mathlib.Core.Path.{_≡_, _∙_, refl, sym, ap}
-use mathlib.Core.Bool.{Bool, true, false}
 use mathlib.Core.List.{List, [], _∷_}
 use Prim.Native.Nat.{ℕ, zero, suc, _+_, _-_, _≤_}
 use native.Mathlib.Omega.{arith}
 use borrow.Author.Tests.{eq-eqb, ne-eqb}
-use lib.Dec.{eqb}
-use lib.ListN.{length, take, drop, length-append, length-drop, length-take}
+use lib.ListN.{length, take, drop, length-drop, length-take}
 use Rattle.template_patterns.specs.Cases.{caseOf}
 use Rattle.template_nodes.specs.Template.{action}
 use Rattle.template_nodes.specs.declared.Node.{Node}
 use Rattle.write_pieces.specs.Pieces.{pieceOf, pieceText}
 use Rattle.write_pieces.specs.declared.Moment.{Moment}
-use Rattle.write_pieces.proofs.Lengths.{piece-size}
-use Rattle.write_pieces.proofs.PieceTable.{piece-range}
-use Rattle.write_text.specs.Measure.{nodeLength, nodesLength}
-use Rattle.write_text.specs.Text.{literalText, nodeText, nodesText}
+use Rattle.write_text.specs.Text.{literalText, nodeText}
 
 module _ (t : List ℕ) (m : Moment) (n : Node) where
   pub action-text : n .kind ≡ action → nodeText t m n ≡ pieceText (pieceOf (n .pattern)) (caseOf (n .pattern)) m
@@ -31,13 +26,10 @@ module _ (t : List ℕ) (m : Moment) (n : Node) where
   unfolding nodeText
   literal-text e = rw (ne-eqb (n .kind) action e)
 
-  pub node-size : length (nodeText t m n) ≡ nodeLength t n
-  unfolding nodeText nodeLength
-  node-size = split (eqb (n .kind) action) refl
-    where
-      split : (b : Bool) → eqb (n .kind) action ≡ b → length (nodeText t m n) ≡ nodeLength t n
-      split true e = rw e (piece-size (caseOf (n .pattern)) m (pieceOf (n .pattern)) (piece-range (n .pattern)))
-      split false e = rw e
+  -- r is the length of a text of the piece p
+  pub action-size : n .kind ≡ action → (p : ℕ) → p ≡ pieceOf (n .pattern) → (r : ℕ) → r ≡ length (pieceText p (caseOf (n .pattern)) m)
+      → r ≡ length (nodeText t m n)
+  action-size e p is r size = rw (action-text e, ← is) size
 
 module _ (t : List ℕ) (n : Node) where
   pub literal-size : length (literalText t n) ≡ n .len - (n .len - (length t - n .start))
@@ -66,9 +58,3 @@ no-literal t n len e z = empty (literalText t n) (sym e ∙ z)
     empty : (l : List ℕ) → length l ≡ 0 → l ≡ []
     empty [] h = refl
     empty (x ∷ l) h = absurd (omega (arith, h))
-
--- the text of nodes is as long as it is measured
-pub nodes-size : (t : List ℕ) (m : Moment) (ns : List Node) → length (nodesText t m ns) ≡ nodesLength t ns
-unfolding nodesText nodesLength
-nodes-size t m [] = refl
-nodes-size t m (n ∷ ns) = length-append (nodeText t m n) (nodesText t m ns) ∙ rw (node-size t m n, nodes-size t m ns)

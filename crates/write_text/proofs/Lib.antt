@@ -4,6 +4,8 @@
 pub mod Lengths
 -- each of the eight markers writes in its own case
 pub mod OwnCase
+-- each of the six patterns of month names writes the month's
+pub mod ByName
 -- a length that is answered is the text's, and no longer than the buffer
 pub mod Room
 -- what the loops over the nodes have left

@@ -2,7 +2,7 @@
 -- `node-left`, `none-left`: as long as a loop goes on there is a node here; once it ends there is none.
 -- `unwritten-here`, `unwritten-next`, `unwritten-end`: the first unwritten pattern of what is left is that of the node
 -- here, or that of the rest; at the end there is none.
--- `length-next`, `length-end`: what is left is as long as the node here and the rest; at the end nothing is.
+-- `size-next`: what is left is as long as the node here and the rest.
 -- `room-here`, `put-next`: where there is room for what is left, there is room for the node here; once that is put, for
 -- the rest, and putting the rest puts all that was left.
 -- `text-end`: at the end no text is left.
@@ -18,7 +18,6 @@ use Rattle.template_nodes.specs.Bytes.{nodesIn}
 use Rattle.template_nodes.specs.Template.{endNode}
 use Rattle.template_nodes.specs.declared.Node.{Node}
 use Rattle.template_nodes.proofs.Encoding.{nodes-length}
-use Rattle.write_text.specs.Measure.{nodeLength, nodesLength}
 use Rattle.write_pieces.specs.Output.{Put}
 use Rattle.write_text.specs.Text.{nodeText, nodesText}
 use Rattle.write_text.specs.Writer.{allWritten, firstUnwritten, isWritten, named}
@@ -56,15 +55,11 @@ module _ (nodes : List Node) (i : ℕ) where
     unfolding firstUnwritten
     unwritten-next e = rw (one, e)
 
-    pub length-next : (t : List ℕ) → nodesLength t left ≡ nodeLength t here + nodesLength t next
-    unfolding nodesLength
-    length-next t = rw one
-
-    pub text-next : (t : List ℕ) (m : Moment) → nodesText t m left ≡ nodeText t m here ++ nodesText t m next
+    text-next : (t : List ℕ) (m : Moment) → nodesText t m left ≡ nodeText t m here ++ nodesText t m next
     unfolding nodesText
     text-next t m = rw one
 
-    size-next : (t : List ℕ) (m : Moment) → length (nodesText t m left) ≡ length (nodeText t m here) + length (nodesText t m next)
+    pub size-next : (t : List ℕ) (m : Moment) → length (nodesText t m left) ≡ length (nodeText t m here) + length (nodesText t m next)
     size-next t m = ap length (text-next t m) ∙ length-append (nodeText t m here) (nodesText t m next)
 
     -- where there is room for what is left, there is room for the node here
@@ -86,10 +81,6 @@ module _ (nodes : List Node) (i : ℕ) where
     pub unwritten-end : firstUnwritten left ≡ allWritten
     unfolding firstUnwritten
     unwritten-end = rw none
-
-    pub length-end : (t : List ℕ) → nodesLength t left ≡ 0
-    unfolding nodesLength
-    length-end t = rw none
 
     pub text-end : (t : List ℕ) (m : Moment) → nodesText t m left ≡ []
     unfolding nodesText

@@ -1,8 +1,8 @@
--- Full templates: UTF-8 within the limit, with only patterns that the writer knows, none with a prefix or suffix
--- (a dropped prefix does not count). Of these they have one date group, one time group and US, each once; order and
--- literals are free.
+-- Full templates: UTF-8 within the limit, with only patterns that the writer knows, none with a prefix or suffix but
+-- for FM on the full name of a month (a dropped prefix does not count). Of these they have one date group, one time
+-- group and US, each once; order and literals are free.
 use mathlib.Core.Path.{_≡_, refl}
-use mathlib.Core.Bool.{Bool, true, false, not, _&&_, _||_}
+use mathlib.Core.Bool.{Bool, true, false, _&&_}
 use mathlib.Core.List.{List, [], _∷_, _++_}
 use Prim.Native.Nat.{ℕ, suc}
 use lib.Dec.{eqb, leb}
@@ -15,7 +15,7 @@ use Rattle.template_patterns.specs.Search.{countFrom}
 use Rattle.template_nodes.specs.Examples.{nodes-compute}
 use Rattle.template_nodes.specs.Template.{action, nodesOf}
 use Rattle.template_nodes.specs.declared.Node.{Node}
-use Rattle.write_pieces.specs.Pieces.{year, month, day, yearDay, weekYear, week, weekday, hour24, hour12, minute, second, daySecond, micros, marker, dottedMarker, pieceOf}
+use Rattle.write_pieces.specs.Pieces.{year, month, day, yearDay, weekYear, week, weekday, hour24, hour12, minute, second, daySecond, micros, marker, dottedMarker, monthName, shortMonth, pieceOf}
 use Rattle.write_text.specs.Writer.{allWritten, firstUnwritten}
 
 -- the pieces of a template's patterns, in order
@@ -23,9 +23,15 @@ unfoldable pub pieces : List Node → List ℕ
 pieces [] = []
 pieces (n ∷ ns) = if eqb (n .kind) action then pieceOf (n .pattern) ∷ pieces ns else pieces ns
 
--- the date groups and the time groups
+-- the date groups and the time groups; a month is a number or has its name, full or short
 abbrev pub dateGroups : List (List ℕ)
-dateGroups = (year ∷ month ∷ day ∷ []) ∷ (year ∷ yearDay ∷ []) ∷ (weekYear ∷ week ∷ weekday ∷ []) ∷ []
+dateGroups =
+    (year ∷ month ∷ day ∷ [])
+    ∷ (year ∷ monthName ∷ day ∷ [])
+    ∷ (year ∷ shortMonth ∷ day ∷ [])
+    ∷ (year ∷ yearDay ∷ [])
+    ∷ (weekYear ∷ week ∷ weekday ∷ [])
+    ∷ []
 
 abbrev pub timeGroups : List (List ℕ)
 timeGroups =
@@ -46,7 +52,7 @@ sameFrom [] ps qs = true
 sameFrom (p ∷ rest) ps qs = eqb (times p ps) (times p qs) && sameFrom rest ps qs
 
 abbrev pub same : List ℕ → List ℕ → Bool
-same ps qs = sameFrom (countFrom 0 16) ps qs
+same ps qs = sameFrom (countFrom 0 18) ps qs
 
 -- one of the lists of pieces, with what else is asked for
 abbrev pub anyOf : List (List ℕ) → (List ℕ → Bool) → Bool
@@ -67,3 +73,11 @@ pub worked
     × (isFull (utf8 "US SSSSS \"ngày IW\" FM,IW ID IYYY") ≡ true) × (isFull (utf8 "FMYYYY-DDD SSSSS US") ≡ false)
 unfolding isFull areFull times pieces firstUnwritten pieceOf nodes-compute wellFormedAfter sequence
 worked = (refl, refl, refl, refl)
+
+-- so is one with the name of the month, full with FM or short; not with both, nor with a name and MM
+pub names
+    : (isFull (utf8 "DD FMMonth YYYY SSSSS US") ≡ true) × (isFull (utf8 "DDmonYYYY SSSSSUS") ≡ true)
+    × (isFull (utf8 "DD Month YYYY SSSSS US") ≡ false) × (isFull (utf8 "DD Mon FMMONTH YYYY SSSSS US") ≡ false)
+    × (isFull (utf8 "DD Mon MM YYYY SSSSS US") ≡ false)
+unfolding isFull areFull times pieces firstUnwritten pieceOf nodes-compute wellFormedAfter sequence
+names = (refl, refl, refl, refl, refl)

@@ -13,16 +13,17 @@ use Rattle.template_nodes.specs.Bytes.{nodesIn, nodesLimit}
 use Rattle.template_nodes.specs.Template.{action, nodesOf, pattern}
 use Rattle.template_nodes.specs.declared.Node.{Node}
 use Rattle.write_pieces.specs.Moment.{isMoment}
-use Rattle.write_pieces.specs.Pieces.{none, pieceOf}
+use Rattle.write_pieces.specs.Pieces.{none, pieceOf, prefixOf}
 use Rattle.write_text.specs.Text.{nodesText, textOf}
 use Rattle.write_pieces.specs.declared.Moment.{Moment}
 use Rattle.write_text.specs.declared.Unwritten.the-variants.{TooLong, NotUtf8, NotWritten, NoMoment, NoRoom}
 use Rattle.write_text.specs.declared.Written.{Written}
 use Rattle.write_text.specs.declared.Written.the-variants.{Length, Refused}
 
--- a node that the writer writes: a literal, or a pattern that it knows, without prefix or suffix
+-- a node that the writer writes: a literal, or a pattern that it knows with its piece's prefix, and no suffix
 abbrev pub isWritten : Node → Bool
-isWritten n = not (eqb (n .kind) action) || not (eqb (pieceOf (n .pattern)) none) && eqb (n .suffix) 0
+isWritten n =
+    not (eqb (n .kind) action) || not (eqb (pieceOf (n .pattern)) none) && eqb (n .suffix) (prefixOf (pieceOf (n .pattern)))
 
 -- a pattern as a refusal names it: any number past the table is no pattern
 abbrev pub named : ℕ → ℕ
@@ -43,6 +44,14 @@ pub worked
     × (firstUnwritten (pattern 0 1 200 0 ∷ pattern 1 3 14 0 ∷ []) ≡ noPattern)
 unfolding firstUnwritten pieceOf
 worked = (refl, refl, refl)
+
+-- of names of months FMMonth and Mon are written; Month, FMMon, TMMonth, FMMonthTH and FMMM are not
+pub names
+    : (firstUnwritten (pattern 2 5 37 1 ∷ pattern 7 3 38 0 ∷ []) ≡ allWritten) × (firstUnwritten (pattern 0 5 37 0 ∷ []) ≡ 37)
+    × (firstUnwritten (pattern 2 3 38 1 ∷ []) ≡ 38) × (firstUnwritten (pattern 2 5 37 16 ∷ []) ≡ 37)
+    × (firstUnwritten (pattern 2 5 37 3 ∷ []) ≡ 37) × (firstUnwritten (pattern 2 2 33 1 ∷ []) ≡ 33)
+unfolding firstUnwritten pieceOf
+names = (refl, refl, refl, refl, refl, refl)
 
 -- the answer by the first pattern that is not written, for a text and a buffer of a length
 abbrev pub writtenBy : ℕ → Moment → List ℕ → ℕ → Written

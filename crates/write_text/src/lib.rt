@@ -6,7 +6,6 @@ ghost use lib.ListN.{length};
 ghost use lib.Seq.{sets};
 ghost use Rattle.template_nodes.specs.Bytes.{nodesIn};
 ghost use Rattle.write_pieces.specs.Moment.{isMoment};
-ghost use Rattle.write_text.specs.Measure.{nodeLength, nodesLength};
 ghost use Rattle.write_pieces.specs.Output.{Put};
 ghost use Rattle.write_text.specs.Report.{unwrittenReport};
 ghost use Rattle.write_pieces.specs.Tables.{pieceTable};
@@ -25,7 +24,7 @@ use write_pieces::Moment;
 pub enum Unwritten {
     TooLong,
     NotUtf8,
-    // The pattern is not known, or it has a prefix or suffix.
+    // The pattern is not known, or it has a prefix or suffix that is not written.
     NotWritten { pattern: u8 },
     // A year outside 1 to 9999, or no such moment.
     NoMoment,
@@ -56,7 +55,7 @@ pub fn report_of(why: Unwritten) -> Report
     }
 }
 
-// Whether a node is written: a literal, or a known pattern without prefix or suffix.
+// Whether a node is written: a literal, or a known pattern with its piece's prefix and no suffix.
 fn is_written(table: &[u8; 112], n: Node) -> bool
     requires { ⌜ now table ≡ pieceTable ⌝ }
     ensures { λ r. ⌜ r ≡ isWritten n ⌝ }
@@ -64,10 +63,11 @@ fn is_written(table: &[u8; 112], n: Node) -> bool
     if n.kind != FN_ACTION {
         return true;
     }
-    if write_pieces::piece_of(table, n.pattern) == write_pieces::NONE {
+    let piece = write_pieces::piece_of(table, n.pattern);
+    if piece == write_pieces::NONE {
         return false;
     }
-    n.suffix == 0
+    n.suffix == write_pieces::prefix_of(piece)
 }
 
 // What is found where every node is written: a number past every pattern's and past that for none.
@@ -114,26 +114,26 @@ fn literal_length(t: &[u8], n: Node) -> usize
     len
 }
 
-// The length of a node's text.
-fn node_length(table: &[u8; 112], t: &[u8], n: Node) -> usize
-    requires { ⌜ now table ≡ pieceTable ⌝ }
-    ensures { λ r. ⌜ (r ≡ nodeLength (now (t .entry)) n) × (r ≤ 255) ⌝ }
+// The length of a node's text at a moment.
+fn node_length(table: &[u8; 112], t: &[u8], n: Node, m: Moment) -> usize
+    requires { ⌜ (now table ≡ pieceTable) × (isMoment m ≡ true) ⌝ }
+    ensures { λ r. ⌜ (r ≡ length (nodeText (now (t .entry)) m n)) × (r ≤ 255) ⌝ }
 {
     if n.kind == FN_ACTION {
-        return write_pieces::piece_length(write_pieces::piece_of(table, n.pattern));
+        return write_pieces::piece_length(write_pieces::piece_of(table, n.pattern), m);
     }
     literal_length(t, n)
 }
 
-// The length of the text.
-fn text_length(table: &[u8; 112], c: &[u8], t: &[u8]) -> usize
-    requires { ⌜ (now table ≡ pieceTable) × (length (now c) ≤ 1536) ⌝ }
-    ensures { λ r. ⌜ (r ≡ nodesLength (now (t .entry)) (nodesIn (now (c .entry)))) × (r ≤ 65535) ⌝ }
+// The length of the text at a moment.
+fn text_length(table: &[u8; 112], c: &[u8], t: &[u8], m: Moment) -> usize
+    requires { ⌜ (now table ≡ pieceTable) × (isMoment m ≡ true) × (length (now c) ≤ 1536) ⌝ }
+    ensures { λ r. ⌜ (r ≡ length (textIn (now (c .entry)) (now (t .entry)) m)) × (r ≤ 65535) ⌝ }
 {
     let mut total = 0;
     let mut i = 0;
     while i < c.len() / NODE {
-        total += node_length(table, t, template_nodes::node_at(c, i));
+        total += node_length(table, t, template_nodes::node_at(c, i), m);
         i += 1;
     }
     total
@@ -186,7 +186,7 @@ pub fn write_by(c: &[u8], t: &[u8], m: Moment, out: &mut [u8]) -> Written
     if !write_pieces::is_moment(m) {
         return Written::Refused(Unwritten::NoMoment);
     }
-    let needed = text_length(&table, c, t);
+    let needed = text_length(&table, c, t, m);
     if out.len() < needed {
         return Written::Refused(Unwritten::NoRoom {
             needed: needed as u32,

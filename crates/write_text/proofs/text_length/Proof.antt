@@ -1,23 +1,24 @@
 -- `write_text::text_length` meets its contract: at each turn the length so far and that of the nodes left make the
 -- whole. Assumes nothing.
-use mathlib.Core.Path.{_≡_}
+use mathlib.Core.Path.{_≡_, ap}
 use Prim.Native.Nat.{_+_, _*_, _/_, _-_, _≤_}
 use native.Mathlib.Omega.{arith}
 use borrow.Author.Needs.{needs}
 use denote.Ref.{now}
 use lib.ListN.{drop, length}
 use Rattle.template_nodes.specs.Bytes.{nodesIn}
-use Rattle.write_text.specs.Measure.{nodesLength}
-use Rattle.write_text.proofs.Turns.{node-left, none-left, length-next, length-end}
+use Rattle.write_text.specs.Text.{nodesText}
+use Rattle.write_text.specs.Writer.{textIn}
+use Rattle.write_text.proofs.Turns.{node-left, none-left, size-next, text-end}
 use Rattle.write_text.proofs.text_length.Statement.{statement}
 use Rattle.write_text.proofs.text_length.Tie as tie
 
 abbrev Inv-loop : tie.InvT-loop
-Inv-loop table c t total₀ i₀ total i =
-    (i ≤ length c / 6) × (total ≤ 255 * i) × (total + nodesLength t (drop i (nodesIn c)) ≡ nodesLength t (nodesIn c))
+Inv-loop table c t m total₀ i₀ total i =
+    (i ≤ length c / 6) × (total ≤ 255 * i) × (total + length (nodesText t m (drop i (nodesIn c))) ≡ length (textIn c t m))
 
 abbrev μ-loop : tie.MeasureT-loop
-μ-loop table c t total₀ i₀ total i = length c / 6 - i
+μ-loop table c t m total₀ i₀ total i = length c / 6 - i
 
 -- the node's length is added
 loop-again : tie.Need-loop-again Inv-loop μ-loop
@@ -26,7 +27,7 @@ loop-again c =
     let at-loop = after-node .before .before in
     let args = at-loop .before .before .before .args in
     let taken = after-node .before .loop-test .taken in
-    let left-is = length-next (nodesIn (now (args .c))) (at-loop .loop .i) (node-left _ _ taken) (now (args .t)) in
+    let left-is = size-next (nodesIn (now (args .c))) (at-loop .loop .i) (node-left _ _ taken) (now (args .t)) (args .m) in
     let here-is = rw (after-node .node-at .ensures) at (c .node-length .ensures .0) in
     (omega (arith, taken), omega (arith, c .node-length .ensures .1), omega (arith, left-is, here-is, at-loop .loop .inv .2))
 
@@ -36,8 +37,8 @@ returns c =
     let at-loop = c .before in
     let at-start = at-loop .before .before .before in
     let args = at-start .args in
-    let nothing-left = length-end (nodesIn (now (args .c))) (at-loop .loop .i) (none-left _ _ (c .loop-test .left)) (now (args .t)) in
-    (omega (arith, nothing-left, at-loop .loop .inv .2), omega (arith, at-start .pre .1))
+    let nothing-left = text-end (nodesIn (now (args .c))) (at-loop .loop .i) (none-left _ _ (c .loop-test .left)) (now (args .t)) (args .m) in
+    (omega (arith, ap length nothing-left, at-loop .loop .inv .2), omega (arith, at-start .pre .2))
 
 pub text-length-spec : {M : Type 1} → statement M
 text-length-spec =

@@ -5,11 +5,8 @@ use native.Mathlib.Omega.{arith}
 use borrow.Author.Needs.{needs}
 use borrow.Author.Tests.{not-true, not-false}
 use denote.Ref.{now}
-use lib.ListN.{length}
 use Rattle.write_pieces.specs.Moment.{isMoment}
-use Rattle.write_text.specs.Writer.{textIn}
 use Rattle.write_text.proofs.Answers.{many, not-written, no-moment, no-room, wrote}
-use Rattle.write_text.proofs.Lengths.{nodes-size}
 use Rattle.write_text.proofs.write_by.Statement.{statement}
 use Rattle.write_text.proofs.write_by.Tie as tie
 
@@ -27,12 +24,6 @@ all-written after-length = after-length .before .before .before .before
 -- the numbers are a moment
 moment : (c : tie.Else3) → isMoment (start (c .before .before .before) .args .m) ≡ true
 moment c = sym (c .before .is-moment .ensures) ∙ not-false _ (c .if3 .left)
-
--- what is measured is the length of the text
-needed : (after-length : tie.After-text-length)
-    → let args = start (all-written after-length .before) .args in
-    after-length .text-length .result ≡ length (textIn (now (args .c)) (now (args .t)) (args .m))
-needed after-length = after-length .text-length .ensures .0 ∙ sym (nodes-size _ _ _)
 
 -- there are too many nodes
 returns : tie.Need-returns
@@ -56,11 +47,11 @@ returns-3 c =
     _ (after-search .first-unwritten .ensures) (at-patterns .if2 .left)
     (sym (c .before .is-moment .ensures) ∙ not-true _ (c .if3 .taken))
 
--- the table is the definition's, and the nodes are few
+-- the table is the definition's, the numbers are a moment, and the nodes are few
 text-length-requires : tie.Need-text-length-requires
 text-length-requires c κs =
     let after-search = c .before .before .before .before in
-    (after-search .before .before .table .ensures, within-limit after-search .if1 .left)
+    (after-search .before .before .table .ensures, moment (c .before), within-limit after-search .if1 .left)
 
 -- the buffer is shorter than the text
 returns-4 : tie.Need-returns-4
@@ -71,7 +62,7 @@ returns-4 c =
     let args = start after-search .args in
     no-room (now (args .c)) (now (args .t)) (args .m) (now (args .out)) (within-limit after-search .if1 .left)
     _ (after-search .first-unwritten .ensures) (at-patterns .if2 .left)
-    (moment (after-length .before .before)) _ (needed after-length) (c .if4 .taken)
+    (moment (after-length .before .before)) _ (after-length .text-length .ensures .0) (c .if4 .taken)
 
 -- the table is the definition's, the numbers are a moment, and there is room for the text
 put-nodes-requires : tie.Need-put-nodes-requires
@@ -79,7 +70,7 @@ put-nodes-requires c κs =
     let at-room = c .before .before in
     let after-length = at-room .before in
     let after-search = all-written after-length .before in
-    (after-search .before .before .table .ensures, moment (after-length .before .before), omega (arith, needed after-length, at-room .if4 .left))
+    (after-search .before .before .table .ensures, moment (after-length .before .before), omega (arith, after-length .text-length .ensures .0, at-room .if4 .left))
 
 -- the text is written
 returns-5 : tie.Need-returns-5
@@ -92,7 +83,7 @@ returns-5 c =
     let args = start after-search .args in
     wrote (now (args .c)) (now (args .t)) (args .m) (now (args .out)) (within-limit after-search .if1 .left)
     _ (after-search .first-unwritten .ensures) (at-patterns .if2 .left)
-    (moment (after-length .before .before)) _ (needed after-length) _ (at-room .if4 .left) (after-put .put-nodes .ensures)
+    (moment (after-length .before .before)) _ (after-length .text-length .ensures .0) _ (at-room .if4 .left) (after-put .put-nodes .ensures)
 
 pub write-by-spec : {M : Type 1} → statement M
 write-by-spec =

@@ -1,4 +1,5 @@
--- `write_pieces::put_marker` meets its contract: the letters and dots that are put are the marker's. Assumes nothing.
+-- `write_pieces::words::put_marker` meets its contract: the letters and dots that are put are the marker's.
+-- Assumes nothing.
 use mathlib.Core.Path.{_≡_, _∙_, ap}
 use mathlib.Core.Bool.{true, false}
 use mathlib.Core.Logic.{inl, inr}
@@ -8,10 +9,10 @@ use borrow.Author.Needs.{needs}
 use denote.Ref.{now}
 use lib.ListN.{length, length-set}
 use Rattle.base_notation.specs.Choice.{if_then_else_}
-use Rattle.write_pieces.specs.Pieces.{letterIn}
+use Rattle.write_pieces.specs.Words.{letterIn}
 use Rattle.write_pieces.proofs.Markers.{half, marker-size, marker-some, plain-put, dotted-put}
-use Rattle.write_pieces.proofs.put_marker.Statement.{statement}
-use Rattle.write_pieces.proofs.put_marker.Tie as tie
+use Rattle.write_pieces.proofs.words.put_marker.Statement.{statement}
+use Rattle.write_pieces.proofs.words.put_marker.Tie as tie
 
 -- the letter that is chosen is that of the half of the day
 chosen : (c : tie.Joined1) → c .if1 .half ≡ (if c .before .before .args .morning then 65 else 80)
@@ -21,7 +22,7 @@ chosen c = (elim (c .if1 .came) [ inl w ↦ rw (w .0 .taken) (w .1) | inr w ↦ 
 first : (c : tie.After-letter-in2) → let args = c .before .before .before .before .args in c .letter-in2 .result ≡ half (args .case) (args .morning)
 first c =
     let args = c .before .before .before .before .args in
-    c .letter-in2 .ensures ∙ ap (letterIn (args .case)) (chosen (c .before .before))
+    c .letter-in2 .ensures ∙ ap (letterIn (args .case) true) (chosen (c .before .before))
 
 -- there is room for two bytes
 two : (c : tie.After-letter-in2) → let args = c .before .before .before .before .args in args .at + 1 < length (now (args .out))
