@@ -75,7 +75,7 @@ fn orders() {
             .flat_map(|(at, first)| order[at + 1..].iter().map(move |second| [first.clone(), second.clone()]));
         groups.entry(group).or_default().extend(pairs);
     }
-    assert_eq!(groups.len(), 9);
+    assert_eq!(groups.len(), 15);
     for (group, pairs) in groups {
         assert_eq!(pairs.len(), group.len() * (group.len() - 1), "{group:?}");
     }

@@ -4,12 +4,13 @@ use crate::questions::templates;
 use crate::random::Random;
 use crate::timestamp::month_lengths;
 
-const DATES: [&[&str]; 3] = [&["YYYY", "MM", "DD"], &["YYYY", "DDD"], &["IYYY", "IW", "ID"]];
+const DATES: [&[&str]; 5] =
+    [&["YYYY", "MM", "DD"], &["YYYY", "Month", "DD"], &["YYYY", "Mon", "DD"], &["YYYY", "DDD"], &["IYYY", "IW", "ID"]];
 const TIMES: [&[&str]; 4] = [&["HH24", "MI", "SS"], &["HH12", "MI", "SS"], &["HH", "MI", "SS"], &["SSSSS"]];
 const MARKERS: [&str; 8] = ["AM", "PM", "A.M.", "P.M.", "am", "pm", "a.m.", "p.m."];
 
 /// Literals by their kind.
-const LITERALS: [&[&str]; 11] = [
+const LITERALS: [&[&str]; 12] = [
     &[""],
     &["-", "/", ":", ".", ",", ";", "--", "~!", "[", "](", "{}", "|", "'", "_", "=>", "?", "%", "@", "&", "^", "`"],
     &[" ", "  ", "   ", " - ", "/ ", " :", "\u{b}", "\u{c} "],
@@ -24,18 +25,22 @@ const LITERALS: [&[&str]; 11] = [
         "\"+0\"",
     ],
     &["x", "n", "ng", "T", "Z", "v", "e", "lúc", "ơ", "k.", "u"],
+    // after the name of a month these make another name or a longer word
+    &["\"ch\"", "\"s\"", "\"uary\"", "\"e\"", "\"tember\"", "\"ust\"", "ber", "\"'s\"", "\"May\"", "\"Mon\"", "Mo"],
     &["\u{300}", "a\u{300}", "\"nga\u{300}y\"", "\"thu\u{31b}\u{301}\"", "e\u{302}\u{323}", "\"\u{301}\""],
     &["é", "€", "𝄞", "年", "\"月 \"", "日", "ứ", "\u{a0}", "\u{3000}", "½", "٣"],
     &["FM-", "fm ", "TM/", "tm\"\"", "FM\"\"", "FMà", "fm.", "\\", "\\\"", "\\\\", "TM\\\""],
 ];
 
-/// Patterns that the writer lacks, and what no pattern may carry there.
-const LACKED: [&str; 24] = [
-    "FF3", "ff6", "MS", "SSSS", "Month", "MON", "Day", "dy", "D", "W", "WW", "Q", "J", "CC", "RM", "YYY", "YY",
-    "Y,YYY", "IYY", "IDDD", "BC", "TZH", "OF", "FX",
+/// Patterns that the writer lacks, the padded names among them, and what no pattern may carry there.
+const LACKED: [&str; 26] = [
+    "FF3", "ff6", "MS", "SSSS", "Month", "month", "MONTH", "Day", "dy", "D", "W", "WW", "Q", "J", "CC", "RM", "YYY",
+    "YY", "Y,YYY", "IYY", "IDDD", "BC", "TZH", "OF", "FX", "Monday",
 ];
-const AFFIXED: [&str; 12] =
-    ["FMDD", "DDth", "fmyyyy", "TMMI", "HH24TH", "SSSP", "FMSSSSS", "USth", "FMAM", "amTH", "tmIW", "IDSP"];
+const AFFIXED: [&str; 24] = [
+    "FMDD", "DDth", "fmyyyy", "TMMI", "HH24TH", "SSSP", "FMSSSSS", "USth", "FMAM", "amTH", "tmIW", "IDSP", "FMMon",
+    "fmmon", "FMMON", "TMMonth", "tmMon", "FMMonthTH", "fmmonthth", "FMMONTHSP", "MonTH", "MONth", "monSP", "FMMM",
+];
 
 pub fn line(random: &mut Random) -> Vec<u8> {
     let mut template = template(random).into_bytes();
@@ -73,19 +78,28 @@ fn template(random: &mut Random) -> String {
         patterns.remove(0);
     }
     if random.once_in(24) {
-        patterns.push(random.pick(&["YYYY", "DD", "US", "am", "SSSSS", "HH24"]));
+        patterns.push(random.pick(&["YYYY", "DD", "US", "am", "SSSSS", "HH24", "MM", "Month", "Mon"]));
     }
     let sparse = random.below(4);
     let mut template = literal(random, sparse).to_string();
     for pattern in patterns {
-        let small = !MARKERS.contains(&pattern) && random.once_in(2);
-        template += &if small { pattern.to_lowercase() } else { pattern.to_string() };
+        template += &spelled(random, pattern);
         template += literal(random, sparse);
     }
     if random.once_in(20) {
         template += random.pick(&["\"", "\"ngày", "\" ", "\"\\", "FM", "tm", "\\"]);
     }
     template
+}
+
+/// A pattern as a full template may have it: names in three cases, the full ones with FM or fm, digits in two.
+fn spelled(random: &mut Random, pattern: &str) -> String {
+    match pattern {
+        "Month" => [random.pick(&["FM", "fm"]), random.pick(&["Month", "month", "MONTH"])].concat(),
+        "Mon" => random.pick(&["Mon", "mon", "MON"]).to_string(),
+        _ if !MARKERS.contains(&pattern) && random.once_in(2) => pattern.to_lowercase(),
+        _ => pattern.to_string(),
+    }
 }
 
 /// `sparse` from 0, for a literal at every place, to 3, for none at most.
@@ -120,7 +134,7 @@ fn date(random: &mut Random) -> [i32; 3] {
     let leap = if leap % 100 == 0 && leap % 400 != 0 { leap + 4 } else { leap };
     let month = random.between(1, 12);
     let last = month_lengths(year.into())[month as usize - 1] as i32;
-    match random.below(10) {
+    match random.below(12) {
         0 => random.pick(&[[1, 1, 1], [9999, 12, 31]]),
         1 => [leap, 2, 29],
         2 => [year, 2, 28],
@@ -136,7 +150,7 @@ fn spoil_template(random: &mut Random, template: &mut Vec<u8>) {
     let ends = |template: &[u8]| std::str::from_utf8(template).unwrap().char_indices().map(|(at, _)| at).collect();
     let places: Vec<usize> = ends(template);
     let at = if places.is_empty() { 0 } else { random.pick(&places) };
-    match random.below(12) {
+    match random.below(13) {
         0..=2 => insert(template, at, random.pick(&LACKED)),
         3..=5 => insert(template, at, random.pick(&AFFIXED)),
         6 => template.truncate(at),
@@ -145,6 +159,8 @@ fn spoil_template(random: &mut Random, template: &mut Vec<u8>) {
         9 => *template = "US".repeat(random.pick(&[85, 86, 100, 128])).into(),
         // 510 bytes of numbers, and literals to the limit or past it
         10 => *template = ["US".repeat(85), "-".repeat(random.below(5))].concat().into(),
+        // 504 bytes of numbers, and a name: the month decides whether the text fits
+        11 => *template = ["US".repeat(84), spelled(random, "Month"), "-".repeat(random.below(5))].concat().into(),
         _ => insert(template, at, std::str::from_utf8(&templates::piece(random)).unwrap_or("\u{300}")),
     }
 }

@@ -39,7 +39,7 @@ fn days() {
 
 #[test]
 fn texts() {
-    replay("write", "crates/dates/lists/moments.in", "crates/dates/lists/moments.out", 3092);
+    replay("write", "crates/dates/lists/moments.in", "crates/dates/lists/moments.out", 3153);
 }
 
 /// moments.back has the seven numbers, the instant and the day where the template is full, else `-`.
@@ -61,5 +61,5 @@ fn read_back() {
         assert_eq!(template.instant(&text), Ok(back[7]), "{template}: {text}");
         assert_eq!(template.date(&text).map(i64::from), Ok(back[8]), "{template}: {text}");
     }
-    assert_eq!(count, 2319);
+    assert_eq!(count, 2260);
 }

@@ -8,13 +8,14 @@ use crate::timestamp::{days_from_civil, month_lengths};
 pub type Moment = [i32; 7];
 
 /// The patterns that the writer knows, in capitals.
-const WRITTEN: [&str; 18] = [
-    "YYYY", "IYYY", "MM", "DD", "IW", "HH24", "HH12", "HH", "MI", "SS", "DDD", "ID", "SSSSS", "US", "AM", "PM", "A.M.",
-    "P.M.",
+const WRITTEN: [&str; 20] = [
+    "YYYY", "IYYY", "MM", "MONTH", "MON", "DD", "IW", "HH24", "HH12", "HH", "MI", "SS", "DDD", "ID", "SSSSS", "US",
+    "AM", "PM", "A.M.", "P.M.",
 ];
 
 /// The groups of a full template, which has one of each list, and US.
-const DATES: [&[&str]; 3] = [&["YYYY", "MM", "DD"], &["YYYY", "DDD"], &["IYYY", "IW", "ID"]];
+const DATES: [&[&str]; 5] =
+    [&["YYYY", "MM", "DD"], &["YYYY", "MONTH", "DD"], &["YYYY", "MON", "DD"], &["YYYY", "DDD"], &["IYYY", "IW", "ID"]];
 const TIMES: [&[&str]; 3] = [&["HH24", "MI", "SS"], &["HH12", "MI", "SS", "AM"], &["SSSSS"]];
 
 /// 0 and the text of a moment; or a refusal.
@@ -53,9 +54,13 @@ pub fn attempt(template: &[u8], numbers: Option<Moment>, room: usize) -> Answer<
     Ok(text)
 }
 
+/// A literal; the full name of a month with FM alone; any other pattern that the writer knows, without an affix.
 fn is_written(node: &FmtNode) -> bool {
-    let known = |key: &FmtKeyword| WRITTEN.contains(&key.name.to_ascii_uppercase().as_str());
-    node.key.is_none_or(|key| known(key) && node.suffix == 0)
+    node.key.is_none_or(|key| {
+        let name = key.name.to_ascii_uppercase();
+        let affixes = if name == "MONTH" { SUFFIX_FM } else { 0 };
+        WRITTEN.contains(&name.as_str()) && node.suffix == affixes
+    })
 }
 
 /// Seven numbers of 32 bits with a space between two, each as strtol reads it.

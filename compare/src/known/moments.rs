@@ -4,6 +4,7 @@ type Known = (&'static str, &'static str, &'static str);
 
 const NOW: &str = "2024 2 29 15 4 5 6";
 const MARKERS: &str = "HH12:MI AM PM A.M. P.M. am pm a.m. p.m.";
+const NAMES: &str = "FMMonth fmMonth FMmonth fmmonth FMMONTH fmMONTH Mon mon MON";
 const TOO_LONG: &str = "1 - 0 0";
 const NOT_UTF8: &str = "2 - 0 0";
 const NO_MOMENT: &str = "20 - 0 0";
@@ -50,6 +51,77 @@ const WRITTEN: &[Known] = &[
     ("Am aM Pm pM A.m. a.M. \"am\"", "2024 2 29 21 0 0 0", "0 Am aM Pm pM A.m. a.M. am"),
     // numbers as strtol reads them
     ("MM", "2024 +2 029 15 4 5 6", "0 02"),
+];
+
+/// Months by name.
+const NAMED: &[Known] = &[
+    // every pattern in its own case, in every month
+    (NAMES, "2024 1 31 0 0 0 0", "0 January January january january JANUARY JANUARY Jan jan JAN"),
+    (NAMES, "2024 2 29 0 0 0 0", "0 February February february february FEBRUARY FEBRUARY Feb feb FEB"),
+    (NAMES, "2024 3 31 0 0 0 0", "0 March March march march MARCH MARCH Mar mar MAR"),
+    (NAMES, "2024 4 30 0 0 0 0", "0 April April april april APRIL APRIL Apr apr APR"),
+    (NAMES, "2024 5 31 0 0 0 0", "0 May May may may MAY MAY May may MAY"),
+    (NAMES, "2024 6 30 0 0 0 0", "0 June June june june JUNE JUNE Jun jun JUN"),
+    (NAMES, "2024 7 31 0 0 0 0", "0 July July july july JULY JULY Jul jul JUL"),
+    (NAMES, "2024 8 31 0 0 0 0", "0 August August august august AUGUST AUGUST Aug aug AUG"),
+    (NAMES, "2024 9 30 0 0 0 0", "0 September September september september SEPTEMBER SEPTEMBER Sep sep SEP"),
+    (NAMES, "2024 10 31 0 0 0 0", "0 October October october october OCTOBER OCTOBER Oct oct OCT"),
+    (NAMES, "2024 11 30 0 0 0 0", "0 November November november november NOVEMBER NOVEMBER Nov nov NOV"),
+    (NAMES, "2024 12 31 0 0 0 0", "0 December December december december DECEMBER DECEMBER Dec dec DEC"),
+    // full templates, among them every month: a name beside digits, first and last
+    ("DD Mon YYYY HH24:MI:SS.US", "2024 5 5 9 5 0 0", "0 05 May 2024 09:05:00.000000"),
+    ("DDMonYYYYHH24MISSUS", NOW, "0 29Feb2024150405000006"),
+    ("MonDDYYYYSSSSSUS", "1 1 1 0 0 0 0", "0 Jan01000100000000000"),
+    ("SSSSSUSYYYYDDMON", "9999 12 31 23 59 59 999999", "0 86399999999999931DEC"),
+    ("fmmonthDDYYYYHH12MISSUSam", "2024 4 5 12 0 0 0", "0 april052024120000000000pm"),
+    ("ddHHMISSUSP.M.yyyyFMMONTH", "2024 11 30 0 4 5 6", "0 30120405000006A.M.2024NOVEMBER"),
+    ("YYYYFMMonthDDSSSSSUS", "2024 9 30 23 59 59 999999", "0 2024September3086399999999"),
+    ("YYYY5mon7DD0SSSSS.US", "2024 6 30 0 0 9 0", "0 20245jun730000009.000000"),
+    ("US SSSSS YYYY\"10\"fmMONTH\"8\"DD", "2024 10 8 0 0 0 0", "0 000000 00000 202410OCTOBER808"),
+    // full templates, with literals that a name may run into
+    ("Mon\"ch\"DD/YYYY SSSSS.US", "2024 3 1 0 0 0 0", "0 March01/2024 00000.000000"),
+    ("DD Mon\"y\", YYYY SSSSS.US", "2024 7 4 0 0 0 0", "0 04 July, 2024 00000.000000"),
+    ("FMMonth\"s\" DD/YYYY SSSSS.US", "2024 8 1 0 0 0 0", "0 Augusts 01/2024 00000.000000"),
+    ("FMmonth's DD/YYYY SSSSS.US", "2024 5 1 0 0 0 0", "0 may's 01/2024 00000.000000"),
+    ("\"May\"MON\"May\" DD/YYYY SSSSS.US", "2024 6 1 0 0 0 0", "0 MayJUNMay 01/2024 00000.000000"),
+    ("\"tháng\"Mon\u{301}\"th\" DD/YYYY SSSSS.US", "2024 5 1 0 0 0 0", "0 thángMay\u{301}th 01/2024 00000.000000"),
+    // no full templates
+    ("Mon Mon MM", NOW, "0 Feb Feb 02"),
+    ("FMMonth MM DD YYYY SSSSS US", NOW, "0 February 02 29 2024 54245 000006"),
+    ("FMMonth YYYY DDD SSSSS US", NOW, "0 February 2024 060 54245 000006"),
+    ("IYYY IW ID mon SSSSS US", NOW, "0 2024 09 4 feb 54245 000006"),
+    // no names: mixed cases, a text in quotes, MM before a literal, prefixes that are dropped
+    ("MOnth MoN mON \"Mon\" FMMOn", NOW, "0 MOnth MoN mON Mon MOn"),
+    ("MMonth FMFMMonth TMFMMonth", NOW, "0 02onth F02onth F02onth"),
+];
+
+/// Refused: what is nearly the name of a month, and names where there is no moment.
+const MISNAMED: &[Known] = &[
+    ("Month", NOW, "19 Month 0 0"),
+    ("month", NOW, "19 month 0 0"),
+    ("MONTH", NOW, "19 MONTH 0 0"),
+    ("FMMonth Month", NOW, "19 Month 0 0"),
+    ("FM Month", NOW, "19 Month 0 0"),
+    ("FM\"\"Month", NOW, "19 Month 0 0"),
+    ("FMMon", NOW, "19 Mon 0 0"),
+    ("fmmon", NOW, "19 mon 0 0"),
+    ("FMMON", NOW, "19 MON 0 0"),
+    ("TMMonth", NOW, "19 Month 0 0"),
+    ("tmmonth", NOW, "19 month 0 0"),
+    ("TMMON", NOW, "19 MON 0 0"),
+    ("MonTH", NOW, "19 Mon 0 0"),
+    ("MONth", NOW, "19 MON 0 0"),
+    ("monSP", NOW, "19 mon 0 0"),
+    ("FMMonthTH", NOW, "19 Month 0 0"),
+    ("fmmonthth", NOW, "19 month 0 0"),
+    ("FMMONTHSP", NOW, "19 MONTH 0 0"),
+    ("FMMM", NOW, "19 MM 0 0"),
+    ("FMMonthly", NOW, "19 y 0 0"),
+    ("Monday", NOW, "19 day 0 0"),
+    ("DD Mon YYYY", "2023 2 29 0 0 0 0", NO_MOMENT),
+    ("FMMonth", "2024 0 1 0 0 0 0", NO_MOMENT),
+    ("FMMonth", "2024 13 1 0 0 0 0", NO_MOMENT),
+    ("Month", "2024 13 1 0 0 0 0", "19 Month 0 0"),
 ];
 
 const REFUSED: &[Known] = &[
@@ -108,6 +180,10 @@ fn long() -> Vec<(Vec<u8>, &'static str)> {
         (with(&us(85, "---"), NOW), "21 - 513 0"),
         (with(&us(128, ""), NOW), "21 - 768 0"),
         (with(&us(128, ""), ""), NO_MOMENT),
+        // the month decides how long the text is
+        (with(&us(84, "FMMonth-"), NOW), "21 - 513 0"),
+        (with(&us(84, "FMMonth-"), "2024 9 1 0 0 0 0"), "21 - 514 0"),
+        (with(&us(84, "FMMonth------"), "2024 5 1 0 0 0 0"), "21 - 513 0"),
         (with(&us(127, "MS"), NOW), "19 MS 0 0"),
         (with(&us(128, "-"), NOW), TOO_LONG),
         (with(&us(128, "-"), ""), TOO_LONG),
@@ -127,7 +203,7 @@ fn long() -> Vec<(Vec<u8>, &'static str)> {
 
 /// Every line with its answer.
 pub fn lines() -> Vec<(Vec<u8>, &'static str)> {
-    let known = [WRITTEN, REFUSED].concat().into_iter();
+    let known = [WRITTEN, NAMED, REFUSED, MISNAMED].concat().into_iter();
     let joined = known.map(|(template, moment, answer)| ([template, moment].join("\t").into(), answer));
     joined.chain(long()).collect()
 }
