@@ -1,4 +1,4 @@
-#!/usr/bin/env python3
+#!/usr/bin/env -S python3 -B
 """Words of a line, searched in two ways and read by the line program: compare/words.py PROGRAM SEED COUNT.
 
 Written from change request 3: the beginning of the input is folded once, at most as many bytes as the longest word of
@@ -6,12 +6,11 @@ the list has, and a search that gets only those bytes finds what the search of t
 searched both ways. The program must read that word and what follows it, refuse with 9 where there is no word, or with 2
 where the text is not UTF-8. Many of the texts are spoilt.
 """
-import random
 import re
-import subprocess
 import sys
 
-MONTHS = "January February March April May June July August September October November December".split()
+from lines import MONTHS, answers, arguments
+
 DAYS = "Sunday Monday Tuesday Wednesday Thursday Friday Saturday".split()
 
 
@@ -126,26 +125,20 @@ def question(random_):
     return template, text, f"0 {year} {month_} {day} {hour} 0 0 0 0 none"
 
 
-def main(program, seed, count):
-    random_ = random.Random(int(seed))
+def main():
+    program, random_, count = arguments()
     questions = []
-    while len(questions) < int(count):
+    while len(questions) < count:
         one = question(random_)
         if one:
             questions.append(one)
-    lines = b"".join(template + b"\t" + text + b"\n" for template, text, _ in questions)
-    run = subprocess.run([program, "parts"], input=lines, stdout=subprocess.PIPE, check=True)
-    answers = run.stdout.decode().split("\n")[:-1]
-    if len(answers) != len(questions):
-        sys.exit(f"{len(questions)} lines, {len(answers)} answers")
-    for (template, text, due), answer in zip(questions, answers):
-        if answer != due:
-            sys.exit(f"{template!r} {text!r}: {answer}, and {due} is due")
+    lines = [template + b"\t" + text for template, text, _ in questions]
+    for (template, text, due), answer in zip(questions, answers(program, "parts", lines)):
+        if answer != due.encode():
+            sys.exit(f"{template!r} {text!r}: {answer!r}, and {due} is due")
     accepted = sum(due[0] == "0" for _, _, due in questions)
     print(f"the same words in {len(questions)} lines, {accepted} of them accepted")
 
 
 if __name__ == "__main__":
-    if len(sys.argv) != 4:
-        sys.exit("usage: compare/words.py PROGRAM SEED COUNT")
-    main(*sys.argv[1:])
+    main()
