@@ -1,4 +1,4 @@
-"""What the models in Python share: the calendar's numbers, random moments, and what the line program answers to lines."""
+"""What the models in Python share: the calendar's numbers, random moments, the line program's answers to lines."""
 import random
 import subprocess
 import sys
@@ -53,15 +53,22 @@ def no_moment(random_, moment):
     return (*moment[:place], wrong, *moment[place + 1 :])
 
 
+def is_utf8(text):
+    try:
+        text.decode()
+    except UnicodeDecodeError:
+        return False
+    return True
+
+
 def line(template, moment):
     return template + b"\t" + " ".join(map(str, moment)).encode()
 
 
 def answers(program, mode, lines):
     """The program's answers in a mode, one for each line."""
-    given = b"".join(line + b"\n" for line in lines)
-    run = subprocess.run([program, mode], input=given, stdout=subprocess.PIPE, check=True)
-    answered = run.stdout.split(b"\n")[:-1]
+    given = b"".join(one + b"\n" for one in lines)
+    answered = subprocess.run([program, mode], input=given, stdout=subprocess.PIPE, check=True).stdout.split(b"\n")[:-1]
     if len(answered) != len(lines):
         sys.exit(f"{len(lines)} lines, {len(answered)} answers")
     return answered

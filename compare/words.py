@@ -9,7 +9,7 @@ where the text is not UTF-8. Many of the texts are spoilt.
 import re
 import sys
 
-from lines import MONTHS, answers, arguments
+from lines import MONTHS, answers, arguments, is_utf8
 
 DAYS = "Sunday Monday Tuesday Wednesday Thursday Friday Saturday".split()
 
@@ -112,9 +112,7 @@ def question(random_):
     if at == len(text) or text[at] == ord(" "):
         return None
     template = (b'"%s"' % front if front else b"") + (name + after).encode()
-    try:
-        text.decode()
-    except UnicodeDecodeError:
+    if not is_utf8(text):
         return template, text, "2 - 0 0"
     if found is None:
         return template, text, f"9 {name} 0 0"
