@@ -12,7 +12,7 @@ MONTHS = "January February March April May June July August September October No
 DATES = (("YYYY", "MM", "DD"), ("YYYY", "DDD"), ("IYYY", "IW", "ID"))
 EPOCH = datetime(1970, 1, 1)
 HOURS = (0, 1, 11, 12, 13, 23)
-# a place of a moment, and a number that no moment has there
+# which of a moment's seven numbers, and what no moment has there
 WRONG = ((0, 0), (0, 10000), (1, 0), (1, 13), (2, 32), (3, 24), (3, -1), (5, 60), (6, 1_000_000))
 
 
@@ -49,8 +49,8 @@ def random_moment(random_):
 
 def no_moment(random_, moment):
     """A moment's numbers, one of them wrong."""
-    place, wrong = random_.choice(WRONG)
-    return (*moment[:place], wrong, *moment[place + 1 :])
+    k, wrong = random_.choice(WRONG)
+    return (*moment[:k], wrong, *moment[k + 1 :])
 
 
 def is_utf8(text):

@@ -152,9 +152,9 @@ def affixed(random_, name):
 def spoilt(random_, parts, moment):
     """A template and a moment, one thing in them changed, most often at a month."""
     parts = list(parts)
-    places = [k for k, part in enumerate(parts) if isinstance(part, Pattern)]
-    of_months = [k for k in places if parts[k].name in OF_MONTHS]
-    at = random_.choice(of_months if of_months and random_.random() < 0.8 else places)
+    patterns_at = [k for k, part in enumerate(parts) if isinstance(part, Pattern)]
+    of_months = [k for k in patterns_at if parts[k].name in OF_MONTHS]
+    at = random_.choice(of_months if of_months and random_.random() < 0.8 else patterns_at)
     kind = random_.randrange(8)
     if kind == 0:
         parts[at] = random_.choice(list(NEARLY))

@@ -51,7 +51,7 @@ enum sorbilgan_refusal {
     SORBILGAN_OFFSET_RANGE = 16,      /* offset hours outside 0 to 15 or minutes outside 0 to 59 */
     SORBILGAN_INSTANT_RANGE = 17,     /* instants: outside 64 bits, or at one of their ends */
     SORBILGAN_DATE_RANGE = 18,        /* dates: outside 32 bits, or at one of their ends */
-    SORBILGAN_NOT_WRITTEN = 19,       /* write: a pattern that is not written, or not with its affix: pattern */
+    SORBILGAN_NOT_WRITTEN = 19,       /* write: not written, or not with this prefix or suffix, or without FM: pattern */
     SORBILGAN_NO_MOMENT = 20,         /* write: no moment of the years 1 to 9999 */
     SORBILGAN_NO_ROOM = 21            /* write: a text longer than its buffer: the length needed */
 };
@@ -108,8 +108,9 @@ uint8_t sorbilgan_date(const char *template_text, size_t template_length, const 
 /*
  * Writes a moment into a buffer of `room` bytes; the value is the length of the text, which has no final 0. The bytes
  * after the text stay as they were, and on refusal all of them do. A marker (AM, PM, A.M., P.M.) and the name of a
- * month (FMMonth, Mon) are written in the case of their pattern; FM or fm is written on the full name of a month alone.
- * By a full template the text is at most six bytes longer than the template.
+ * month (FMMonth, Mon) are written in the case of their pattern. FM or fm is accepted before the full name of a month,
+ * which needs it, and before nothing else. By a full template (a date, a time of day and US, each once) the text is at
+ * most six bytes longer than the template.
  */
 uint8_t sorbilgan_write(const char *template_text, size_t template_length, int32_t year, int32_t month, int32_t day,
                         int32_t hour, int32_t minute, int32_t second, int32_t micros, char *text, size_t room,

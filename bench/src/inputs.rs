@@ -30,7 +30,7 @@ pub struct Input {
     pub chrono: String,
     pub time: String,
     pub glibc: Option<CString>,
-    /// glibc leaves the fraction: it is read behind its format.
+    /// glibc leaves the fraction: it is read after its format.
     pub fraction: bool,
     /// The lines have a time of day.
     pub clock: bool,
@@ -101,18 +101,18 @@ fn month_names() -> Input {
     let name = |month: i32| MONTHS[month as usize - 1];
     Input {
         name: "month names",
-        template: "DD Month YYYY".into(),
+        template: "DD FMMonth YYYY".into(),
         chrono: "%d %B %Y".into(),
         time: "[day] [month repr:long] [year]".into(),
         glibc: c_format("%d %B %Y"),
         fraction: false,
         clock: false,
-        written: false,
+        written: true,
         lines: lines(false, |&[year, month, day, ..]| format!("{day:02} {} {year:04}", name(month)), true),
     }
 }
 
-/// Refused at the month, which stands in words.
+/// Refused at the month, which is in words.
 fn refused() -> Input {
     let name = |month: i32| IN_WORDS[month as usize - 1];
     let text = |&[year, month, day, ..]: &Moment| format!("ngày {day:02} tháng {} năm {year:04}", name(month));

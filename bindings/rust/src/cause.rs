@@ -54,8 +54,7 @@ pub enum Cause {
     InstantRange = 17,
     /// The day is outside 32 bits, or at one of their ends.
     DateRange = 18,
-    /// The writer has no such pattern, or not with its prefix or suffix; FM is written on the full name of a month
-    /// alone, which needs it: the pattern.
+    /// The pattern is not written, or only with another prefix or suffix, or none: the pattern.
     NotWritten = 19,
     /// The seven numbers are no moment of the years 1 to 9999.
     NoMoment = 20,

@@ -80,5 +80,5 @@ pub fn format(template: impl AsRef<[u8]>, moment: &Moment) -> Result<String, Ref
 pub(crate) fn text_of(write: impl FnOnce(&mut [u8]) -> Result<usize, Refusal>) -> Result<String, Refusal> {
     let mut text = [0; INPUT_LIMIT];
     let length = write(&mut text)?;
-    Ok(String::from_utf8(text[..length].to_vec()).expect("characters of a template in UTF-8, digits and markers"))
+    Ok(String::from_utf8(text[..length].to_vec()).expect("characters of a template in UTF-8, digits and words"))
 }

@@ -106,7 +106,7 @@ impl fmt::Display for Refusal {
             Cause::OffsetRange => write!(f, "an offset of more than 15 hours or 59 minutes"),
             Cause::InstantRange => write!(f, "an instant outside 64 bits"),
             Cause::DateRange => write!(f, "a day outside 32 bits"),
-            Cause::NotWritten => write!(f, "{pattern} cannot be written, or not with its prefix or suffix"),
+            Cause::NotWritten => write!(f, "{pattern} cannot be written, or only with another prefix or suffix, or none"),
             Cause::NoMoment => write!(f, "no moment of the years 1 to 9999"),
             Cause::NoRoom => write!(f, "the text needs {first} bytes"),
         }

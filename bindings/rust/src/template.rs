@@ -155,6 +155,7 @@ impl Template {
     ///
     /// let moment = Moment::midnight(2024, 2, 29);
     /// assert_eq!(Template::compile("DD/MM/YYYY")?.format(&moment)?, "29/02/2024");
+    /// assert_eq!(Template::compile("DD FMMonth YYYY")?.format(&moment)?, "29 February 2024");
     ///
     /// let evening = Moment { hour: 21, minute: 5, ..moment };
     /// assert_eq!(Template::compile("HH12:MI am")?.format(&evening)?, "09:05 pm");

@@ -68,7 +68,7 @@ const NAMED: &[Known] = &[
     (NAMES, "2024 10 31 0 0 0 0", "0 October October october october OCTOBER OCTOBER Oct oct OCT"),
     (NAMES, "2024 11 30 0 0 0 0", "0 November November november november NOVEMBER NOVEMBER Nov nov NOV"),
     (NAMES, "2024 12 31 0 0 0 0", "0 December December december december DECEMBER DECEMBER Dec dec DEC"),
-    // full templates, among them every month: a name beside digits, first and last
+    // full templates, with those below every month: a name beside digits, first and last
     ("DD Mon YYYY HH24:MI:SS.US", "2024 5 5 9 5 0 0", "0 05 May 2024 09:05:00.000000"),
     ("DDMonYYYYHH24MISSUS", NOW, "0 29Feb2024150405000006"),
     ("MonDDYYYYSSSSSUS", "1 1 1 0 0 0 0", "0 Jan01000100000000000"),

@@ -1,6 +1,6 @@
 -- Laws of a folded byte, and of a raised one. Assumes nothing.
--- `fold-up`: a folded byte is no less than the byte. `fold-class`: it is of the byte's class. `fold-twice`: folded again
--- it is the same. `fold-raised`, `raise-folded`: of the two, what is done last decides.
+-- `fold-up`: a folded byte is no less than the byte. `fold-class`: it is of the byte's class. `fold-twice`: folded
+-- again it is the same. `fold-raised`, `raise-folded`: of the two, what is done last decides.
 use mathlib.Core.Path.{_≡_, _∙_, refl, sym}
 use mathlib.Core.Bool.{true}
 use Prim.Native.Nat.{ℕ, _+_, _-_, _≤_}

@@ -1,6 +1,6 @@
 -- Bytes and characters of a text in UTF-8.
 
--- a capital letter made small
+-- a capital letter made small, and a small letter made a capital
 pub mod Fold
 -- ranges of bytes
 pub mod Range

@@ -72,7 +72,9 @@ pub texts
     : (answerLine Write (utf8 "\"ngày \"DD\" tháng \"MM\" năm \"YYYY\" \"HH24:MI:SS.US\t2024 2 29 9 5 0 0")
     ≡ utf8 "0 ngày 29 tháng 02 năm 2024 09:05:00.000000")
     × (answerLine Write (utf8 "YYYY-DDD HH12:MI:SS a.m.\t2024 2 29 21 5 0 0\r") ≡ utf8 "0 2024-060 09:05:00 p.m.")
-    × (answerLine Write (utf8 "DD Month YYYY\t2024 2 29 0 0 0 0") ≡ utf8 "19 Month 0 0")
+    × (answerLine Write (utf8 "DD FMMonth YYYY\t2024 5 5 0 0 0 0") ≡ utf8 "0 05 May 2024")
+    × (answerLine Write (utf8 "DDMONYYYY\t2024 5 5 0 0 0 0") ≡ utf8 "0 05MAY2024")
+    × (answerLine Write (utf8 "DD Month YYYY\t2024 5 5 0 0 0 0") ≡ utf8 "19 Month 0 0")
     × (answerLine Write (utf8 "YYYY-MM-DD\t2023 2 29 0 0 0 0") ≡ utf8 "20 - 0 0")
 unfolding line-computes textAnswer textOf nodesText nodeText writtenTo firstUnwritten unwrittenReport momentOf sevenOf numbersIn itemsOf narrow narrowed numberOf strtol-computes isMoment P.pieceOf P.pieceText P.numberOf caseOf D.decimal nodes-compute
-texts = (refl, refl, refl, refl)
+texts = (refl, refl, refl, refl, refl, refl)

@@ -15,6 +15,7 @@ use Rattle.base_notation.proofs.Cases.{beq-true, both}
 use Rattle.read_fields.proofs.Assigned.{sameTask, same-task}
 use Rattle.base_notation.specs.Choice.{if_then_else_}
 use Rattle.base_notation.proofs.Table.{entry}
+use Rattle.template_patterns.specs.Affixes.{affixLength}
 use Rattle.template_patterns.specs.Patterns.{gregorian, isoWeek, patternOf, nameOf}
 use Rattle.read_fields.specs.Fields as F
 use Rattle.read_fields.specs.Tasks.{task, nothing, number, word, plain, hour12, micros, isoDay, wholeYear, oddHour12, month, amPm, amPmLong, monthsFull, monthsAbbrev, taskOf}
@@ -24,7 +25,6 @@ use Rattle.template_patterns.specs.Words.{longest, wordsOf}
 use Rattle.template_patterns.specs.declared.tables.WordList.{WordList}
 use Rattle.write_pieces.specs.Pieces as P
 use Rattle.write_pieces.specs.declared.Moment.{Moment}
-use Rattle.readback.proofs.Nodes.{prefixBytes}
 
 abbrev pub taskFor : ℕ → Task
 taskFor p =
@@ -52,27 +52,8 @@ taskFor p =
 
 abbrev pub modeFor : ℕ → ℕ
 modeFor p =
-    getD (
-    0
-    ∷ gregorian
-    ∷ gregorian
-    ∷ gregorian
-    ∷ gregorian
-    ∷ isoWeek
-    ∷ isoWeek
-    ∷ isoWeek
-    ∷ 0
-    ∷ 0
-    ∷ 0
-    ∷ 0
-    ∷ 0
-    ∷ 0
-    ∷ 0
-    ∷ 0
-    ∷ gregorian
-    ∷ gregorian
-    ∷ []
-    ) p 0
+    if ltb p P.monthName then getD (0 ∷ gregorian ∷ gregorian ∷ gregorian ∷ gregorian ∷ isoWeek ∷ isoWeek ∷ isoWeek ∷ []) p 0
+    else gregorian
 
 abbrev pub listFor : ℕ → WordList
 listFor p = listOf (taskFor p .operand)
@@ -94,7 +75,7 @@ pub record Reads (k p : ℕ) : Type 0 where
   pub does : taskOf k ≡ taskFor p
   pub mode : patternOf k .mode ≡ modeFor p
   pub digit : patternOf k .isDigit ≡ ltb p P.marker
-  pub size : mostFor p ≤ length (nameOf k) + prefixBytes (P.prefixOf p) + excess p
+  pub size : mostFor p ≤ length (nameOf k) + affixLength (P.prefixOf p) + excess p
 
 -- the same as a test
 abbrev reads : ℕ → ℕ → Bool
@@ -102,7 +83,7 @@ reads k p =
     ltb p 18
     && (sameTask (taskOf k) (taskFor p)
     && (eqb (patternOf k .mode) (modeFor p)
-    && (Bool·beq (patternOf k .isDigit) (ltb p P.marker) && leb (mostFor p) (length (nameOf k) + prefixBytes (P.prefixOf p) + excess p))))
+    && (Bool·beq (patternOf k .isDigit) (ltb p P.marker) && leb (mostFor p) (length (nameOf k) + affixLength (P.prefixOf p) + excess p))))
 
 abbrev readsOwn : ℕ → ℕ → Bool
 readsOwn k x = let p = P.pieceOf k in eqb p 0 || reads k p

@@ -1,6 +1,7 @@
 -- Reading a literal. A reader may be ahead by spaces and separators, which it skipped and which still pay for literals:
 -- past the literal it is ahead so again. Assumes nothing.
--- `Left`: what is left of the input from a place on, with its length and bytes; `left-past`: after a first part of it.
+-- `Left`: what is left of the input from a place on; `left-length`, `left-byte`: its length and bytes; `left-past`:
+-- what is left after a first part of it.
 -- `literal-step`: a reader that is ahead at what is read as a literal is ahead after it (`Passed`).
 use mathlib.Core.Path.{_≡_, _∙_, refl, sym, ap}
 use mathlib.Core.Bool.{Bool, true, false, _&&_, _||_, false≢true}

@@ -1,19 +1,20 @@
 -- The nodes of a well-formed template. Assumes nothing.
--- `Alike`: what is read as a literal: as long, and of the class of its first byte.
+-- `Alike`: what is read as a literal: one character, as long as it and of its first byte's class.
 -- `good-nodes`: each node is a literal of one whole character (`Literal`) or a pattern of the table (`Named`), and
--- together, with FM before a name, they have no more bytes than the template. The idea: each step begins where a character begins (`Taken`).
+-- together, with their prefixes, they have no more bytes than the template (`lengths`). The idea: each step begins
+-- where a character begins (`Taken`).
 use mathlib.Core.Path.{_≡_, _∙_, refl, sym}
 use mathlib.Core.Bool.{Bool, true, false, not, _||_, false≢true}
 use mathlib.Core.List.{List, [], _∷_, _++_}
 use Prim.Native.Nat.{ℕ, zero, suc, _+_, _≤_, _<_}
 use native.Mathlib.Omega.{arith}
-use borrow.Author.Tests.{eqb-true, ltb-true, ne-eqb}
+use borrow.Author.Tests.{eqb-true, ltb-true}
 use lib.Bits.{bitOr, or-zero-l}
 use lib.Dec.{eqb, ltb}
 use lib.ListN.{length, take, drop, length-take, length-drop}
 use lib.Seq.{drop-cons}
 use Rattle.base_notation.specs.Choice.{if_then_else_}
-use Rattle.base_notation.specs.Text.{byteAt, utf8}
+use Rattle.base_notation.specs.Text.{byteAt}
 use Rattle.base_notation.proofs.Cases.{both, by-if}
 use Rattle.base_chars.specs.Character.{charLength, lead}
 use Rattle.base_chars.specs.Class.{classOf, isSpace, isSeparator}
@@ -23,7 +24,7 @@ use Rattle.base_chars.proofs.Sequences.{sequence-lead}
 use Rattle.base_chars.proofs.WellFormed.{char-is-sequence, next-boundary, one-character}
 use Rattle.template_patterns.specs.Affixes.{affixLength, bitAt}
 use Rattle.template_patterns.specs.Patterns.{nameOf}
-use Rattle.template_patterns.specs.Search.{matchesAt, patternAt}
+use Rattle.template_patterns.specs.Search.{patternAt}
 use Rattle.template_patterns.specs.declared.Found.{Found}
 use Rattle.template_patterns.specs.declared.Found.the-variants.{Pattern, Nothing}
 use Rattle.template_patterns.proofs.Search.{found-range, found-name}
@@ -68,13 +69,10 @@ abbrev pub AllGood : List ℕ → List Node → Type 0
 AllGood t [] = Unit {0}
 AllGood t (n ∷ ns) = Good t n × AllGood t ns
 
--- the bytes of the template that nodes are made from, with FM where it is the only affix
-abbrev pub prefixBytes : ℕ → ℕ
-prefixBytes bits = if eqb bits 1 then 2 else 0
-
+-- the bytes of the template that nodes are made from; a pattern's affixes count once
 abbrev pub lengths : List Node → ℕ
 lengths [] = 0
-lengths (n ∷ ns) = n .len + prefixBytes (n .suffix) + lengths ns
+lengths (n ∷ ns) = n .len + affixLength (n .suffix) + lengths ns
 
 -- a kind of literals: of a character as it is, or by its class
 record Kind (kind b : ℕ) : Type 0 where
@@ -99,7 +97,7 @@ class-kind b = by (isSeparator b) (isSpace b) refl refl
 record Taken (t : List ℕ) (at : ℕ) (s : Step) : Type 0 where
   next : Boundary t (s .next)
   from : at ≤ s .next
-  node : s .made ≡ true → Good t (s .node) × (at + s .node .len + prefixBytes (s .node .suffix) ≤ s .next)
+  node : s .made ≡ true → Good t (s .node) × (at + s .node .len + affixLength (s .node .suffix) ≤ s .next)
 
 module _ (t : List ℕ) where
   -- a literal character at p
@@ -172,22 +170,13 @@ module _ (t : List ℕ) where
       kind true = plain-kind _
       kind false = class-kind _
 
-  -- no suffix has the bit of FM
-  no-prefix : (at : ℕ) → bitAt false t at ≡ 1 → ⊥
-  unfolding bitAt
-  no-prefix at =
-      let P : ℕ → Type 0 = λ (bit : ℕ). bit ≡ 1 → ⊥ in
-      by-if P (matchesAt (utf8 "TH") t at) 2 _ (λ e q. omega (arith, q))
-      (λ e. by-if P (matchesAt (utf8 "th") t at) 4 _ (λ e q. omega (arith, q))
-      (λ e. by-if P (matchesAt (utf8 "SP") t at) 8 0 (λ e q. omega (arith, q)) (λ e q. omega (arith, q))))
-
-  -- so where FM is the only affix, it is the prefix, of two bytes
-  prefix-bytes : (prefix at : ℕ) → prefixBytes (bitOr prefix (bitAt false t at)) ≤ affixLength prefix
-  prefix-bytes prefix at = by (eqb prefix 0) refl
+  -- the affixes of a pattern have the bytes that are taken for its prefix and its suffix
+  affix-bytes : (prefix suffix : ℕ) → affixLength (bitOr prefix suffix) ≤ affixLength prefix + affixLength suffix
+  affix-bytes prefix suffix = by (eqb prefix 0) refl
     where
-      by : (b : Bool) → eqb prefix 0 ≡ b → prefixBytes (bitOr prefix (bitAt false t at)) ≤ (if b then 0 else 2)
-      by true e = rw (eqb-true prefix 0 e, or-zero-l (bitAt false t at), ne-eqb (bitAt false t at) 1 (no-prefix at)) (omega arith)
-      by false e = by-if (λ (n : ℕ). n ≤ 2) (eqb (bitOr prefix (bitAt false t at)) 1) 2 0 (λ q. omega arith) (λ q. omega arith)
+      by : (b : Bool) → eqb prefix 0 ≡ b → affixLength (bitOr prefix suffix) ≤ (if b then 0 else 2) + affixLength suffix
+      by true e = rw (eqb-true prefix 0 e, or-zero-l suffix) (omega arith)
+      by false e = by-if (λ (n : ℕ). n ≤ 2 + affixLength suffix) (eqb (bitOr prefix suffix) 0) 0 2 (λ q. omega arith) (λ q. omega arith)
 
   -- a pattern with its prefix and suffix, or a literal
   element-taken : (from at prefix : ℕ) (f : Found) → patternAt t at ≡ f → from + affixLength prefix ≤ at → at < length t → Boundary t at
@@ -200,7 +189,7 @@ module _ (t : List ℕ) where
       record {
         next = past-affix t (at + n) past false;
         from = omega arith;
-        node = λ q. (is-named (record { is-action = refl; known = number .0; size = name .0 }), omega (arith, prefix-bytes prefix (at + n)));
+        node = λ q. (is-named (record { is-action = refl; known = number .0; size = name .0 }), omega (arith, affix-bytes prefix (bitAt false t (at + n))));
       }
 
   -- outside quotes a prefix may come first

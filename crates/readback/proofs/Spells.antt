@@ -1,9 +1,9 @@
 -- Inputs that spell the nodes of a template at a moment. Assumes nothing.
 -- `Spells`: a part of the input spells a node: it is one character, as long as the literal and of its class, or it
--- spells the pattern's piece. `AllSpelled`: what is left of the input is a part for each node that is left.
+-- spells the pattern's piece. `AllSpelled`: what is left of the input is a part for each node that is left (`Parted`).
 -- `text-spelled`: so is the text that the writer writes.
 -- `spelled-utf8`: what spells nodes is UTF-8. `spelled-length`: it is longer than they are in the template by at most 4
--- bytes for each US and 2 for each full name of a month.
+-- bytes for each US and 2 for each full name of a month (`extra`).
 -- `stops`: after a number that is read with all its digits, no digit follows.
 -- `blank-left`: where spaces and separators alone are left, no piece is.
 use mathlib.Core.Path.{_≡_, _∙_, refl, sym}
@@ -24,6 +24,7 @@ use Rattle.base_strtol.specs.Runs.{leading, digits}
 use Rattle.read_input.specs.Reader.{headOf}
 use Rattle.read_integers.specs.Suffix.{endsNumber, isFree}
 use Rattle.template_nodes.specs.declared.Node.{Node}
+use Rattle.template_patterns.specs.Affixes.{affixLength}
 use Rattle.template_patterns.specs.Cases.{caseOf}
 use Rattle.write_text.specs.Full.{pieces, times}
 use Rattle.write_text.specs.Text.{nodeText, nodesText}
@@ -33,7 +34,7 @@ use Rattle.write_pieces.specs.declared.Moment.{Moment}
 use Rattle.readback.proofs.Ahead.{Ahead, ink-ahead, ink-some, ahead-all}
 use Rattle.readback.proofs.Known.{excess}
 use Rattle.readback.proofs.MomentFacts.{IsMoment}
-use Rattle.readback.proofs.Nodes.{Alike, Literal, lengths, prefixBytes}
+use Rattle.readback.proofs.Nodes.{Alike, Literal, lengths}
 use Rattle.readback.proofs.Sound.{Pattern, Sound, a-literal, a-pattern, AllSound, pieces-literal, pieces-pattern, literal-text, pattern-text}
 use Rattle.readback.proofs.Texts.{SpellsPiece, piece-spelled, spelled-written, spelled-size, spelled-stops}
 
@@ -106,7 +107,7 @@ module _ (t : List ℕ) {y mo d h mi sec us : ℕ} (is : IsMoment y mo d h mi se
   spelled-length (n ∷ ns) u a = rw (a .is, length-append (a .part) (a .rest)) (by (a .first) (spelled-length ns (a .rest) (a .others)))
     where
       by : Spells t now n (a .part) → length (a .rest) ≤ lengths ns + extra (pieces ns)
-          → length (a .part) + length (a .rest) ≤ n .len + prefixBytes (n .suffix) + lengths ns + extra (pieces (n ∷ ns))
+          → length (a .part) + length (a .rest) ≤ n .len + affixLength (n .suffix) + lengths ns + extra (pieces (n ∷ ns))
       by (as-literal l c) h = rw (pieces-literal t n ns l, c .is) (omega (arith, c .size))
       by (as-pattern k w) h =
           let p = pieceOf (n .pattern) in

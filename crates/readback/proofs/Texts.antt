@@ -1,4 +1,5 @@
 -- The text of a piece, and what is read as if it were that text. Assumes nothing.
+-- `wordFor`: the word of a piece at a moment, in small letters.
 -- `SpellsPiece`: x spells a piece at a moment: a number is itself, and a word has the same folded bytes.
 -- `piece-spelled`: the text of a piece spells it, whatever its case.
 -- `all-fit`: the word of a piece is `Fit`, so that it is found whatever follows it.

@@ -4,7 +4,8 @@
 -- `Fit`: a word of a list is ASCII, begins with a letter, and differs so from each word before it; `fit`, `is-fit`: the
 -- same as a test.
 -- Of what has the folded bytes of such a word:
--- `word-written`, `word-stops`, `word-size`: it is `Written`, begins with no digit, and is as short as its list's words.
+-- `word-written`, `word-stops`, `word-size`: it is `Written`, begins with no digit, and is no longer than the list's
+-- longest word.
 -- `word-read`: it is found in the list, whatever follows it; no word before it begins it or is begun by it.
 use mathlib.Core.Path.{_≡_, _∙_, refl, sym, ap}
 use mathlib.Core.Bool.{Bool, true, false, not, _&&_, _||_, false≢true}
@@ -53,7 +54,7 @@ abbrev lettered : List ℕ → Bool
 lettered [] = false
 lettered (b ∷ u) = isLetter b
 
-abbrev pub differs : List ℕ → List ℕ → Bool
+abbrev differs : List ℕ → List ℕ → Bool
 differs [] w = false
 differs (a ∷ v) [] = false
 differs (a ∷ v) (b ∷ w) = not (eqb b a) || differs v w

@@ -95,6 +95,7 @@ pub record WroteAndRead (t : List ℕ) (m : Moment) (before after : List ℕ) (r
 
 -- six bytes are reached: 20 of the template make 26 in September
 pub worked
-    : (length (utf8 "YYYYFMMonthDDSSSSSUS") ≡ 20) × (length (textOf (utf8 "YYYYFMMonthDDSSSSSUS") (moment 2024 9 5 0 0 1 7)) ≡ 26)
+    : (textOf (utf8 "YYYYFMMonthDDSSSSSUS") (moment 2024 9 5 0 0 1 7) ≡ utf8 "2024September0500001000007")
+    × (length (utf8 "YYYYFMMonthDDSSSSSUS") ≡ 20) × (length (utf8 "2024September0500001000007") ≡ 26)
 unfolding textOf nodesText nodeText pieceOf caseOf pieceText numberOf decimal nodes-compute
-worked = (refl, refl)
+worked = (refl, refl, refl)

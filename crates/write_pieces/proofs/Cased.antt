@@ -1,8 +1,8 @@
 -- Words in a case. Assumes nothing.
 -- `cased-size`: a word in a case is as long as the word.
 -- `next-letter`: what is left of it is put by the next letter of the word in that case, and then the rest.
--- `cased-folded`, `folded-cased`: a word in a case is the same, whether it was folded before or not; and folded it is the
--- same, whatever case it was in.
+-- `cased-folded`: a word in a case is the same, whether it was folded before or not.
+-- `folded-cased`: folded, it is the same whatever case it was in.
 use mathlib.Core.Path.{_≡_, refl, sym, ap}
 use mathlib.Core.Bool.{Bool, true, false}
 use mathlib.Core.List.{List, [], _∷_, map}

@@ -8,13 +8,12 @@ use mathlib.Core.List.{List, [], _∷_, map}
 use Prim.Native.Nat.{ℕ, _+_, _-_, _*_, _≤_}
 use native.Mathlib.Omega.{arith}
 use lib.ListN.{length, getD, take, drop}
-use Rattle.base_notation.specs.Choice.{if_then_else_}
 use Rattle.base_chars.specs.Fold.{folded}
 use Rattle.calendar_gregorian.proofs.Dates.{by-month}
-use Rattle.template_patterns.specs.Words.{wordsOf, wordTable}
+use Rattle.template_patterns.specs.Words.{wordTable}
 use Rattle.template_patterns.specs.declared.Case.{Case}
-use Rattle.template_patterns.specs.declared.tables.WordList.the-variants.{MonthsFull, MonthsAbbrev}
-use Rattle.write_pieces.specs.Words.{inCase, monthText}
+use Rattle.template_patterns.specs.declared.tables.WordList.the-variants.{MonthsFull}
+use Rattle.write_pieces.specs.Words.{inCase, monthNames, monthText}
 use Rattle.write_pieces.proofs.Cased.{cased-folded, cased-size}
 
 abbrev pub letters : List ℕ
@@ -25,7 +24,7 @@ few-letters = by-month (λ m. getD letters (m - 1) 0 ≤ 9) (omega arith)
 
 -- the name of a month, full or of three letters
 abbrev name : Bool → ℕ → List ℕ
-name full month = getD (wordsOf (if full then MonthsFull else MonthsAbbrev)) (month - 1) []
+name full month = getD (monthNames full) (month - 1) []
 
 -- where a month's row of nine bytes begins
 abbrev row : ℕ → ℕ

@@ -3,7 +3,7 @@
 use mathlib.Core.Path.{_≡_, refl}
 use mathlib.Core.Bool.{Bool, true, false}
 use mathlib.Core.List.{List, [], _∷_, map}
-use Prim.Native.Nat.{ℕ, _+_, _*_, _-_, _%_}
+use Prim.Native.Nat.{ℕ, _+_, _*_, _%_}
 use Prim.Native.String.{String}
 use lib.Dec.{eqb, ltb}
 use lib.IntN.{natAbs}
@@ -12,6 +12,7 @@ use Rattle.calendar_gregorian.specs.IsoWeek.{weeks-compute, isoWeek, isoWeekday
 use Rattle.base_notation.specs.Choice.{if_then_else_}
 use Rattle.base_notation.specs.Text.{utf8}
 use Rattle.calendar_gregorian.specs.Gregorian.{dayNumber, dayOfYear}
+use Rattle.template_patterns.specs.Affixes.{bitAt}
 use Rattle.template_patterns.specs.Patterns.{nameOf}
 use Rattle.template_patterns.specs.declared.Case.{Case}
 use Rattle.template_patterns.specs.declared.Case.the-variants.{Capitals, Small, Title}
@@ -121,7 +122,7 @@ pieceOf k = pieceNamed (nameOf k) rows
 abbrev pub widthOf : ℕ → ℕ
 widthOf p = getD (0 ∷ 4 ∷ 2 ∷ 2 ∷ 3 ∷ 4 ∷ 2 ∷ 1 ∷ 2 ∷ 2 ∷ 2 ∷ 2 ∷ 5 ∷ 6 ∷ []) p 0
 
--- the prefix that a piece's pattern has, by its bit: FM on the full name of a month, none on any other
+-- the prefix that a piece's pattern needs, by its bit: FM on the full name of a month, none on any other
 abbrev pub prefixOf : ℕ → ℕ
 prefixOf p = if eqb p monthName then 1 else 0
 
@@ -169,6 +170,11 @@ pieceText p case m =
 pub known : (pieceOf 108 ≡ year) × (pieceOf 37 ≡ monthName) × (pieceOf 91 ≡ shortMonth) × (pieceOf 14 ≡ none)
 unfolding pieceOf
 known = (refl, refl, refl, refl)
+
+-- FM is the prefix of the full name, and the short one has none
+pub prefixes : (prefixOf monthName ≡ bitAt true (utf8 "FMMonth") 0) × (prefixOf shortMonth ≡ 0)
+unfolding bitAt
+prefixes = (refl, refl)
 
 -- January 1 of 2021 is day 5 of week 53 of 2020; midnight is 12 AM
 pub worked

@@ -29,9 +29,13 @@ markerText case dotted morning =
     inCase case
     (if dotted then (if morning then utf8 "A.M." else utf8 "P.M.") else (if morning then utf8 "AM" else utf8 "PM"))
 
--- the name of a month from 1 to 12 in a case, full or of three letters
+-- the names of months, full or of three letters
+abbrev pub monthNames : Bool → List (List ℕ)
+monthNames full = wordsOf (if full then MonthsFull else MonthsAbbrev)
+
+-- the name of a month from 1 to 12 in a case
 abbrev pub monthText : Case → Bool → ℕ → List ℕ
-monthText case full month = inCase case (getD (wordsOf (if full then MonthsFull else MonthsAbbrev)) (month - 1) [])
+monthText case full month = inCase case (getD (monthNames full) (month - 1) [])
 
 -- markers have capitals or small letters; no marker's pattern is in title case, in which it would be Am
 pub markers

@@ -136,7 +136,7 @@ pub fn piece_length(piece: u8, m: Moment) -> usize
     ensures { λ r. ⌜ ((case : Case) → r ≡ length (pieceText piece case m)) × (r ≤ 9) ⌝ }
 {
     if piece >= MONTH_NAME {
-        return words::month_length(piece == MONTH_NAME, m.month as u32);
+        return words::name_length(piece == MONTH_NAME, m.month as u32);
     }
     LENGTHS[piece as usize] as usize
 }

@@ -57,7 +57,7 @@ pub fn put_marker(case: Case, dotted: bool, morning: bool, out: &mut [u8], at: u
 // How many letters the full name of each month has; a short name has three.
 const LENGTHS: [u8; 12] = [7, 8, 5, 5, 3, 4, 4, 6, 9, 7, 8, 8];
 
-pub fn month_length(full: bool, month: u32) -> usize
+pub fn name_length(full: bool, month: u32) -> usize
     requires { ⌜ (1 ≤ month) × (month ≤ 12) ⌝ }
     ensures { λ r. ⌜ ((case : Case) → r ≡ length (monthText case full month)) × (r ≤ 9) ⌝ }
 {
@@ -74,6 +74,6 @@ pub fn put_month(full: bool, month: u32, case: Case, out: &mut [u8], at: usize) 
 {
     let names = template_patterns::months_full();
     let start = 9 * (month as usize - 1);
-    let end = start + month_length(full, month);
+    let end = start + name_length(full, month);
     put_word(&names[start..end], case, out, at)
 }

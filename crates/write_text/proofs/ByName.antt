@@ -13,12 +13,10 @@ use Rattle.template_nodes.specs.Template.{action}
 use Rattle.template_nodes.specs.declared.Node.{Node}
 use Rattle.template_patterns.specs.Cases.{caseIn, caseOf}
 use Rattle.template_patterns.specs.Patterns.{nameOf}
-use Rattle.template_patterns.specs.Words.{wordsOf}
 use Rattle.template_patterns.specs.declared.Case.{Case}
 use Rattle.template_patterns.specs.declared.Case.the-variants.{Capitals, Small, Title}
-use Rattle.template_patterns.specs.declared.tables.WordList.the-variants.{MonthsFull, MonthsAbbrev}
 use Rattle.write_pieces.specs.Pieces.{monthName, pieceNamed, pieceOf, pieceText, rows, shortMonth}
-use Rattle.write_pieces.specs.Words.{inCase, monthText}
+use Rattle.write_pieces.specs.Words.{inCase, monthNames, monthText}
 use Rattle.write_pieces.specs.declared.Moment.{Moment}
 use Rattle.write_text.specs.ByName.{ByName}
 use Rattle.write_text.specs.Text.{nodeText}
@@ -30,19 +28,15 @@ unfolding pieceText
 month-piece case true m = refl
 month-piece case false m = refl
 
--- all twelve names in a case
-abbrev namesIn : Case → Bool → List (List ℕ)
-namesIn case full = map (inCase case) (wordsOf (if full then MonthsFull else MonthsAbbrev))
-
 -- the names by their pattern's name
 own : (name : String) (case : Case) (full : Bool) → caseIn (utf8 name) ≡ case → pieceNamed (utf8 name) rows ≡ (if full then monthName else shortMonth)
     → (t : List ℕ) (m : Moment) (n : Node) → n .kind ≡ action → nameOf (n .pattern) ≡ utf8 name
-    → nodeText t m n ≡ getD (namesIn case full) (natAbs (m .month) - 1) []
+    → nodeText t m n ≡ getD (map (inCase case) (monthNames full)) (natAbs (m .month) - 1) []
 unfolding caseOf pieceOf
 own name case full c p t m n e q =
     action-text t m n e
     ∙ rw (q, c, p) (month-piece case full m)
-    ∙ sym (List·getD-map (inCase case) (wordsOf (if full then MonthsFull else MonthsAbbrev)) (natAbs (m .month) - 1) [])
+    ∙ sym (List·getD-map (inCase case) (monthNames full) (natAbs (m .month) - 1) [])
 
 -- in each case the names are the twelve of the statement, by computing them
 pub by-name : ByName

@@ -1,9 +1,8 @@
 -- Each of the eight markers writes in its own case. Assumes nothing.
 -- `own-case`: in every template and at every moment; a pattern's piece and case follow from its name.
-use mathlib.Core.Path.{_≡_, _∙_, refl, sym}
+use mathlib.Core.Path.{_≡_, _∙_, refl}
 use mathlib.Core.Bool.{Bool, true, false}
 use Prim.Native.String.{String}
-use native.Mathlib.Omega.{arith}
 use Rattle.base_notation.specs.Choice.{if_then_else_}
 use Rattle.base_notation.specs.Text.{utf8}
 use Rattle.template_patterns.specs.Cases.{caseIn, caseOf}
@@ -13,13 +12,13 @@ use Rattle.write_pieces.specs.Pieces.{dottedMarker, isMorning, marker, pieceNam
 use Rattle.write_pieces.specs.Words.{markerText}
 use Rattle.write_pieces.specs.declared.Moment.{Moment}
 use Rattle.write_text.specs.OwnCase.{OwnCase, Writes}
-use Rattle.write_pieces.proofs.Lengths.{marker-put}
 use Rattle.write_text.proofs.Lengths.{action-text}
 
 -- the text of a marker's piece
 marker-piece : (case : Case) (dotted : Bool) (m : Moment) → pieceText (if dotted then dottedMarker else marker) case m ≡ markerText case dotted (isMorning m)
-marker-piece case true m = sym (marker-put case m dottedMarker (omega arith) (omega arith) (isMorning m) refl)
-marker-piece case false m = sym (marker-put case m marker (omega arith) (omega arith) (isMorning m) refl)
+unfolding pieceText
+marker-piece case true m = refl
+marker-piece case false m = refl
 
 -- a marker by its name
 own : (name early late : String) (case : Case) (dotted : Bool) → caseIn (utf8 name) ≡ case → pieceNamed (utf8 name) rows ≡ (if dotted then dottedMarker else marker)

@@ -17,7 +17,7 @@ use Rattle.write_pieces.specs.Pieces.{numberOf, pieceOf, pieceText}
 use Rattle.write_pieces.specs.declared.Moment.{Moment}
 use Rattle.write_text.specs.Text.{nodeText, nodesText, textOf}
 
--- a pattern with this name writes the one of the twelve texts that is the month's, in every template and at every moment
+-- a pattern with this name writes that of the twelve texts which is the month's, in every template, at every moment
 abbrev pub Names : String → List String → Type 0
 Names name months =
     (t : List ℕ) (m : Moment) (n : Node) → n .kind ≡ action → nameOf (n .pattern) ≡ utf8 name

@@ -23,7 +23,7 @@ unfoldable pub pieces : List Node → List ℕ
 pieces [] = []
 pieces (n ∷ ns) = if eqb (n .kind) action then pieceOf (n .pattern) ∷ pieces ns else pieces ns
 
--- the date groups and the time groups; a month is a number or has its name, full or short
+-- the date groups and the time groups; the month is its number or its name, full or short
 abbrev pub dateGroups : List (List ℕ)
 dateGroups =
     (year ∷ month ∷ day ∷ [])

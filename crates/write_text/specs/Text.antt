@@ -37,10 +37,3 @@ textOf t m = nodesText t m (nodesOf t)
 pub worked : textOf (utf8 "\"ngày \"DD\" tháng \"MM\" năm \"YYYY") (moment 2024 2 29 0 0 0 0) ≡ utf8 "ngày 29 tháng 02 năm 2024"
 unfolding textOf nodesText nodeText pieceOf pieceText numberOf decimal nodes-compute
 worked = refl
-
--- the name of the month beside digits and a literal; 26 bytes in September, six more than the template
-pub names
-    : (textOf (utf8 "DDMonYYYY \"in \"FMMONTH") (moment 2024 5 5 0 0 0 0) ≡ utf8 "05May2024 in MAY")
-    × (textOf (utf8 "YYYYFMMonthDDSSSSSUS") (moment 2024 9 5 0 0 1 7) ≡ utf8 "2024September0500001000007")
-unfolding textOf nodesText nodeText pieceOf caseOf pieceText numberOf decimal nodes-compute
-names = (refl, refl)

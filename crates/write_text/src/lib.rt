@@ -24,7 +24,7 @@ use write_pieces::Moment;
 pub enum Unwritten {
     TooLong,
     NotUtf8,
-    // The pattern is not known, or it has a prefix or suffix that is not written.
+    // The pattern is not known, or is written only with another prefix or suffix, or none.
     NotWritten { pattern: u8 },
     // A year outside 1 to 9999, or no such moment.
     NoMoment,

@@ -11,8 +11,8 @@ use Rattle.write_pieces.proofs.piece_length.Statement.{statement}
 use Rattle.write_pieces.proofs.piece_length.Tie as tie
 
 -- there is such a month
-month-length-requires : tie.Need-month-length-requires
-month-length-requires c κs =
+name-length-requires : tie.Need-name-length-requires
+name-length-requires c κs =
     let at-start = c .before .before .before in
     let named = named-month (at-start .args .m) (at-start .pre .1) in
     (named .1, named .2)
@@ -24,7 +24,7 @@ returns c =
     let at-start = at-test .before in
     let args = at-start .args in
     let month = named-month (args .m) (at-start .pre .1) .0 in
-    let measured = c .month-length .ensures in
+    let measured = c .name-length .ensures in
     (λ case. measured .0 case ∙ ap length (month-put case (args .m) (args .piece) (at-test .if1 .taken) (omega arith) _ month), measured .1)
 
 -- a number or a marker
@@ -38,7 +38,7 @@ piece-length-spec =
     tie.close
     (tie.spec
     (λ c. let at-start = c .before .before .before in cast (numbers _ (at-start .pre .1) .month) w32 tt)
-    month-length-requires
+    name-length-requires
     returns
     (λ c. search needs)
     (λ c. omega (arith, few-bytes (c .before .args .piece) (c .if1 .left)))

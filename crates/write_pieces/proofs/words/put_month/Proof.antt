@@ -14,19 +14,19 @@ use Rattle.write_pieces.proofs.words.put_month.Statement.{statement}
 use Rattle.write_pieces.proofs.words.put_month.Tie as tie
 
 -- the part of the table that is put
-abbrev part : tie.After-month-length → List ℕ
+abbrev part : tie.After-name-length → List ℕ
 part c =
     let start = 9 * (c .before .before .before .args .month - 1) in
-    take (start + c .month-length .result - start) (drop start (c .before .months-full .result))
+    take (start + c .name-length .result - start) (drop start (c .before .months-full .result))
 
 -- in the case it is the name
-named : (c : tie.After-month-length) → let args = c .before .before .before .args in
+named : (c : tie.After-name-length) → let args = c .before .before .before .args in
     inCase (args .case) (part c) ≡ monthText (args .case) (args .full) (args .month)
 named c =
     let at-start = c .before .before .before in
     let args = at-start .args in
     name-part (args .case) (args .month) (at-start .pre .0) (at-start .pre .1) (args .full) _ (c .before .months-full .ensures)
-    _ (c .month-length .ensures .0 (args .case))
+    _ (c .name-length .ensures .0 (args .case))
 
 -- there is room for the name
 put-word-requires : tie.Need-put-word-requires

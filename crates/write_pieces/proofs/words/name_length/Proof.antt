@@ -1,10 +1,10 @@
--- `write_pieces::words::month_length` meets its contract: the array has the length of each full name, and a short name
+-- `write_pieces::words::name_length` meets its contract: the array has the length of each full name, and a short name
 -- has three letters. Assumes nothing.
 use native.Mathlib.Omega.{arith}
 use borrow.Author.Needs.{needs}
 use Rattle.write_pieces.proofs.Months.{few-letters, full-size, short-size}
-use Rattle.write_pieces.proofs.words.month_length.Statement.{statement}
-use Rattle.write_pieces.proofs.words.month_length.Tie as tie
+use Rattle.write_pieces.proofs.words.name_length.Statement.{statement}
+use Rattle.write_pieces.proofs.words.name_length.Tie as tie
 
 -- a full name
 returns : tie.Need-returns
@@ -22,8 +22,8 @@ returns-2 c =
     let args = at-start .args in
     (λ case. short-size case (args .month) (at-start .pre .0) (at-start .pre .1) (args .full) (c .if1 .left), omega arith)
 
-pub month-length-spec : {M : Type 1} → statement M
-month-length-spec =
+pub name-length-spec : {M : Type 1} → statement M
+name-length-spec =
     tie.close
     (tie.spec
     (λ c. search needs)
