@@ -118,9 +118,12 @@ pieceNamed name (r ∷ rs) = if among name (r .names) then r .piece else pieceNa
 unfoldable pub pieceOf : ℕ → ℕ
 pieceOf k = pieceNamed (nameOf k) rows
 
--- the digits of a number piece
+-- how many bytes each piece has at every moment; 0 for the full name of a month, whose length depends on the moment
+abbrev pub widths : List ℕ
+widths = 0 ∷ 4 ∷ 2 ∷ 2 ∷ 3 ∷ 4 ∷ 2 ∷ 1 ∷ 2 ∷ 2 ∷ 2 ∷ 2 ∷ 5 ∷ 6 ∷ 2 ∷ 4 ∷ 0 ∷ 3 ∷ []
+
 abbrev pub widthOf : ℕ → ℕ
-widthOf p = getD (0 ∷ 4 ∷ 2 ∷ 2 ∷ 3 ∷ 4 ∷ 2 ∷ 1 ∷ 2 ∷ 2 ∷ 2 ∷ 2 ∷ 5 ∷ 6 ∷ []) p 0
+widthOf p = getD widths p 0
 
 -- the prefix that a piece's pattern needs, by its bit: FM on the full name of a month, none on any other
 abbrev pub prefixOf : ℕ → ℕ

@@ -11,7 +11,7 @@ ghost use lib.ListN.{length};
 ghost use Rattle.template_patterns.specs.declared.Case.{Case};
 ghost use Rattle.write_pieces.specs.Moment.{isMoment, sevenNumbers};
 ghost use Rattle.write_pieces.specs.Output.{Put};
-ghost use Rattle.write_pieces.specs.Pieces.{pieceOf, pieceText, prefixOf};
+ghost use Rattle.write_pieces.specs.Pieces.{pieceOf, pieceText, prefixOf, widthOf};
 ghost use Rattle.write_pieces.specs.Tables.{pieceTable};
 pub use numbers::is_moment;
 pub use output::put_bytes;
@@ -121,41 +121,65 @@ pub fn piece_of(table: &[u8; 112], pattern: u8) -> u8
 pub fn prefix_of(piece: u8) -> u8
     ensures { λ r. ⌜ r ≡ prefixOf piece ⌝ }
 {
-    if piece == MONTH_NAME {
-        return SUFFIX_FM;
+    if piece != MONTH_NAME {
+        return 0;
     }
-    0
+    SUFFIX_FM
 }
 
-// How many bytes each number and marker has.
-const LENGTHS: [u8; 16] = [0, 4, 2, 2, 3, 4, 2, 1, 2, 2, 2, 2, 5, 6, 2, 4];
+// How many bytes a piece has at every moment.
+fn width_of(piece: u8) -> usize
+    ensures { λ r. ⌜ r ≡ widthOf piece ⌝ }
+{
+    match piece {
+        YEAR => 4,
+        MONTH => 2,
+        DAY => 2,
+        YEAR_DAY => 3,
+        WEEK_YEAR => 4,
+        WEEK => 2,
+        WEEKDAY => 1,
+        HOUR24 => 2,
+        HOUR12 => 2,
+        MINUTE => 2,
+        SECOND => 2,
+        DAY_SECOND => 5,
+        MICROS => 6,
+        MARKER => 2,
+        DOTTED_MARKER => 4,
+        MONTH_NAME => 0,
+        SHORT_MONTH => 3,
+        _ => 0,
+    }
+}
 
 // The length of a piece's text at a moment, which is the same in every case.
 pub fn piece_length(piece: u8, m: Moment) -> usize
     requires { ⌜ (piece < 18) × (isMoment m ≡ true) ⌝ }
     ensures { λ r. ⌜ ((case : Case) → r ≡ length (pieceText piece case m)) × (r ≤ 9) ⌝ }
 {
-    if piece >= MONTH_NAME {
-        return words::name_length(piece == MONTH_NAME, m.month as u32);
+    if piece == MONTH_NAME {
+        return words::name_length(true, m.month as u32);
     }
-    LENGTHS[piece as usize] as usize
+    width_of(piece)
 }
 
-// The text of a piece put into the buffer.
+// The text of a piece put into the buffer. Equal tests become one jump with those of `number_of`.
 pub fn put_piece(piece: u8, case: Case, m: Moment, out: &mut [u8], at: usize) -> usize
     requires { ⌜ (piece < 18) × (isMoment m ≡ true) × (at + length (pieceText piece case m) ≤ length (now out)) ⌝ }
     ensures { λ r. ⌜ Put (now (out .entry)) at (pieceText piece case m) (now (out .exit)) r ⌝ }
 {
-    if piece < MARKER {
-        return output::put_number(
-            numbers::number_of(piece, m),
-            piece_length(piece, m),
-            out,
-            at,
-        );
+    if piece == MARKER {
+        return words::put_marker(case, false, m.hour < 12, out, at);
     }
-    if piece < MONTH_NAME {
-        return words::put_marker(case, piece == DOTTED_MARKER, m.hour < 12, out, at);
+    if piece == DOTTED_MARKER {
+        return words::put_marker(case, true, m.hour < 12, out, at);
     }
-    words::put_month(piece == MONTH_NAME, m.month as u32, case, out, at)
+    if piece == MONTH_NAME {
+        return words::put_month(true, m.month as u32, case, out, at);
+    }
+    if piece == SHORT_MONTH {
+        return words::put_month(false, m.month as u32, case, out, at);
+    }
+    output::put_number(numbers::number_of(piece, m), width_of(piece), out, at)
 }

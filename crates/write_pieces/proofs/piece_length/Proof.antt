@@ -1,11 +1,11 @@
--- `write_pieces::piece_length` meets its contract: the array has the length of each number and marker, and the names of
--- months are measured by themselves. Assumes nothing.
+-- `write_pieces::piece_length` meets its contract: the full name of a month is measured by itself, and every other piece
+-- is as long as it is wide. Assumes nothing.
 use mathlib.Core.Path.{_∙_, ap}
 use native.Mathlib.Omega.{arith}
 use borrow.Author.Needs.{needs}
 use lib.ListN.{length}
 use mir.Syntax.{w32}
-use Rattle.write_pieces.proofs.Lengths.{few-bytes, month-put, piece-size}
+use Rattle.write_pieces.proofs.Lengths.{few-bytes, name-put, piece-size}
 use Rattle.write_pieces.proofs.Moments.{cast, named-month, numbers}
 use Rattle.write_pieces.proofs.piece_length.Statement.{statement}
 use Rattle.write_pieces.proofs.piece_length.Tie as tie
@@ -17,7 +17,7 @@ name-length-requires c κs =
     let named = named-month (at-start .args .m) (at-start .pre .1) in
     (named .1, named .2)
 
--- the name of a month
+-- the full name of a month
 returns : tie.Need-returns
 returns c =
     let at-test = c .before .before .before in
@@ -25,13 +25,18 @@ returns c =
     let args = at-start .args in
     let month = named-month (args .m) (at-start .pre .1) .0 in
     let measured = c .name-length .ensures in
-    (λ case. measured .0 case ∙ ap length (month-put case (args .m) (args .piece) (at-test .if1 .taken) (omega arith) _ month), measured .1)
+    (λ case. measured .0 case ∙ ap length (name-put case (args .m) (args .piece) _ month (at-test .if1 .taken)), measured .1)
 
--- a number or a marker
+-- any other piece
 returns-2 : tie.Need-returns-2
 returns-2 c =
-    let args = c .before .args in
-    (λ case. piece-size case (args .m) (args .piece) (c .if1 .left), omega (arith, few-bytes (args .piece) (c .if1 .left)))
+    let at-test = c .before in
+    let at-start = at-test .before in
+    let args = at-start .args in
+    let width = c .width-of .ensures in (
+      λ case. width ∙ piece-size case (args .m) (args .piece) (at-start .pre .1) (at-start .pre .0) (at-test .if1 .left),
+      omega (arith, width, few-bytes (args .piece) (at-start .pre .0)),
+    )
 
 pub piece-length-spec : {M : Type 1} → statement M
 piece-length-spec =
@@ -40,6 +45,5 @@ piece-length-spec =
     (λ c. let at-start = c .before .before .before in cast (numbers _ (at-start .pre .1) .month) w32 tt)
     name-length-requires
     returns
-    (λ c. search needs)
-    (λ c. omega (arith, few-bytes (c .before .args .piece) (c .if1 .left)))
+    (λ c κs. search needs)
     returns-2)

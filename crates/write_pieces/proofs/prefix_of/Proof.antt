@@ -7,7 +7,7 @@ pub prefix-of-spec : {M : Type 1} → statement M
 prefix-of-spec =
     tie.close
     (tie.spec
-    -- the full name of a month
-    (λ c. rw (eq-eqb _ 16 (c .if1 .taken)))
     -- any other piece
-    (λ c. rw (ne-eqb _ 16 (c .if1 .left))))
+    (λ c. rw (ne-eqb _ 16 (c .if1 .taken)))
+    -- the full name of a month
+    (λ c. rw (eq-eqb _ 16 (c .if1 .left))))
