@@ -70,6 +70,7 @@ number-written w n some =
       ink = digits-inked (decimal w n) (omega (arith, decimal-length w n)) (decimal-digits w n);
     }
 
+-- a marker and a name of a month, once they are folded
 marker-folds : (case : Case) (dotted morning : Bool)
     → map folded (markerText case dotted morning) ≡ wordOf (if dotted then AmPmLong else AmPm) (if morning then 0 else 1)
 marker-folds case true true = folded-cased case (utf8 "A.M.")
@@ -97,7 +98,7 @@ module _ (m : Moment) where
         | false ↦ λ b. a-word (ltb-false p 14 b) to (word-folds case p (ltb-false p 14 b) to)
       ]) refl
 
--- each word that a marker or a name of a month may be
+-- the markers of a list differ from each other
 marker-fit : (dotted morning : Bool) → Fit (if dotted then AmPmLong else AmPm) (if morning then 0 else 1)
 unfolding classOf
 marker-fit true true = is-fit _ _ refl
