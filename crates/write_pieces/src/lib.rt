@@ -117,7 +117,7 @@ pub fn piece_of(table: &[u8; 112], pattern: u8) -> u8
     table[pattern as usize] - b'@'
 }
 
-// The prefix that the pattern of a piece has: FM on the full name of a month, none on any other.
+// The prefix that the pattern of a piece needs: FM on the full name of a month, none on any other.
 pub fn prefix_of(piece: u8) -> u8
     ensures { λ r. ⌜ r ≡ prefixOf piece ⌝ }
 {
@@ -164,7 +164,7 @@ pub fn piece_length(piece: u8, m: Moment) -> usize
     width_of(piece)
 }
 
-// The text of a piece put into the buffer. Equal tests become one jump with those of `number_of`.
+// The text of a piece put into the buffer. Tests of one piece each become one jump, with those of `number_of`.
 pub fn put_piece(piece: u8, case: Case, m: Moment, out: &mut [u8], at: usize) -> usize
     requires { ⌜ (piece < 18) × (isMoment m ≡ true) × (at + length (pieceText piece case m) ≤ length (now out)) ⌝ }
     ensures { λ r. ⌜ Put (now (out .entry)) at (pieceText piece case m) (now (out .exit)) r ⌝ }
