@@ -18,6 +18,11 @@ use Rattle.template_patterns.specs.declared.Case.the-variants.{Capitals, Small,
 use Rattle.write_pieces.specs.Words.{inCase, letterIn}
 use Rattle.write_pieces.proofs.Puts.{next-byte}
 
+-- what holds of every byte holds of a word: one map after another is a third
+mapped : (f g h : ℕ → ℕ) → ((b : ℕ) → f (g b) ≡ h b) → (w : List ℕ) → map f (map g w) ≡ map h w
+mapped f g h e [] = refl
+mapped f g h e (b ∷ w) = rw (e b, mapped f g h e w)
+
 -- 0 is no letter, and stays
 no-letter : (case : Case) (first : Bool) → letterIn case first 0 ≡ 0
 no-letter Capitals first = refl
@@ -55,19 +60,10 @@ module _ (case : Case) where
       → sets (set l (at + i) b) (at + (i + 1)) (drop (i + 1) (inCase case w)) ≡ sets l (at + i) (drop i (inCase case w))
   next-letter l at w i h b e = rw (e, ← cased-byte w i) (next-byte l at (inCase case w) i (omega (arith, cased-size w)))
 
-  -- the letters after the first
-  rest-folded : (w : List ℕ) → map (letterIn case false) (map folded w) ≡ map (letterIn case false) w
-  rest-folded [] = refl
-  rest-folded (b ∷ w) = rw (letter-folded case false b, rest-folded w)
-
   pub cased-folded : (w : List ℕ) → inCase case (map folded w) ≡ inCase case w
   cased-folded [] = refl
-  cased-folded (b ∷ w) = rw (letter-folded case true b, rest-folded w)
-
-  folded-rest : (w : List ℕ) → map folded (map (letterIn case false) w) ≡ map folded w
-  folded-rest [] = refl
-  folded-rest (b ∷ w) = rw (folded-letter case false b, folded-rest w)
+  cased-folded (b ∷ w) = rw (letter-folded case true b, mapped (letterIn case false) folded (letterIn case false) (letter-folded case false) w)
 
   pub folded-cased : (w : List ℕ) → map folded (inCase case w) ≡ map folded w
   folded-cased [] = refl
-  folded-cased (b ∷ w) = rw (folded-letter case true b, folded-rest w)
+  folded-cased (b ∷ w) = rw (folded-letter case true b, mapped folded (letterIn case false) folded (folded-letter case false) w)

@@ -9,7 +9,7 @@ use Rattle.base_notation.specs.Choice.{if_then_else_}
 use Rattle.base_notation.specs.Text.{utf8}
 use Rattle.base_strtol.specs.Decimal.{decimal}
 use Rattle.template_nodes.specs.Examples.{nodes-compute}
-use Rattle.template_nodes.specs.Template.{action, nodesOf}
+use Rattle.template_nodes.specs.Template.{action, character, literal, nodesOf, pattern}
 use Rattle.template_nodes.specs.declared.Node.{Node}
 use Rattle.template_patterns.specs.Cases.{caseOf}
 use Rattle.write_pieces.specs.Moment.{moment}
@@ -37,3 +37,8 @@ textOf t m = nodesText t m (nodesOf t)
 pub worked : textOf (utf8 "\"ngày \"DD\" tháng \"MM\" năm \"YYYY") (moment 2024 2 29 0 0 0 0) ≡ utf8 "ngày 29 tháng 02 năm 2024"
 unfolding textOf nodesText nodeText pieceOf pieceText numberOf decimal nodes-compute
 worked = refl
+
+-- YYYY, a literal of two bytes, and one that the template cuts off after the first
+pub cut : nodesText (utf8 "YYYY. .") (moment 2024 2 29 0 0 0 0) (pattern 0 4 54 0 ∷ literal character 4 2 ∷ literal character 6 2 ∷ []) ≡ utf8 "2024. ."
+unfolding nodesText nodeText pieceOf pieceText numberOf decimal
+cut = refl
