@@ -3,9 +3,12 @@
  * by one.
  *
  * A text is lent for the call alone, as a pointer and a length in bytes; it needs no final 0. Any bytes and any
- * numbers are safe. No pointer may be NULL (an empty text is "" and 0), and what a function fills may not overlap
- * what it is lent. Nothing is allocated or kept between calls, so every function may be called from several threads
- * at once.
+ * numbers are safe. A pointer may be NULL where its length or room is 0, and nowhere else. What a function fills may
+ * not overlap what it is lent. Nothing is allocated or kept between calls, so every function may be called from
+ * several threads at once.
+ *
+ * Later versions add functions, and numbers of refusals, and fields at the end of an answer. A program that is compiled
+ * again with a later header goes on working, if it takes every number that it does not know for a refusal.
  */
 #ifndef SORBILGAN_H
 #define SORBILGAN_H
@@ -18,6 +21,26 @@
 extern "C" {
 #endif
 
+/*
+ * The version of this header. A library of another version does not link: it has no function of this version's name,
+ * and with gcc and clang each file that includes the header asks for it. sorbilgan_version() is the library's version,
+ * for callers that do not include this header.
+ */
+#define SORBILGAN_VERSION 1
+
+uint32_t sorbilgan_version(void);
+
+uint32_t sorbilgan_version_1(void);
+
+#ifdef __GNUC__
+#ifdef __has_attribute
+#if __has_attribute(retain)
+__attribute__((retain))
+#endif
+#endif
+__attribute__((used)) static uint32_t (*const sorbilgan_linked)(void) = sorbilgan_version_1;
+#endif
+
 /* The limits of a template and of an input, in bytes. */
 #define SORBILGAN_TEMPLATE_LIMIT 256
 #define SORBILGAN_INPUT_LIMIT 512
@@ -28,11 +51,15 @@ extern "C" {
 /* An answer's pattern where it names none; one that is named is below it. */
 #define SORBILGAN_NO_PATTERN 112
 
-/* The room for a pattern's name, in bytes. */
-#define SORBILGAN_NAME 5
+/* The room for a pattern's name and a final 0, in bytes. */
+#define SORBILGAN_NAME 6
 
-/* The numbers of the refusals. After each, what the answer holds of it: its pattern, its first and second figure. */
+/*
+ * The number of an answer: 0 where the text or the moment is accepted, else that of the refusal. After each, what the
+ * answer holds of it: its pattern, its first and second figure.
+ */
 enum sorbilgan_refusal {
+    SORBILGAN_OK = 0,
     SORBILGAN_TOO_LONG = 1,           /* template over 256 bytes or input over 512 */
     SORBILGAN_NOT_UTF8 = 2,           /* either is not UTF-8 */
     SORBILGAN_MIXED_DATES = 3,        /* Gregorian and ISO patterns mixed: pattern */
@@ -86,12 +113,23 @@ struct sorbilgan_value_answer {
     int64_t value;
 };
 
+/* A moment that is written. Any numbers may be here: what is no moment of the years 1 to 9999 is refused. */
+struct sorbilgan_moment {
+    int32_t year;
+    int32_t month;
+    int32_t day;
+    int32_t hour;
+    int32_t minute;
+    int32_t second;
+    int32_t micros;
+};
+
 #if (defined(__cplusplus) && __cplusplus >= 201103L) || (defined(__STDC_VERSION__) && __STDC_VERSION__ >= 201112L)
 static_assert(sizeof(struct sorbilgan_parts_answer) == 14 * sizeof(int64_t), "the answer is 14 numbers");
 static_assert(sizeof(struct sorbilgan_value_answer) == 5 * sizeof(int64_t), "the answer is 5 numbers");
 #endif
 
-/* Reading and writing fill the whole answer and return its number: 0, or the refusal's. */
+/* Reading and writing fill the whole answer and return its number: SORBILGAN_OK, or the refusal's. */
 
 /* The parts of the input. */
 uint8_t sorbilgan_parts(const char *template_text, size_t template_length, const char *input, size_t input_length,
@@ -123,7 +161,12 @@ uint8_t sorbilgan_write(const char *template_text, size_t template_length, int32
  */
 int64_t sorbilgan_compile(const char *template_text, size_t template_length, uint8_t nodes[SORBILGAN_NODES]);
 
-/* The same answers by a compiled template. It is lent together with the text that it was compiled from. */
+/*
+ * The same answers by a compiled template. It is lent together with the text that it was compiled from. Any bytes are
+ * safe as nodes and any text with them: reading takes the nodes for as many as they are, and writing refuses more than
+ * 1,536 bytes with 1. That text is neither held to 256 bytes nor tested for UTF-8, as it was when it was compiled: in
+ * reading, 1 and 2 are the input's.
+ */
 uint8_t sorbilgan_parts_by(const uint8_t *nodes, size_t nodes_length, const char *template_text, size_t template_length,
                            const char *input, size_t input_length, struct sorbilgan_parts_answer *answer);
 
@@ -138,10 +181,40 @@ uint8_t sorbilgan_write_by(const uint8_t *nodes, size_t nodes_length, const char
                            int32_t micros, char *text, size_t room, struct sorbilgan_value_answer *answer);
 
 /*
- * The name of an answer's pattern, filled up with 0, and its length from 1 to 5; no name and 0 for any number that is
- * no pattern's.
+ * The name of an answer's pattern as a string, and its length from 1 to 5. The bytes after the name are 0. For any
+ * number that is no pattern's, the string is empty and the length 0.
  */
 size_t sorbilgan_pattern(uint8_t pattern, char name[SORBILGAN_NAME]);
+
+/* The moment of an accepted answer, without its offset and precision. */
+static inline struct sorbilgan_moment sorbilgan_moment_of(const struct sorbilgan_parts_answer *parts) {
+    struct sorbilgan_moment moment;
+
+    moment.year = (int32_t)parts->year;
+    moment.month = (int32_t)parts->month;
+    moment.day = (int32_t)parts->day;
+    moment.hour = (int32_t)parts->hour;
+    moment.minute = (int32_t)parts->minute;
+    moment.second = (int32_t)parts->second;
+    moment.micros = (int32_t)parts->micros;
+    return moment;
+}
+
+/* sorbilgan_write, and below it sorbilgan_write_by, with a moment in place of seven numbers. */
+static inline uint8_t sorbilgan_write_moment(const char *template_text, size_t template_length,
+                                             const struct sorbilgan_moment *moment, char *text, size_t room,
+                                             struct sorbilgan_value_answer *answer) {
+    return sorbilgan_write(template_text, template_length, moment->year, moment->month, moment->day, moment->hour,
+                           moment->minute, moment->second, moment->micros, text, room, answer);
+}
+
+static inline uint8_t sorbilgan_write_moment_by(const uint8_t *nodes, size_t nodes_length, const char *template_text,
+                                                size_t template_length, const struct sorbilgan_moment *moment,
+                                                char *text, size_t room, struct sorbilgan_value_answer *answer) {
+    return sorbilgan_write_by(nodes, nodes_length, template_text, template_length, moment->year, moment->month,
+                              moment->day, moment->hour, moment->minute, moment->second, moment->micros, text, room,
+                              answer);
+}
 
 #ifdef __cplusplus
 }

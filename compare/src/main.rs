@@ -37,9 +37,7 @@ fn main() -> io::Result<()> {
         ["parts"] => lines::each(&mut out, |line| answers::line(line, answers::parts))?,
         ["instants"] => lines::each(&mut out, |line| answers::line(line, answers::instant))?,
         ["days"] => lines::each(&mut out, |line| answers::line(line, answers::date))?,
-        ["written"] => {
-            lines::each(&mut out, |line| answers::line(answers::without_return(line), answers::written))?
-        }
+        ["written"] => lines::each(&mut out, |line| answers::line(answers::without_return(line), answers::written))?,
         ["back"] => lines::each(&mut out, answers::back)?,
         ["fields"] => lines::each(&mut out, answers::fields)?,
         _ => {

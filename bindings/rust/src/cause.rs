@@ -1,3 +1,6 @@
+use std::error::Error;
+use std::fmt;
+
 /// Why a line, a template or a moment is refused.
 ///
 /// What a [`Refusal`](crate::Refusal) has beside its cause is said at each: its pattern, and its figures in their
@@ -16,6 +19,7 @@
 /// ```
 #[derive(Debug, Clone, Copy, PartialEq, Eq, PartialOrd, Ord, Hash)]
 #[non_exhaustive]
+#[cfg_attr(feature = "serde", derive(serde::Serialize, serde::Deserialize), serde(into = "u8", try_from = "u8"))]
 #[repr(u8)]
 pub enum Cause {
     /// The template is over 256 bytes, or the input over 512.
@@ -63,15 +67,15 @@ pub enum Cause {
 }
 
 impl Cause {
-    /// Every cause, by number.
+    /// Every cause, by number. Later versions may have more.
     ///
     /// ```
     /// use sorbilgan::Cause;
     ///
-    /// assert_eq!(Cause::ALL.len(), 21);
     /// assert_eq!(Cause::ALL[0], Cause::TooLong);
+    /// assert!(Cause::ALL.iter().map(|cause| cause.number()).eq(1..=21));
     /// ```
-    pub const ALL: [Cause; 21] = [
+    pub const ALL: &'static [Cause] = &[
         Cause::TooLong,
         Cause::NotUtf8,
         Cause::MixedDates,
@@ -100,7 +104,84 @@ impl Cause {
     /// ```
     /// assert_eq!(sorbilgan::Cause::FieldOverflow.number(), 15);
     /// ```
+    #[must_use]
     pub const fn number(self) -> u8 {
         self as u8
     }
 }
+
+/// The cause in the words of the README's table of refusals. [`Refusal`](crate::Refusal) has a whole sentence.
+///
+/// ```
+/// assert_eq!(sorbilgan::Cause::NotInteger.to_string(), "no integer");
+/// ```
+impl fmt::Display for Cause {
+    fn fmt(&self, f: &mut fmt::Formatter<'_>) -> fmt::Result {
+        f.pad(match self {
+            Cause::TooLong => "template over 256 bytes or input over 512",
+            Cause::NotUtf8 => "either is not UTF-8",
+            Cause::MixedDates => "Gregorian and ISO patterns mixed",
+            Cause::Conflict => "field set before to another value",
+            Cause::Short => "fixed width, input shorter",
+            Cause::Narrow => "fixed width, fewer bytes parsed",
+            Cause::NotInteger => "no integer",
+            Cause::OutOfRange => "outside signed 32 bits",
+            Cause::NoWord => "none of the listed words",
+            Cause::NotTwoNumbers => "Y,YYY without both numbers",
+            Cause::YearOutOfRange => "Y,YYY outside 32 bits",
+            Cause::ZoneLetter => "a letter at TZ or tz",
+            Cause::HourOfTwelve => "12-hour clock, hour outside 1 to 12",
+            Cause::NoYear => "day of the year, and no year",
+            Cause::FieldOverflow => "field value overflow",
+            Cause::OffsetRange => "offset hours outside 0 to 15 or minutes outside 0 to 59",
+            Cause::InstantRange => "instant: outside 64 bits, or at one of their ends",
+            Cause::DateRange => "date: outside 32 bits, or at one of their ends",
+            Cause::NotWritten => "write: a pattern that is not written, the full name of a month without FM, or any other prefix or suffix",
+            Cause::NoMoment => "write: no moment of the years 1 to 9999",
+            Cause::NoRoom => "write: a text longer than its buffer",
+        })
+    }
+}
+
+/// The number of a cause.
+impl From<Cause> for u8 {
+    fn from(cause: Cause) -> u8 {
+        cause.number()
+    }
+}
+
+/// The cause of a number, as the line program and C have it.
+///
+/// ```
+/// use sorbilgan::Cause;
+///
+/// assert_eq!(Cause::try_from(15), Ok(Cause::FieldOverflow));
+/// assert_eq!(Cause::try_from(0).unwrap_err().to_string(), "no refusal has the number 0");
+/// ```
+impl TryFrom<u8> for Cause {
+    type Error = TryFromNumberError;
+
+    fn try_from(number: u8) -> Result<Cause, TryFromNumberError> {
+        let cause = usize::from(number).checked_sub(1).and_then(|index| Cause::ALL.get(index));
+        cause.copied().ok_or(TryFromNumberError(number))
+    }
+}
+
+/// No refusal of this version has the number.
+///
+/// ```
+/// use sorbilgan::{Cause, TryFromNumberError};
+///
+/// let error: TryFromNumberError = Cause::try_from(255).unwrap_err();
+/// assert_eq!(error.to_string(), "no refusal has the number 255");
+/// ```
+#[derive(Debug, Clone, Copy, PartialEq, Eq, Hash)]
+pub struct TryFromNumberError(u8);
+
+impl fmt::Display for TryFromNumberError {
+    fn fmt(&self, f: &mut fmt::Formatter<'_>) -> fmt::Result {
+        write!(f, "no refusal has the number {}", self.0)
+    }
+}
+
+impl Error for TryFromNumberError {}

@@ -40,24 +40,58 @@
 //!
 //! Where a template or an input is asked for, text and bytes are both taken: a learner's line need not be UTF-8 to be
 //! answered.
+//!
+//! # Versions
+//!
+//! Later versions have more causes, parts and functions: match on [`Cause`] with a last arm `_`, and take [`Parts`] apart
+//! with `..`. A library of another version than this crate's is an error when it is built.
+//!
+//! # Features
+//!
+//! The package in `bindings/rust` needs no crate of others. That in `bindings/rust-features` is the same crate with three
+//! features, none of them on by default:
+//!
+//! - `serde`: [`Moment`], [`Parts`], [`Cause`] as its number and [`Template`] as its text are `Serialize` and
+//!   `Deserialize`; [`Refusal`] is `Serialize`.
+//! - `chrono`: [`Moment`] from and to `NaiveDateTime`, and [`Parts`] to `DateTime<FixedOffset>`.
+//! - `time`: [`Moment`] from and to `PrimitiveDateTime`, and [`Parts`] to `OffsetDateTime`.
+//!
+//! Each conversion is a `TryFrom` that loses nothing.
 
 #![deny(unsafe_code)]
 #![warn(missing_docs)]
 
 mod cause;
+#[cfg(any(feature = "chrono", feature = "time"))]
+mod conversions;
 mod ffi;
 mod moment;
 mod once;
 mod parts;
 mod refusal;
 mod template;
+#[cfg(feature = "chrono")]
+mod with_chrono;
+#[cfg(feature = "serde")]
+mod with_serde;
+#[cfg(feature = "time")]
+mod with_time;
 
-pub use cause::Cause;
+pub use cause::{Cause, TryFromNumberError};
+#[cfg(any(feature = "chrono", feature = "time"))]
+pub use conversions::ConversionError;
 pub use moment::{Moment, TryFromPartsError};
-pub use once::{date, format, instant, read, write};
+pub use once::{date, format, instant, read, system_time, write};
 pub use parts::Parts;
 pub use refusal::Refusal;
 pub use template::Template;
+
+/// The version of the library, as `sorbilgan_version()` answers in C.
+///
+/// ```
+/// assert_eq!(sorbilgan::VERSION, 1);
+/// ```
+pub const VERSION: u32 = sorbilgan_sys::VERSION;
 
 /// The most bytes of a template.
 ///

@@ -4,7 +4,7 @@ use std::fmt;
 
 /// What is written: a date and a time of day, without an offset.
 ///
-/// Any numbers can stand here. The writer tests them and refuses what is no moment of the years 1 to 9999
+/// Any numbers may be here. The writer tests them and refuses what is no moment of the years 1 to 9999
 /// ([`Cause::NoMoment`](crate::Cause::NoMoment)).
 ///
 /// ```
@@ -18,6 +18,7 @@ use std::fmt;
 /// # Ok::<(), sorbilgan::Refusal>(())
 /// ```
 #[derive(Debug, Clone, Copy, PartialEq, Eq, PartialOrd, Ord, Hash)]
+#[cfg_attr(feature = "serde", derive(serde::Serialize, serde::Deserialize))]
 pub struct Moment {
     /// The year, 1 to 9999.
     pub year: i32,
@@ -44,13 +45,14 @@ impl Moment {
     /// let noon = Moment { hour: 12, ..Moment::midnight(2024, 2, 29) };
     /// assert!(Moment::midnight(2024, 2, 29) < noon);
     /// ```
+    #[must_use]
     pub const fn midnight(year: i32, month: i32, day: i32) -> Moment {
         Moment { year, month, day, hour: 0, minute: 0, second: 0, micros: 0 }
     }
 }
 
-/// The moment of what was read, unless that has an offset or a precision, which a moment has not. Whether its numbers
-/// are a moment is left to the writer.
+/// The moment of what was read, where nothing is lost: without an offset, and with a precision (`FF1` to `FF6`) only
+/// where the microseconds have no more digits. Whether its numbers are a moment is left to the writer.
 ///
 /// ```
 /// use sorbilgan::{format, read, Moment};
@@ -58,6 +60,8 @@ impl Moment {
 /// let moment = Moment::try_from(read("DD.MM.YYYY", "29.02.2024")?)?;
 /// assert_eq!(format("YYYY-MM-DD", &moment)?, "2024-02-29");
 ///
+/// assert!(Moment::try_from(read("SS.FF3", "5.250")?).is_ok());
+/// assert!(Moment::try_from(read("SS.FF3", "5.2505")?).is_err());
 /// assert!(Moment::try_from(read("HH24:MI TZH", "21:05 +07")?).is_err());
 /// # Ok::<(), Box<dyn std::error::Error>>(())
 /// ```
@@ -66,21 +70,22 @@ impl TryFrom<Parts> for Moment {
 
     fn try_from(parts: Parts) -> Result<Moment, TryFromPartsError> {
         let Parts { year, month, day, hour, minute, second, micros, precision, offset } = parts;
-        if precision != 0 || offset.is_some() {
+        let whole = precision == 0 || micros % 10_i32.pow(6 - precision.clamp(0, 6) as u32) == 0;
+        if !whole || offset.is_some() {
             return Err(TryFromPartsError(()));
         }
         Ok(Moment { year, month, day, hour, minute, second, micros })
     }
 }
 
-/// The parts have an offset or a precision, which a moment would lose.
+/// The parts have an offset, or more digits than their precision: a moment has neither.
 ///
 /// ```
 /// use sorbilgan::{read, Moment, TryFromPartsError};
 ///
 /// let zoned = read("HH24 TZH", "21 +07")?;
 /// let error: TryFromPartsError = Moment::try_from(zoned).unwrap_err();
-/// assert_eq!(error.to_string(), "a moment has no offset and no precision");
+/// assert_eq!(error.to_string(), "a moment has no offset, and no digits beyond a precision");
 /// # Ok::<(), sorbilgan::Refusal>(())
 /// ```
 #[derive(Debug, Clone, Copy, PartialEq, Eq, Hash)]
@@ -88,7 +93,7 @@ pub struct TryFromPartsError(());
 
 impl fmt::Display for TryFromPartsError {
     fn fmt(&self, f: &mut fmt::Formatter<'_>) -> fmt::Result {
-        f.write_str("a moment has no offset and no precision")
+        f.write_str("a moment has no offset, and no digits beyond a precision")
     }
 }
 

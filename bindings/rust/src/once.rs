@@ -1,6 +1,7 @@
 //! The answers for a template that is used once: it is compiled on the stack, at each call.
 
 use crate::{ffi, Moment, Parts, Refusal, INPUT_LIMIT};
+use std::time::{Duration, SystemTime, UNIX_EPOCH};
 
 /// Reads the parts of an input, as [`Template::read`](crate::Template::read) does.
 ///
@@ -14,7 +15,7 @@ use crate::{ffi, Moment, Parts, Refusal, INPUT_LIMIT};
 /// # Ok::<(), sorbilgan::Refusal>(())
 /// ```
 pub fn read(template: impl AsRef<[u8]>, input: impl AsRef<[u8]>) -> Result<Parts, Refusal> {
-    ffi::PARTS.by_text(template.as_ref(), input.as_ref()).map(Parts::from)
+    ffi::PARTS.by_text(template.as_ref(), input.as_ref()).map(Parts::answered)
 }
 
 /// Reads the instant of an input, as [`Template::instant`](crate::Template::instant) does.
@@ -28,7 +29,30 @@ pub fn read(template: impl AsRef<[u8]>, input: impl AsRef<[u8]>) -> Result<Parts
 /// # Ok::<(), sorbilgan::Refusal>(())
 /// ```
 pub fn instant(template: impl AsRef<[u8]>, input: impl AsRef<[u8]>) -> Result<i64, Refusal> {
-    ffi::INSTANT.by_text(template.as_ref(), input.as_ref())
+    ffi::INSTANT.by_text(template.as_ref(), input.as_ref()).map(|answer| answer.value)
+}
+
+/// The time of an instant, before and after 1970.
+///
+/// ```
+/// use sorbilgan::{instant, system_time};
+/// use std::time::{Duration, UNIX_EPOCH};
+///
+/// assert_eq!(system_time(instant("YYYY", "1970")?), UNIX_EPOCH);
+///
+/// let days = |count: u64| Duration::from_secs(86_400 * count);
+/// assert_eq!(system_time(instant("YYYY", "1960")?), UNIX_EPOCH - days(3653));
+/// assert_eq!(system_time(instant("YYYY", "1980")?), UNIX_EPOCH + days(3652));
+/// # Ok::<(), sorbilgan::Refusal>(())
+/// ```
+#[must_use]
+pub fn system_time(instant: i64) -> SystemTime {
+    let distance = Duration::from_micros(instant.unsigned_abs());
+    if instant < 0 {
+        UNIX_EPOCH - distance
+    } else {
+        UNIX_EPOCH + distance
+    }
 }
 
 /// Reads the date of an input, as [`Template::date`](crate::Template::date) does.
@@ -42,7 +66,7 @@ pub fn instant(template: impl AsRef<[u8]>, input: impl AsRef<[u8]>) -> Result<i6
 /// # Ok::<(), sorbilgan::Refusal>(())
 /// ```
 pub fn date(template: impl AsRef<[u8]>, input: impl AsRef<[u8]>) -> Result<i32, Refusal> {
-    ffi::DATE.by_text(template.as_ref(), input.as_ref()).map(|days| days as i32)
+    ffi::DATE.by_text(template.as_ref(), input.as_ref()).map(|answer| answer.value as i32)
 }
 
 /// Writes a moment to the front of a buffer, as [`Template::write`](crate::Template::write) does.
@@ -58,7 +82,7 @@ pub fn date(template: impl AsRef<[u8]>, input: impl AsRef<[u8]>) -> Result<i32, 
 /// # Ok::<(), sorbilgan::Refusal>(())
 /// ```
 pub fn write(template: impl AsRef<[u8]>, moment: &Moment, text: &mut [u8]) -> Result<usize, Refusal> {
-    ffi::write(template.as_ref(), moment, text).map(|length| length as usize)
+    ffi::write(template.as_ref(), moment, text)
 }
 
 /// The text of a moment, as [`Template::format`](crate::Template::format) gives it.

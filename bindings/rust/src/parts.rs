@@ -1,11 +1,12 @@
-use crate::ffi::RawParts;
 use crate::Moment;
+use sorbilgan_sys::PartsAnswer;
 
 /// What is read: the parts of a moment.
 ///
 /// A part that the template does not name, or names and finds to be 0, has the value that it would have at the start
 /// of year 0: month and day 1, all others 0. The ranges are proved: month 1 to 12, day 1 to 31, hour 0 to 23, minute
 /// and second 0 to 59, microseconds 0 to 999,999; and where year, month and day are all read, the month has that day.
+/// Later versions may have more parts.
 ///
 /// ```
 /// use sorbilgan::{read, Parts};
@@ -18,6 +19,8 @@ use crate::Moment;
 /// # Ok::<(), sorbilgan::Refusal>(())
 /// ```
 #[derive(Debug, Clone, Copy, PartialEq, Eq, Hash)]
+#[cfg_attr(feature = "serde", derive(serde::Serialize, serde::Deserialize))]
+#[non_exhaustive]
 pub struct Parts {
     /// The year; negative before year 0, which is 1 BC.
     pub year: i32,
@@ -40,8 +43,9 @@ pub struct Parts {
     pub offset: Option<i32>,
 }
 
-impl From<RawParts> for Parts {
-    fn from(raw: RawParts) -> Parts {
+impl Parts {
+    /// What the library answers to an input that it accepts.
+    pub(crate) fn answered(raw: PartsAnswer) -> Parts {
         Parts {
             year: raw.year as i32,
             month: raw.month as i32,

@@ -1,10 +1,11 @@
 use crate::{ffi, Cause};
+use sorbilgan_sys::{Report, NO_PATTERN};
 use std::error::Error;
 use std::fmt;
 use std::sync::LazyLock;
 
 /// The names of the library's own table, asked for once.
-static NAMES: LazyLock<Vec<String>> = LazyLock::new(|| (0..ffi::PATTERNS).map(ffi::pattern).collect());
+static NAMES: LazyLock<Vec<String>> = LazyLock::new(|| (0..NO_PATTERN).map(ffi::pattern).collect());
 
 /// What was refused: the cause, the pattern at which it was met, and two figures.
 ///
@@ -20,18 +21,21 @@ static NAMES: LazyLock<Vec<String>> = LazyLock::new(|| (0..ffi::PATTERNS).map(ff
 /// assert_eq!(refusal.figures(), [2, 1]);
 /// assert_eq!(refusal.to_string(), "MM takes 2 bytes, and the input has 1 left");
 /// ```
-#[derive(Debug, Clone, Copy, PartialEq, Eq, Hash)]
+#[derive(Debug, Clone, Copy, PartialEq, Eq, PartialOrd, Ord, Hash)]
+#[cfg_attr(feature = "serde", derive(serde::Serialize))]
 pub struct Refusal {
+    #[cfg_attr(feature = "serde", serde(rename = "number"))]
     cause: Cause,
     pattern: Option<&'static str>,
     figures: [i64; 2],
 }
 
 impl Refusal {
-    /// By the report of the library, whose numbers are those of the causes.
-    pub(crate) fn reported(number: u8, pattern: u8, figures: [i64; 2]) -> Refusal {
-        let cause = Cause::ALL[usize::from(number) - 1];
-        Refusal { cause, pattern: NAMES.get(usize::from(pattern)).map(String::as_str), figures }
+    /// By the report of the library. Its version is this crate's, or it would not link; so its numbers are the causes'.
+    pub(crate) fn reported(number: u8, report: &Report) -> Refusal {
+        let cause = Cause::try_from(number).expect("the numbers of this crate's version");
+        let pattern = NAMES.get(report.pattern as usize).map(String::as_str);
+        Refusal { cause, pattern, figures: [report.first_figure, report.second_figure] }
     }
 
     /// A cause that has neither pattern nor figures.
@@ -44,6 +48,7 @@ impl Refusal {
     /// ```
     /// assert_eq!(sorbilgan::read("YYYY-MM-DD", "2023-02-29").unwrap_err().number(), 15);
     /// ```
+    #[must_use]
     pub const fn number(&self) -> u8 {
         self.cause.number()
     }
@@ -55,6 +60,7 @@ impl Refusal {
     ///
     /// assert_eq!(read("YYYY-MM-DD", "2023-02-29").unwrap_err().cause(), Cause::FieldOverflow);
     /// ```
+    #[must_use]
     pub const fn cause(&self) -> Cause {
         self.cause
     }
@@ -67,6 +73,7 @@ impl Refusal {
     /// assert_eq!(read("DD Month", "5 Thermidor").unwrap_err().pattern(), Some("Month"));
     /// assert_eq!(read("HH12", "13").unwrap_err().pattern(), None);
     /// ```
+    #[must_use]
     pub const fn pattern(&self) -> Option<&'static str> {
         self.pattern
     }
@@ -78,6 +85,7 @@ impl Refusal {
     ///
     /// assert_eq!(read("HH12", "13").unwrap_err().figures(), [13, 0]);
     /// ```
+    #[must_use]
     pub const fn figures(&self) -> [i64; 2] {
         self.figures
     }
@@ -106,7 +114,9 @@ impl fmt::Display for Refusal {
             Cause::OffsetRange => write!(f, "an offset of more than 15 hours or 59 minutes"),
             Cause::InstantRange => write!(f, "an instant outside 64 bits"),
             Cause::DateRange => write!(f, "a day outside 32 bits"),
-            Cause::NotWritten => write!(f, "{pattern} cannot be written, or only with another prefix or suffix, or none"),
+            Cause::NotWritten => {
+                write!(f, "{pattern} cannot be written, or only with another prefix or suffix, or none")
+            }
             Cause::NoMoment => write!(f, "no moment of the years 1 to 9999"),
             Cause::NoRoom => write!(f, "the text needs {first} bytes"),
         }

@@ -18,8 +18,22 @@ use std::str::{self, FromStr};
 /// assert_eq!(marked, [true, false, false]);
 /// # Ok::<(), sorbilgan::Refusal>(())
 /// ```
-#[derive(Clone, PartialEq, Eq, Hash)]
+///
+/// A template that a program always has can be compiled at its first use, and kept:
+///
+/// ```
+/// use sorbilgan::Template;
+/// use std::sync::LazyLock;
+///
+/// static ISO: LazyLock<Template> = LazyLock::new(|| Template::compile("YYYY-MM-DD").expect("a short template"));
+///
+/// assert_eq!(ISO.date("2024-02-29"), Ok(19_782));
+/// ```
+///
+/// Templates are equal, and ordered, by their texts.
+#[derive(Clone, PartialEq, Eq, PartialOrd, Ord, Hash)]
 pub struct Template {
+    // first: the text decides the nodes
     text: Box<str>,
     nodes: Box<[u8]>,
 }
@@ -53,6 +67,7 @@ impl Template {
     /// assert_eq!(Template::compile("YYYY-MM-DD")?.as_str(), "YYYY-MM-DD");
     /// # Ok::<(), sorbilgan::Refusal>(())
     /// ```
+    #[must_use]
     pub fn as_str(&self) -> &str {
         &self.text
     }
@@ -73,29 +88,28 @@ impl Template {
     /// # Ok::<(), sorbilgan::Refusal>(())
     /// ```
     pub fn read(&self, input: impl AsRef<[u8]>) -> Result<Parts, Refusal> {
-        self.answer(&ffi::PARTS, input.as_ref()).map(Parts::from)
+        self.answer(&ffi::PARTS, input.as_ref()).map(Parts::answered)
     }
 
-    /// Reads the instant of an input: microseconds since 1970-01-01 UTC. An input without an offset is read as UTC.
+    /// Reads the instant of an input: microseconds since 1970-01-01 UTC, negative before. An input without an offset is
+    /// read as UTC. [`system_time`](crate::system_time) turns it into a [`SystemTime`](std::time::SystemTime).
     ///
     /// # Errors
     ///
     /// The causes 1 to 17.
     ///
     /// ```
-    /// use sorbilgan::Template;
-    /// use std::time::{Duration, UNIX_EPOCH};
+    /// use sorbilgan::{system_time, Template};
+    /// use std::time::SystemTime;
     ///
     /// let template = Template::compile("YYYY-MM-DD HH24:MI TZH")?;
     /// let micros = template.instant("2024-02-29 21:05 +07")?;
     /// assert_eq!(micros, 1_709_215_500_000_000);
-    ///
-    /// let time = UNIX_EPOCH + Duration::from_micros(micros.unsigned_abs());
-    /// # assert_eq!(time.duration_since(UNIX_EPOCH).unwrap().as_secs(), 1_709_215_500);
+    /// assert!(system_time(micros) < SystemTime::now());
     /// # Ok::<(), sorbilgan::Refusal>(())
     /// ```
     pub fn instant(&self, input: impl AsRef<[u8]>) -> Result<i64, Refusal> {
-        self.answer(&ffi::INSTANT, input.as_ref())
+        self.answer(&ffi::INSTANT, input.as_ref()).map(|answer| answer.value)
     }
 
     /// Reads the date of an input: days since 1970-01-01.
@@ -112,10 +126,10 @@ impl Template {
     /// # Ok::<(), sorbilgan::Refusal>(())
     /// ```
     pub fn date(&self, input: impl AsRef<[u8]>) -> Result<i32, Refusal> {
-        self.answer(&ffi::DATE, input.as_ref()).map(|days| days as i32)
+        self.answer(&ffi::DATE, input.as_ref()).map(|answer| answer.value as i32)
     }
 
-    fn answer<Answer: Default>(&self, reader: &ffi::Reader<Answer>, input: &[u8]) -> Result<Answer, Refusal> {
+    fn answer<A: ffi::Answer>(&self, reader: &ffi::Reader<A>, input: &[u8]) -> Result<A, Refusal> {
         reader.by_nodes(&self.nodes, self.text.as_bytes(), input)
     }
 
@@ -140,7 +154,7 @@ impl Template {
     /// # Ok::<(), sorbilgan::Refusal>(())
     /// ```
     pub fn write(&self, moment: &Moment, text: &mut [u8]) -> Result<usize, Refusal> {
-        ffi::write_by(&self.nodes, self.text.as_bytes(), moment, text).map(|length| length as usize)
+        ffi::write_by(&self.nodes, self.text.as_bytes(), moment, text)
     }
 
     /// The text of a moment. One over [`INPUT_LIMIT`](crate::INPUT_LIMIT) bytes, which could not be read back, is
@@ -167,6 +181,19 @@ impl Template {
     /// ```
     pub fn format(&self, moment: &Moment) -> Result<String, Refusal> {
         once::text_of(|text| self.write(moment, text))
+    }
+}
+
+/// The text that it was compiled from.
+///
+/// ```
+/// let template = sorbilgan::Template::compile("HH24:MI")?;
+/// assert_eq!(AsRef::<str>::as_ref(&template), "HH24:MI");
+/// # Ok::<(), sorbilgan::Refusal>(())
+/// ```
+impl AsRef<str> for Template {
+    fn as_ref(&self) -> &str {
+        &self.text
     }
 }
 

@@ -1,13 +1,14 @@
-//! include/sorbilgan.h says what this crate says: the numbers of the refusals, and the functions that `src/ffi.rs`
-//! declares, which other tests call.
+//! include/sorbilgan.h says what these crates say: the version, the numbers of the refusals, and the functions that
+//! `rust-sys/src/lib.rs` declares, which other tests call.
 
-use sorbilgan::Cause;
+use sorbilgan::{Cause, INPUT_LIMIT, TEMPLATE_LIMIT, VERSION};
+use sorbilgan_sys::{sorbilgan_version, sorbilgan_version_1, NAME, NODES, NO_PATTERN};
 use std::collections::BTreeMap;
 
 const HEADER: &str = include_str!("../../../include/sorbilgan.h");
-const DECLARATIONS: &str = include_str!("../src/ffi.rs");
+const DECLARATIONS: &str = include_str!("../../rust-sys/src/lib.rs");
 
-/// `NotUtf8` is `SORBILGAN_NOT_UTF8`, under the same number.
+/// `SORBILGAN_OK` is 0, and `NotUtf8` is `SORBILGAN_NOT_UTF8`, under the same number.
 #[test]
 fn the_same_causes() {
     let named = |line: &str| {
@@ -16,23 +17,50 @@ fn the_same_causes() {
         Some((name.replace('_', ""), number))
     };
     let found: Vec<_> = HEADER.lines().filter_map(named).collect();
-    let wanted = Cause::ALL.map(|cause| (format!("{cause:?}").to_uppercase(), cause.number().to_string()));
+    let cause = |cause: &Cause| (format!("{cause:?}").to_uppercase(), cause.number().to_string());
+    let wanted: Vec<_> =
+        [("OK".to_string(), "0".to_string())].into_iter().chain(Cause::ALL.iter().map(cause)).collect();
     assert_eq!(found, wanted);
 }
 
+#[test]
+fn the_same_sizes() {
+    let named = |line: &'static str| {
+        let (name, number) = line.strip_prefix("#define SORBILGAN_")?.split_once(' ')?;
+        Some((name, number.parse().unwrap()))
+    };
+    let found: Vec<(&str, usize)> = HEADER.lines().filter_map(named).collect();
+    let wanted = [
+        ("VERSION", VERSION as usize),
+        ("TEMPLATE_LIMIT", TEMPLATE_LIMIT),
+        ("INPUT_LIMIT", INPUT_LIMIT),
+        ("NODES", NODES),
+        ("NO_PATTERN", NO_PATTERN.into()),
+        ("NAME", NAME),
+    ];
+    assert_eq!(found, wanted);
+}
+
+#[test]
+fn the_same_version() {
+    assert_eq!([sorbilgan_version(), sorbilgan_version_1()], [VERSION; 2]);
+    assert!(HEADER.contains(&format!("= sorbilgan_version_{VERSION};")));
+}
+
 /// A type of Rust and its name in C; in an argument it is around the argument's name.
-const TYPES: [(&str, &str); 11] = [
+const TYPES: [(&str, &str); 12] = [
     ("*const u8", "const char *"),
     ("*const u8", "const uint8_t *"),
     ("*mut u8", "char *"),
     ("usize", "size_t"),
     ("u8", "uint8_t"),
+    ("u32", "uint32_t"),
     ("i32", "int32_t"),
     ("i64", "int64_t"),
-    ("&mut Record<RawParts>", "struct sorbilgan_parts_answer *"),
-    ("&mut Record<i64>", "struct sorbilgan_value_answer *"),
-    ("&mut [u8; NODES]", "uint8_t [SORBILGAN_NODES]"),
-    ("&mut [u8; NAME]", "char [SORBILGAN_NAME]"),
+    ("*mut PartsAnswer", "struct sorbilgan_parts_answer *"),
+    ("*mut ValueAnswer", "struct sorbilgan_value_answer *"),
+    ("*mut [u8; NODES]", "uint8_t [SORBILGAN_NODES]"),
+    ("*mut [u8; NAME]", "char [SORBILGAN_NAME]"),
 ];
 
 fn in_rust(c: &str) -> &'static str {
@@ -55,7 +83,8 @@ fn of_header() -> Functions {
         let part = part.rsplit("*/").next()?.trim();
         let (head, arguments) = part.strip_suffix(");")?.split_once('(')?;
         let (answer, name) = head.split_once(' ')?;
-        let arguments = arguments.split(',').map(|argument| in_rust(&c_type(argument.trim())));
+        let arguments = arguments.split(',').filter(|argument| *argument != "void");
+        let arguments = arguments.map(|argument| in_rust(&c_type(argument.trim())));
         Some((name.to_string(), arguments.chain([in_rust(answer)]).map(str::to_string).collect()))
     });
     declared.collect()
@@ -76,5 +105,5 @@ fn of_crate() -> Functions {
 fn the_same_functions() {
     let (header, rust) = (of_header(), of_crate());
     assert_eq!(header, rust);
-    assert_eq!(header.len(), 10);
+    assert_eq!(header.len(), 12);
 }

@@ -50,5 +50,5 @@ fn what_is_accepted() {
 fn every_refusal_has_its_row() {
     let readme = readme();
     let numbers = readme.lines().filter_map(|line| line.strip_prefix("| ")?.split_once(" |")?.0.parse::<u8>().ok());
-    assert!(numbers.eq(Cause::ALL.map(Cause::number)));
+    assert!(numbers.eq(Cause::ALL.iter().map(|cause| cause.number())));
 }

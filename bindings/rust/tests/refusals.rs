@@ -37,11 +37,15 @@ fn every_cause() {
         (parts("OF", "+16"), none, "an offset of more than 15 hours or 59 minutes"),
         (instant("YYYY", "294248").map(drop), none, "an instant outside 64 bits"),
         (date("YYYY-MM-DD", "5881580-07-11").map(drop), none, "a day outside 32 bits"),
-        (written("DD FMMM", LEAP_DAY), at("MM"), "MM cannot be written, or only with another prefix or suffix, or none"),
+        (
+            written("DD FMMM", LEAP_DAY),
+            at("MM"),
+            "MM cannot be written, or only with another prefix or suffix, or none",
+        ),
         (written("YYYY", no_leap_day), none, "no moment of the years 1 to 9999"),
         (written("YYYY-MM-DD", LEAP_DAY), (None, [10, 0]), "the text needs 10 bytes"),
     ];
-    for ((answer, (pattern, figures), sentence), cause) in cases.into_iter().zip(Cause::ALL) {
+    for ((answer, (pattern, figures), sentence), cause) in cases.into_iter().zip(Cause::ALL.iter().copied()) {
         let refusal = answer.expect_err(sentence);
         assert_eq!((refusal.cause(), refusal.number()), (cause, cause.number()));
         assert_eq!((refusal.pattern(), refusal.figures()), (pattern, figures), "{refusal}");

@@ -1,6 +1,6 @@
 //! Whether the exports answer as the ported module does.
 
-use crate::archive::{self, NODES};
+use crate::archive::{self, NAME, NODES};
 use oracle::answers::{Moment, records};
 use oracle::hex;
 use std::fmt::{self, Debug, Display};
@@ -35,9 +35,7 @@ fn same<T: PartialEq + Debug>(export: &'static str, wanted: T, found: T) -> Agre
 
 /// The record is filled as a whole, and its number is returned.
 fn answered<const WORDS: usize>(
-    export: &'static str,
-    wanted: [i64; WORDS],
-    call: impl FnOnce(&mut [i64; WORDS]) -> u8,
+    export: &'static str, wanted: [i64; WORDS], call: impl FnOnce(&mut [i64; WORDS]) -> u8,
 ) -> Agreement<()> {
     let mut found = [UNSET; WORDS];
     let number = call(&mut found);
@@ -85,7 +83,7 @@ pub fn read(template: &Template, input: &[u8]) -> Agreement<[i64; 3]> {
     Ok([parts[0], instant[0], date[0]])
 }
 
-/// What is written by a template for a moment, into a buffer of `room` bytes: the number and the text. Behind the
+/// What is written by a template for a moment, into a buffer of `room` bytes: the number and the text. After the
 /// text the buffer is as it was.
 pub fn write(template: &Template, moment: &Moment, room: usize) -> Agreement<(i64, String)> {
     let (wanted, text) = records::written(template.text, moment, room);
@@ -106,9 +104,9 @@ pub fn write(template: &Template, moment: &Moment, room: usize) -> Agreement<(i6
 pub fn patterns() -> Agreement<()> {
     for place in 0..=u8::MAX {
         let wanted = records::pattern(place).as_bytes();
-        let mut padded = [0; 5];
+        let mut padded = [0; NAME];
         padded[..wanted.len()].copy_from_slice(wanted);
-        let mut name = [FILLER; 5];
+        let mut name = [FILLER; NAME];
         let length = archive::pattern(place, &mut name);
         same("pattern", (wanted.len(), padded), (length, name))?;
     }

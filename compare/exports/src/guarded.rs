@@ -4,12 +4,7 @@ use std::ffi::{c_int, c_long, c_void};
 
 unsafe extern "C" {
     fn mmap(
-        at: *mut c_void,
-        length: usize,
-        protection: c_int,
-        flags: c_int,
-        file: c_int,
-        offset: c_long,
+        at: *mut c_void, length: usize, protection: c_int, flags: c_int, file: c_int, offset: c_long,
     ) -> *mut c_void;
     fn mprotect(at: *mut c_void, length: usize, protection: c_int) -> c_int;
 }

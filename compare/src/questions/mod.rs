@@ -10,7 +10,8 @@ use crate::random::Random;
 use std::collections::HashSet;
 
 pub fn all(seed: u64) -> Vec<String> {
-    let parts = [calendar::questions, integers::questions, templates::questions, characters::questions, lines::questions];
+    let parts =
+        [calendar::questions, integers::questions, templates::questions, characters::questions, lines::questions];
     // each part has numbers of its own, so that a change of one leaves the others as they are
     let mut seeds = Random::new(seed);
     let mut list = parts.map(|questions| questions(&mut Random::new(seeds.next()))).concat();

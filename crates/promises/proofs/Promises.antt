@@ -46,6 +46,7 @@ use Rattle.sorbilgan.proofs.sorbilgan_compile.Met as SorbilganCompile
 use Rattle.sorbilgan.proofs.sorbilgan_write.Met as SorbilganWrite
 use Rattle.sorbilgan.proofs.sorbilgan_write_by.Met as SorbilganWriteBy
 use Rattle.sorbilgan.proofs.sorbilgan_pattern.Met as SorbilganPattern
+use Rattle.sorbilgan.proofs.sorbilgan_version.Met as SorbilganVersion
 use Rattle.line_answers.proofs.answer.Met as AnswerLine
 use Rattle.line_texts.proofs.answer_lines.Met as AnswerLines
 use Rattle.promises.specs.Promises.{EveryAnswer, EveryEquation, RightAndSafe, EveryMoment, EveryTemplate, EveryRequest, Promises}
@@ -99,6 +100,7 @@ every-equation =
       sorbilgan-write-by = SorbilganWriteBy.met;
       sorbilgan-compile = SorbilganCompile.met;
       sorbilgan-pattern = SorbilganPattern.met;
+      sorbilgan-version = SorbilganVersion.met;
       answer = AnswerLine.met;
       answer-lines = AnswerLines.met;
       table = table;

@@ -55,6 +55,7 @@ use Rattle.sorbilgan.proofs.sorbilgan_compile.Statement as SorbilganCompile
 use Rattle.sorbilgan.proofs.sorbilgan_write.Statement as SorbilganWrite
 use Rattle.sorbilgan.proofs.sorbilgan_write_by.Statement as SorbilganWriteBy
 use Rattle.sorbilgan.proofs.sorbilgan_pattern.Statement as SorbilganPattern
+use Rattle.sorbilgan.proofs.sorbilgan_version.Statement as SorbilganVersion
 use Rattle.line_answers.proofs.answer.Statement as AnswerLine
 use Rattle.line_texts.proofs.answer_lines.Statement as AnswerLines
 
@@ -108,7 +109,7 @@ pub record EveryEquation : Type 2 where
   -- write t m = writtenTo t m, and by bytes as nodes writtenIn c t m; the buffer after it is bufferAfter
   pub write : {M : Type 1} → Write.statement M
   pub write-by : {M : Type 1} → WriteBy.statement M
-  -- the exports: the same answers as records, the bytes of a compiled template, and the name of a pattern
+  -- the exports: the same answers as records, the bytes of a compiled template, the name of a pattern, the version
   pub sorbilgan-parts : {M : Type 1} → SorbilganParts.statement M
   pub sorbilgan-parts-by : {M : Type 1} → SorbilganPartsBy.statement M
   pub sorbilgan-instant : {M : Type 1} → SorbilganInstant.statement M
@@ -119,6 +120,7 @@ pub record EveryEquation : Type 2 where
   pub sorbilgan-write-by : {M : Type 1} → SorbilganWriteBy.statement M
   pub sorbilgan-compile : {M : Type 1} → SorbilganCompile.statement M
   pub sorbilgan-pattern : {M : Type 1} → SorbilganPattern.statement M
+  pub sorbilgan-version : {M : Type 1} → SorbilganVersion.statement M
   -- the line program: answer mode line = answerLine mode line, and the lines of a text one after another, answersTo
   pub answer : {M : Type 1} → AnswerLine.statement M
   pub answer-lines : {M : Type 1} → AnswerLines.statement M

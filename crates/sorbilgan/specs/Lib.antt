@@ -1,9 +1,11 @@
 -- The exported functions.
 -- what compiling answers, and the buffer after it
 pub mod Compiled
--- a pattern's name in five bytes
+-- a pattern's name in six bytes, the last of them 0
 pub mod Name
 -- the record of a write, and the text's buffer after it
 pub mod Writing
 -- the promise that a compiled template answers as the template itself
 pub mod Once
+-- the version of the functions and records
+pub mod Version

@@ -1,6 +1,7 @@
 // The functions that other languages call. None asks anything of its caller.
 // Reading and writing fill a record of 64-bit numbers and return its first: 0, or the number of the refusal.
 mod names;
+mod version;
 mod writing;
 
 ghost use Rattle.moment_instants.specs.ByTemplate.{dateOf, dayBy, instantBy, timestampOf};
@@ -11,6 +12,8 @@ ghost use Rattle.sorbilgan_records.specs.Records.{Recorded, dayRecord, instantR
 use moment_parts::TEMPLATE_LIMIT;
 pub use names::sorbilgan_pattern;
 use template_nodes::NODE;
+pub use version::sorbilgan_version;
+pub use version::sorbilgan_version_1;
 pub use writing::sorbilgan_write;
 pub use writing::sorbilgan_write_by;
 

@@ -2,6 +2,7 @@
 
 use super::*;
 use crate::{Parts, TEMPLATE_LIMIT};
+use sorbilgan_sys::NO_PATTERN;
 
 #[allow(dead_code)]
 #[path = "../../../../compare/src/random.rs"]
@@ -35,7 +36,7 @@ fn any_nodes_are_read() {
         let nodes = nodes(&mut random, 60);
         let text = random.bytes(b"YMD-\"\xc3\xa0", 40);
         let input = random.bytes(b"0123456789 -+:.AM", 40);
-        match PARTS.by_nodes(&nodes, &text, &input).map(Parts::from) {
+        match PARTS.by_nodes(&nodes, &text, &input).map(Parts::answered) {
             Ok(parts) => {
                 assert!(in_range(&parts), "{parts:?}");
                 accepted += 1;
@@ -64,7 +65,7 @@ fn any_nodes_are_written() {
         let mut buffer = before.clone();
         match write_by(&nodes, &text, &Moment::midnight(2024, 2, 29), &mut buffer) {
             Ok(length) => {
-                assert_eq!(buffer[length as usize..], before[length as usize..]);
+                assert_eq!(buffer[length..], before[length..]);
                 accepted += 1;
             }
             Err(refusal) => {
@@ -84,7 +85,7 @@ fn more_nodes_than_a_template_has() {
     assert!(PARTS.by_nodes(&[0; NODES + 1], b"", b"").is_ok());
 }
 
-/// A pattern past the table is refused without a name, also where one behind it is not written.
+/// A pattern past the table is refused without a name, also where one after it is not written.
 #[test]
 fn no_pattern_is_not_written() {
     let nodes = [0, 0, 1, 1, 200, 0, 1, 0, 3, 1, 14, 0];
@@ -94,11 +95,11 @@ fn no_pattern_is_not_written() {
     }
 }
 
-/// The table ends where a report has no pattern; no place behind it has a name.
+/// The table ends where a report has no pattern; no place after it has a name. A final 0 always has room.
 #[test]
 fn names_of_patterns() {
-    let names: Vec<String> = (0..PATTERNS).map(pattern).collect();
-    assert!(names.iter().all(|name| (1..=NAME).contains(&name.len())));
-    assert_eq!(names.iter().collect::<std::collections::HashSet<_>>().len(), usize::from(PATTERNS));
-    assert!((PATTERNS..=u8::MAX).all(|place| pattern(place).is_empty()));
+    let names: Vec<String> = (0..NO_PATTERN).map(pattern).collect();
+    assert!(names.iter().all(|name| (1..NAME).contains(&name.len())));
+    assert_eq!(names.iter().collect::<std::collections::HashSet<_>>().len(), usize::from(NO_PATTERN));
+    assert!((NO_PATTERN..=u8::MAX).all(|place| pattern(place).is_empty()));
 }

@@ -1,5 +1,5 @@
--- `sorbilgan::names::sorbilgan_pattern` meets its contract: it stores the five letters that `letter` gives, and past
--- the table there is no name. Assumes nothing.
+-- `sorbilgan::names::sorbilgan_pattern` meets its contract: it stores the five letters that `letter` gives and a 0,
+-- and past the table there is no name. Assumes nothing.
 use mathlib.Core.Path.{_≡_, ap}
 use mathlib.Core.List.{[], _∷_}
 use Prim.Native.Nat.{ℕ, _≤_}
@@ -35,6 +35,7 @@ returns-2 c =
           ∷ at-third .letter3 .ensures i
           ∷ at-fourth .letter4 .ensures i
           ∷ at-fifth .letter5 .ensures i
+          ∷ 0
           ∷ [];
     }
 

@@ -1,0 +1,39 @@
+//! What is serialized, and what is refused when it is read again.
+
+use serde_json::{from_str, json, to_value};
+use sorbilgan::{read, Cause, Moment, Parts, Template};
+
+#[test]
+fn moments_and_parts() {
+    let moment = Moment { hour: 21, minute: 5, ..Moment::midnight(2024, 2, 29) };
+    let shown = json!({"year": 2024, "month": 2, "day": 29, "hour": 21, "minute": 5, "second": 0, "micros": 0});
+    assert_eq!(to_value(moment).unwrap(), shown);
+    assert_eq!(from_str::<Moment>(&shown.to_string()).unwrap(), moment);
+    assert!(from_str::<Moment>(r#"{"year": 2024}"#).is_err());
+
+    let parts = read("YYYY-MM-DD SS.FF3 TZH", "2024-02-29 05.25 -07").unwrap();
+    let shown = to_value(parts).unwrap();
+    assert_eq!((&shown["precision"], &shown["offset"]), (&json!(3), &json!(-25_200)));
+    assert_eq!(from_str::<Parts>(&shown.to_string()).unwrap(), parts);
+}
+
+#[test]
+fn templates_as_their_text() {
+    let template = Template::compile(r#""ngày "DD"#).unwrap();
+    let shown = to_value(&template).unwrap();
+    assert_eq!(shown, json!(r#""ngày "DD"#));
+    assert_eq!(from_str::<Template>(&shown.to_string()).unwrap(), template);
+    let long = json!("-".repeat(257)).to_string();
+    assert!(from_str::<Template>(&long).unwrap_err().to_string().starts_with("the template is over 256 bytes"));
+}
+
+#[test]
+fn causes_as_their_numbers() {
+    for cause in Cause::ALL {
+        assert_eq!(to_value(cause).unwrap(), json!(cause.number()));
+        assert_eq!(from_str::<Cause>(&cause.number().to_string()).unwrap(), *cause);
+    }
+    assert_eq!(from_str::<Cause>("22").unwrap_err().to_string(), "no refusal has the number 22");
+    let refusal = read("YYYYMMDD", "20242").unwrap_err();
+    assert_eq!(to_value(refusal).unwrap(), json!({"number": 5, "pattern": "MM", "figures": [2, 1]}));
+}
