@@ -1,0 +1,84 @@
+//! The mark of a line.
+
+use sorbilgan::{Moment, Parts, Refusal, Template, INPUT_LIMIT, TEMPLATE_LIMIT};
+
+/// The mark of a line, with what was read.
+#[derive(Debug, PartialEq)]
+pub enum Mark {
+    /// The line is the text that the template writes for what was read.
+    Ok(Parts),
+    /// It is accepted, but spelled otherwise: the expected text.
+    Otherwise(Parts, String),
+    /// It ends before the template does: what the template writes for what was read, if that can be written.
+    Incomplete(Parts, Option<String>),
+    /// It is accepted, and cannot be compared: the template or what was read cannot be written.
+    Accepted(Parts),
+    /// It is refused.
+    Refused(Refusal),
+}
+
+impl Mark {
+    /// The names of the marks, in the order in which they are counted.
+    pub const NAMES: [&'static str; 5] = ["ok", "otherwise", "incomplete", "accepted", "refused"];
+
+    /// Its place among the names.
+    pub fn place(&self) -> usize {
+        match self {
+            Mark::Ok(..) => 0,
+            Mark::Otherwise(..) => 1,
+            Mark::Incomplete(..) => 2,
+            Mark::Accepted(..) => 3,
+            Mark::Refused(..) => 4,
+        }
+    }
+
+    /// Its name.
+    pub fn name(&self) -> &'static str {
+        Mark::NAMES[self.place()]
+    }
+}
+
+/// Marks a line.
+pub fn mark(template: &Template, line: &[u8]) -> Mark {
+    let parts = match template.read(line) {
+        Ok(parts) => parts,
+        Err(refusal) => return Mark::Refused(refusal),
+    };
+    match written(template, parts) {
+        Some(text) if text.as_bytes() == line => Mark::Ok(parts),
+        text if !reaches_all(template, line) => Mark::Incomplete(parts, text),
+        Some(text) if text.as_bytes().starts_with(line) => Mark::Incomplete(parts, Some(text)),
+        Some(text) => Mark::Otherwise(parts, text),
+        None => Mark::Accepted(parts),
+    }
+}
+
+/// The refusal of a template that can write no moment. No text is shorter than that of a moment in May.
+pub fn never_written(template: &Template) -> Option<Refusal> {
+    template.format(&Moment::midnight(2000, 5, 1)).err()
+}
+
+/// What the template writes for what was read. Where no year was read, it is 0, which cannot be written: then it is
+/// the text of any year, if the template writes the same for two leap years.
+fn written(template: &Template, parts: Parts) -> Option<String> {
+    let moment = Moment::try_from(parts).ok()?;
+    if moment.year != 0 {
+        return template.format(&moment).ok();
+    }
+    let [text, other] = [2000, 2004].map(|year| template.format(&Moment { year, ..moment }).ok());
+    text.filter(|text| other.as_ref() == Some(text))
+}
+
+/// Whether the line, which is accepted, reaches all patterns of the template.
+///
+/// A pattern is not read where the input has ended. So the line is read again with letters q after it: each literal
+/// that was not reached takes one at most, and the first pattern that was not reached is refused, because none reads a
+/// q. What was reached is read as before, because no number, word or offset goes on with a q.
+///
+/// It cannot tell whether literals after the last pattern, or the two letters of its suffix TH, are missing: they take
+/// any characters, or none. [`mark`] sees that by the text, if the line is a beginning of it. And a line near the
+/// limit of an input may have no room for a q for each literal; it then seems to reach a pattern that it does not.
+fn reaches_all(template: &Template, line: &[u8]) -> bool {
+    let room = INPUT_LIMIT.saturating_sub(line.len()).min(TEMPLATE_LIMIT + 1);
+    template.read([line, &[b'q'; TEMPLATE_LIMIT + 1][..room]].concat()).is_ok()
+}

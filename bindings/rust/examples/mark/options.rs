@@ -1,0 +1,76 @@
+//! What is asked for on the command line.
+
+use std::ffi::{OsStr, OsString};
+use std::os::unix::ffi::OsStrExt;
+use std::path::Path;
+
+/// What `--help` writes.
+pub const HELP: &str = "\
+usage: mark [--json] TEMPLATE [FILE]
+
+Marks each line of FILE, or of standard input, by TEMPLATE. It writes a line for each, with a TAB between three
+columns: the mark, what there is to say about it, and the line as it is.
+
+  ok          the line is the text that the template writes for what was read; the date and time follow
+  otherwise   the line is accepted, but spelled otherwise; the expected text follows
+  incomplete  the line ends before the template does; what the template writes for what was read follows, if that can
+              be written: what is missing in the line has its default there
+  accepted    the line is accepted, and cannot be compared, because the template or what was read cannot be written;
+              the date and time follow
+  a number    the line is refused; the number is that of the cause, and the reason follows
+
+At the end the counts are on standard error.
+
+  --json      writes an object of JSON for each line: mark, line, moment (by ISO 8601; the year is 0000 if none was
+              read) and expected; or for a refused line mark, number, cause, pattern, figures, reason and line
+  --help      writes this
+  --          ends the options, so a template may begin with -
+
+The exit status is 0 if no line is refused and 1 if one is. It is 2 if the arguments are wrong, the template is refused,
+the file cannot be read or the output cannot be written.
+";
+
+/// How the marks are written.
+#[derive(Debug, Clone, Copy, PartialEq)]
+pub enum Form {
+    Text,
+    Json,
+}
+
+/// What is asked for. Without a file, the lines are those of standard input.
+#[derive(Debug, PartialEq)]
+pub enum Request<'a> {
+    Help,
+    Mark { form: Form, template: &'a OsStr, file: Option<&'a OsStr> },
+}
+
+/// What the arguments ask for, or what is wrong with them.
+pub fn request(arguments: &[OsString]) -> Result<Request<'_>, String> {
+    let end = arguments.iter().position(|argument| argument == "--").unwrap_or(arguments.len());
+    let (options, mut others): (Vec<&OsStr>, Vec<&OsStr>) =
+        arguments[..end].iter().map(OsString::as_os_str).partition(|argument| is_option(argument));
+    others.extend(arguments.iter().skip(end + 1).map(OsString::as_os_str));
+
+    if options.iter().any(|option| *option == "--help") {
+        return Ok(Request::Help);
+    }
+    if let Some(unknown) = options.iter().find(|option| **option != "--json") {
+        let unknown = Path::new(unknown).display();
+        return Err(usage(&format!("there is no option {unknown}; a template may begin with - after --")));
+    }
+    let form = if options.is_empty() { Form::Text } else { Form::Json };
+    match others[..] {
+        [template] => Ok(Request::Mark { form, template, file: None }),
+        [template, file] => Ok(Request::Mark { form, template, file: Some(file) }),
+        [] => Err(usage("the template is missing")),
+        _ => Err(usage("there are more arguments than a template and a file")),
+    }
+}
+
+fn is_option(argument: &OsStr) -> bool {
+    argument.len() > 1 && argument.as_bytes().starts_with(b"-")
+}
+
+fn usage(wrong: &str) -> String {
+    format!("{wrong}\nusage: mark [--json] TEMPLATE [FILE]; mark --help explains it")
+}
