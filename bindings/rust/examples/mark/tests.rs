@@ -3,6 +3,7 @@
 mod json;
 mod marks;
 mod program;
+mod readme;
 
 use crate::run;
 use std::ffi::OsString;
