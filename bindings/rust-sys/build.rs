@@ -23,8 +23,8 @@ fn link(library: &Path) {
     println!("cargo::rerun-if-changed={shown}");
     match fs::read(library).and_then(|bytes| Ok((bytes, library.canonicalize()?))) {
         Err(why) => println!(
-            "cargo::warning={shown}: {why}. Nothing can be linked: make it by ./build, or set SORBILGAN_LIB to the folder \
-             that has it"
+            "cargo::warning={shown}: {why}. Nothing can be linked without it. Make it by ./build, or set SORBILGAN_LIB to \
+             the folder that has it"
         ),
         Ok((bytes, _)) if !bytes.windows(VERSION.len()).any(|found| found == VERSION) => println!(
             "cargo::error={shown} is of another version than this crate, which needs version 1. Take both from one \

@@ -13,10 +13,10 @@ static const size_t template_length = sizeof template_text - 1;
 
 static void mark(const uint8_t *nodes, size_t nodes_length, const char *line) {
     struct sorbilgan_parts_answer answer;
-    char name[SORBILGAN_NAME + 1] = "";
+    char name[SORBILGAN_NAME];
 
     sorbilgan_parts_by(nodes, nodes_length, template_text, template_length, line, strlen(line), &answer);
-    if (answer.number == 0) {
+    if (answer.number == SORBILGAN_OK) {
         printf("%s: %04" PRId64 "-%02" PRId64 "-%02" PRId64 "\n", line, answer.year, answer.month, answer.day);
     } else if (sorbilgan_pattern((uint8_t)answer.pattern, name) > 0) {
         printf("%s: refusal %" PRId64 " at %s\n", line, answer.number, name);
@@ -26,7 +26,7 @@ static void mark(const uint8_t *nodes, size_t nodes_length, const char *line) {
 }
 
 static void print_text(const struct sorbilgan_value_answer *answer, const char *text) {
-    if (answer->number == 0) {
+    if (answer->number == SORBILGAN_OK) {
         printf("%.*s\n", (int)answer->value, text);
     } else {
         printf("refusal %" PRId64 "\n", answer->number);
@@ -34,10 +34,11 @@ static void print_text(const struct sorbilgan_value_answer *answer, const char *
 }
 
 static void print_leap_day(const uint8_t *nodes, size_t nodes_length) {
+    const struct sorbilgan_moment leap_day = {.year = 2024, .month = 2, .day = 29};
     struct sorbilgan_value_answer answer;
     char text[SORBILGAN_INPUT_LIMIT];
 
-    sorbilgan_write_by(nodes, nodes_length, template_text, template_length, 2024, 2, 29, 0, 0, 0, 0, text, sizeof text, &answer);
+    sorbilgan_write_moment_by(nodes, nodes_length, template_text, template_length, &leap_day, text, sizeof text, &answer);
     print_text(&answer, text);
 }
 

@@ -1,0 +1,35 @@
+//! Reads the dates of lessons, puts them in order, and writes each as learners see it. `tests/installed` builds and runs
+//! this with an installed library.
+
+use sorbilgan::{system_time, Cause, Moment, Template};
+use std::error::Error;
+use std::sync::LazyLock;
+use std::time::UNIX_EPOCH;
+
+/// How authors write the start of a lesson.
+static AUTHORS: LazyLock<Template> =
+    LazyLock::new(|| Template::compile("YYYY-MM-DD HH24:MI").expect("a template within the limit"));
+
+/// How learners see it.
+static LEARNERS: LazyLock<Template> =
+    LazyLock::new(|| Template::compile(r#""ngày "DD" tháng "MM" năm "YYYY", "HH24" giờ "MI"#).expect("another"));
+
+const LESSONS: [&str; 4] = ["2024-02-29 21:05", "1960-01-01 08:00", "2023-02-29 09:30", "2024-02-29 08:15"];
+
+fn main() -> Result<(), Box<dyn Error>> {
+    let mut moments = Vec::new();
+    for lesson in LESSONS {
+        match AUTHORS.read(lesson) {
+            Ok(parts) => moments.push(Moment::try_from(parts)?),
+            Err(refusal) if refusal.cause() == Cause::FieldOverflow => println!("{lesson}: {refusal}"),
+            Err(refusal) => return Err(refusal.into()),
+        }
+    }
+    moments.sort();
+    for moment in moments {
+        let time = system_time(AUTHORS.instant(AUTHORS.format(&moment)?)?);
+        let era = if time < UNIX_EPOCH { "before" } else { "since" };
+        println!("{} ({era} 1970)", LEARNERS.format(&moment)?);
+    }
+    Ok(())
+}
