@@ -27,7 +27,7 @@ use Rattle.line_answers.specs.Answers.{accepted, textAnswer}
 use Rattle.line_answers.specs.Moments.{momentOf}
 use Rattle.line_answers.specs.Lines.{counted, pairAnswer, tooLongAnswer, wholeAnswer, withoutReturn}
 use Rattle.line_answers.specs.declared.Mode.{Mode}
-use Rattle.line_answers.specs.declared.Mode.the-variants.{Parts, Instants, Days, Write}
+use Rattle.line_answers.specs.declared.Mode.the-variants.{Parts, Instant, Date, Write}
 
 module _ (mode : Mode) (line : List ℕ) where
   pub too-long : 769 < length line → wholeAnswer mode line ≡ tooLongAnswer
@@ -52,8 +52,8 @@ module _ (mode : Mode) (line : List ℕ) where
 pub counted-within : (mode : Mode) (line : List ℕ) → counted mode line ≤ length line
 unfolding counted withoutReturn
 counted-within Parts line = omega arith
-counted-within Instants line = omega arith
-counted-within Days line = omega arith
+counted-within Instant line = omega arith
+counted-within Date line = omega arith
 counted-within Write line =
     by-if (λ (n : ℕ). n ≤ length line) (eqb (byteAt line (length line - 1)) 13) (length line - 1) (length line) (λ e. omega arith) (λ e. omega arith)
 

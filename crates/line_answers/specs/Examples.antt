@@ -30,7 +30,7 @@ use Rattle.line_answers.specs.Items.{reportText}
 use Rattle.line_answers.specs.Answers.{dayAnswer, instantAnswer, momentText, partsAnswer, textAnswer}
 use Rattle.line_answers.specs.Moments.{momentOf, numbersIn, sevenOf}
 use Rattle.line_answers.specs.Lines.{answerLine, counted, pairAnswer, wholeAnswer, withoutReturn}
-use Rattle.line_answers.specs.declared.Mode.the-variants.{Parts, Instants, Days, Write}
+use Rattle.line_answers.specs.declared.Mode.the-variants.{Parts, Instant, Date, Write}
 
 -- unfolds all that the answer to a line is computed by, for worked examples
 unfoldable pub line-computes : ℕ
@@ -55,15 +55,15 @@ vietnamese = (refl, refl, refl)
 
 -- the microseconds since 1970
 pub instants
-    : (answerLine Instants (utf8 "YYYY-MM-DD HH24:MI:SS.US TZH\t2024-02-29 21:05:00.5 +07") ≡ utf8 "0 1709215500500000")
-    × (answerLine Instants (utf8 "YYYY\t294248") ≡ utf8 "17 - 0 0")
+    : (answerLine Instant (utf8 "YYYY-MM-DD HH24:MI:SS.US TZH\t2024-02-29 21:05:00.5 +07") ≡ utf8 "0 1709215500500000")
+    × (answerLine Instant (utf8 "YYYY\t294248") ≡ utf8 "17 - 0 0")
 unfolding line-computes instantAnswer timestampOf instantOf wallOf secondsOf lessOffset roundedTo undatedReport civil-computes
 instants = (refl, refl)
 
 -- the days since 1970
 pub days
-    : (answerLine Days (utf8 "IYYY-IW-ID\t2024-09-4") ≡ utf8 "0 19782")
-    × (answerLine Days (utf8 "YYYY-MM-DD\t2023-02-29") ≡ utf8 "15 - 0 0")
+    : (answerLine Date (utf8 "IYYY-IW-ID\t2024-09-4") ≡ utf8 "0 19782")
+    × (answerLine Date (utf8 "YYYY-MM-DD\t2023-02-29") ≡ utf8 "15 - 0 0")
 unfolding line-computes dayAnswer dateOf dayOf undatedReport civil-computes
 days = (refl, refl)
 

@@ -21,7 +21,7 @@ use Rattle.line_answers.specs.Items.{reportText}
 use Rattle.line_answers.specs.Answers.{dayAnswer, instantAnswer, partsAnswer, textAnswer}
 use Rattle.line_answers.specs.Moments.{momentOf}
 use Rattle.line_answers.specs.declared.Mode.{Mode}
-use Rattle.line_answers.specs.declared.Mode.the-variants.{Parts, Instants, Days, Write}
+use Rattle.line_answers.specs.declared.Mode.the-variants.{Parts, Instant, Date, Write}
 
 -- the longest line: a template and an input at their limits, and the TAB between them
 abbrev pub lineLimit : ℕ
@@ -38,15 +38,15 @@ withoutReturn line = if eqb (byteAt line (length line - 1)) (code "\r") then len
 -- how many count in a mode
 unfoldable pub counted : Mode → List ℕ → ℕ
 counted Parts line = length line
-counted Instants line = length line
-counted Days line = length line
+counted Instant line = length line
+counted Date line = length line
 counted Write line = withoutReturn line
 
 -- the answer to a template and what follows it
 unfoldable pub pairAnswer : Mode → List ℕ → List ℕ → List ℕ
 pairAnswer Parts t s = partsAnswer (partsOf t s)
-pairAnswer Instants t s = instantAnswer (timestampOf t s)
-pairAnswer Days t s = dayAnswer (dateOf t s)
+pairAnswer Instant t s = instantAnswer (timestampOf t s)
+pairAnswer Date t s = dayAnswer (dateOf t s)
 pairAnswer Write t s = textAnswer (textOf t (momentOf s)) (writtenTo t (momentOf s) textLimit)
 
 -- the answer to a line that is too long

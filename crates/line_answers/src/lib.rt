@@ -11,8 +11,8 @@ use base_refusals::Refusal;
 pub enum Mode {
     // Lines "template TAB input": the parts of the moment that is read, its instant, or its day.
     Parts,
-    Instants,
-    Days,
+    Instant,
+    Date,
     // Lines "template TAB moment": the text.
     Write,
 }
@@ -40,8 +40,8 @@ fn counted(mode: Mode, line: &[u8]) -> usize
 {
     match mode {
         Mode::Parts => line.len(),
-        Mode::Instants => line.len(),
-        Mode::Days => line.len(),
+        Mode::Instant => line.len(),
+        Mode::Date => line.len(),
         Mode::Write => without_return(line),
     }
 }
@@ -51,8 +51,8 @@ fn answer_pair(mode: Mode, t: &[u8], s: &[u8], out: &mut [u8], at: usize) -> usi
 {
     match mode {
         Mode::Parts => answers::parts(t, s, out, at),
-        Mode::Instants => answers::instant(t, s, out, at),
-        Mode::Days => answers::day(t, s, out, at),
+        Mode::Instant => answers::instant(t, s, out, at),
+        Mode::Date => answers::day(t, s, out, at),
         Mode::Write => moments::text(t, s, out, at),
     }
 }

@@ -10,19 +10,19 @@ use lib.Dec.{eqb}
 use lib.ListN.{getD}
 use Rattle.base_notation.specs.Choice.{if_then_else_}
 use Rattle.line_answers.specs.declared.Mode.{Mode}
-use Rattle.line_answers.specs.declared.Mode.the-variants.{Parts, Instants, Days, Write}
+use Rattle.line_answers.specs.declared.Mode.the-variants.{Parts, Instant, Date, Write}
 use Rattle.line_texts.specs.Modes.{modeName, Chosen}
 use Rattle.line_texts.specs.declared.modes.Choice.{Choice}
 use Rattle.line_texts.specs.declared.modes.Choice.the-variants.{Of, Unknown}
 
 -- a mode by the first letter of its name
 abbrev byLetter : ℕ → Mode
-byLetter b = if eqb b (code "p") then Parts else if eqb b (code "i") then Instants else if eqb b (code "d") then Days else Write
+byLetter b = if eqb b (code "p") then Parts else if eqb b (code "i") then Instant else if eqb b (code "d") then Date else Write
 
 letter-back : (m : Mode) → byLetter (getD (modeName m) 0 0) ≡ m
 letter-back Parts = refl
-letter-back Instants = refl
-letter-back Days = refl
+letter-back Instant = refl
+letter-back Date = refl
 letter-back Write = refl
 
 -- two modes have two names
@@ -49,12 +49,12 @@ module _ {name : List ℕ} where
   pub another : (m : Mode) {b : Bool} → b ≡ false → (name ≡ modeName m → b ≡ true) → name ≡ modeName m → ⊥
   another m fails passes e = false≢true (sym fails ∙ passes e)
 
-  pub unknown : (name ≡ modeName Parts → ⊥) → (name ≡ modeName Instants → ⊥) → (name ≡ modeName Days → ⊥) → (name ≡ modeName Write → ⊥)
+  pub unknown : (name ≡ modeName Parts → ⊥) → (name ≡ modeName Instant → ⊥) → (name ≡ modeName Date → ⊥) → (name ≡ modeName Write → ⊥)
       → Chosen name Unknown
   unknown parts instants days write = record { named = λ m e. absurd (none m e); own = λ m f. absurd (false≢true (ap isKnown f)) }
     where
       none : (m : Mode) → name ≡ modeName m → ⊥
       none Parts e = parts e
-      none Instants e = instants e
-      none Days e = days e
+      none Instant e = instants e
+      none Date e = days e
       none Write e = write e

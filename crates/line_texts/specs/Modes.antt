@@ -4,15 +4,15 @@ use mathlib.Core.List.{List}
 use Prim.Native.Nat.{ℕ}
 use Rattle.base_notation.specs.Text.{utf8}
 use Rattle.line_answers.specs.declared.Mode.{Mode}
-use Rattle.line_answers.specs.declared.Mode.the-variants.{Parts, Instants, Days, Write}
+use Rattle.line_answers.specs.declared.Mode.the-variants.{Parts, Instant, Date, Write}
 use Rattle.line_texts.specs.declared.modes.Choice.{Choice}
 use Rattle.line_texts.specs.declared.modes.Choice.the-variants.{Of, Unknown}
 
 -- the name of each mode
 abbrev pub modeName : Mode → List ℕ
 modeName Parts = utf8 "parts"
-modeName Instants = utf8 "instants"
-modeName Days = utf8 "days"
+modeName Instant = utf8 "instants"
+modeName Date = utf8 "days"
 modeName Write = utf8 "write"
 
 -- r is the mode that has the name, and none where no mode has it

@@ -15,10 +15,10 @@ pub fn choice_of(name: &[u8]) -> Choice
         return Choice::Of(Mode::Parts);
     }
     if check::same(name, b"instants") {
-        return Choice::Of(Mode::Instants);
+        return Choice::Of(Mode::Instant);
     }
     if check::same(name, b"days") {
-        return Choice::Of(Mode::Days);
+        return Choice::Of(Mode::Date);
     }
     if check::same(name, b"write") {
         return Choice::Of(Mode::Write);

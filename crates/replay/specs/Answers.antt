@@ -25,7 +25,7 @@ use Rattle.line_buffers.specs.Decimal.{decimal}
 use Rattle.line_buffers.specs.Input.{before}
 use Rattle.line_answers.specs.Lines.{answerLine}
 use Rattle.line_answers.specs.declared.Mode.{Mode}
-use Rattle.line_answers.specs.declared.Mode.the-variants.{Parts, Instants, Days, Write}
+use Rattle.line_answers.specs.declared.Mode.the-variants as mode
 use Rattle.line_questions.specs.Items.{same, numbersAt, placeAt, bytesAt, textAt}
 use Rattle.line_questions.specs.declared.Numbers.{Numbers}
 use Rattle.replay.specs.declared.questions.Values.{Values}
@@ -146,10 +146,10 @@ lineText mode line from = ofText line from 1024 (λ text. answerLine mode text) 
 unfoldable pub namedText : List ℕ → List ℕ → ℕ → List ℕ
 namedText name line from =
     if same name (utf8 "parse") then templateText line from
-    else if same name (utf8 "parts_line") then lineText Parts line from
-    else if same name (utf8 "instants_line") then lineText Instants line from
-    else if same name (utf8 "days_line") then lineText Days line from
-    else if same name (utf8 "write_line") then lineText Write line from
+    else if same name (utf8 "parts_line") then lineText mode.Parts line from
+    else if same name (utf8 "instants_line") then lineText mode.Instant line from
+    else if same name (utf8 "days_line") then lineText mode.Date line from
+    else if same name (utf8 "write_line") then lineText mode.Write line from
     else valuesText (valuesOf name line from)
 
 -- the answer to a question: its name is before the first space

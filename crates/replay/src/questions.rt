@@ -289,10 +289,10 @@ fn put_named(name: &[u8], line: &[u8], end: usize, out: &mut [u8], at: usize) ->
         return put_line(Mode::Parts, line, end, out, at);
     }
     if check::same(name, b"instants_line") {
-        return put_line(Mode::Instants, line, end, out, at);
+        return put_line(Mode::Instant, line, end, out, at);
     }
     if check::same(name, b"days_line") {
-        return put_line(Mode::Days, line, end, out, at);
+        return put_line(Mode::Date, line, end, out, at);
     }
     if check::same(name, b"write_line") {
         return put_line(Mode::Write, line, end, out, at);

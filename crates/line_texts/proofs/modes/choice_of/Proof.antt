@@ -4,7 +4,7 @@ use mathlib.Core.Path.{_≡_, _∙_, sym}
 use mathlib.Core.Bool.{false≢true}
 use borrow.Author.Needs.{needs}
 use Rattle.line_answers.specs.declared.Mode.{Mode}
-use Rattle.line_answers.specs.declared.Mode.the-variants.{Parts, Instants, Days, Write}
+use Rattle.line_answers.specs.declared.Mode.the-variants.{Parts, Instant, Date, Write}
 use Rattle.line_texts.specs.Modes.{modeName}
 use Rattle.line_texts.proofs.ModeNames.{chosen, another, unknown}
 use Rattle.line_texts.proofs.modes.choice_of.Statement.{statement}
@@ -16,11 +16,11 @@ returns c = chosen Parts (c .before .same .ensures .0 (c .if1 .taken))
 
 -- instants
 returns-2 : tie.Need-returns-2
-returns-2 c = chosen Instants (c .before .same2 .ensures .0 (c .if2 .taken))
+returns-2 c = chosen Instant (c .before .same2 .ensures .0 (c .if2 .taken))
 
 -- days
 returns-3 : tie.Need-returns-3
-returns-3 c = chosen Days (c .before .same3 .ensures .0 (c .if3 .taken))
+returns-3 c = chosen Date (c .before .same3 .ensures .0 (c .if3 .taken))
 
 -- write
 returns-4 : tie.Need-returns-4
@@ -35,8 +35,8 @@ returns-5 c =
     let at-parts = at-instants .before .before .before in
     unknown
     (another Parts (c .before .before .before .before .before .before .before .before .before .if1 .left) (at-parts .same .ensures .1))
-    (another Instants (c .before .before .before .before .before .before .if2 .left) (at-instants .same2 .ensures .1))
-    (another Days (c .before .before .before .if3 .left) (at-days .same3 .ensures .1))
+    (another Instant (c .before .before .before .before .before .before .if2 .left) (at-instants .same2 .ensures .1))
+    (another Date (c .before .before .before .if3 .left) (at-days .same3 .ensures .1))
     (another Write (c .if4 .left) (at-write .same4 .ensures .1))
 
 pub choice-of-spec : {M : Type 1} → statement M
