@@ -86,9 +86,9 @@ def write(program, questions):
 def read_due(mode, moment):
     """What a moment's text is read as: the seven numbers, the microseconds or the days since 1970-01-01."""
     since = datetime(*moment) - EPOCH
-    if mode == "instants":
+    if mode == "instant":
         return f"0 {since // timedelta(microseconds=1)}".encode()
-    if mode == "days":
+    if mode == "date":
         return f"0 {since.days}".encode()
     return f"0 {' '.join(map(str, moment))} 0 none".encode()
 
@@ -96,7 +96,7 @@ def read_due(mode, moment):
 def read_back(program, full):
     """Each text of a full template is read as its moment."""
     lines = [one.line.split(b"\t")[0] + b"\t" + text for one, text in full]
-    for mode in ("parts", "instants", "days"):
+    for mode in ("parts", "instant", "date"):
         for (one, text), read in zip(full, answers(program, mode, lines)):
             if read != read_due(mode, one.moment):
                 sys.exit(f"{one.line!r} is written as {text!r} and read as {read!r}, {mode}")

@@ -4,7 +4,7 @@ use oracle::{answers, lines, questions};
 use std::io::{self, BufRead, Write};
 
 const USAGE: &str = "usage: oracle questions SEED | answers | lines parts|instants|days|moments SEED COUNT
-    | pairs SEED COUNT | readings SEED COUNT | moments SEED COUNT | parts | instants | days | written | back | fields";
+    | pairs SEED COUNT | readings SEED COUNT | moments SEED COUNT | parts | instant | date | write | back | fields";
 
 fn main() -> io::Result<()> {
     let arguments: Vec<String> = std::env::args().skip(1).collect();
@@ -35,9 +35,9 @@ fn main() -> io::Result<()> {
             }
         }
         ["parts"] => lines::each(&mut out, |line| answers::line(line, answers::parts))?,
-        ["instants"] => lines::each(&mut out, |line| answers::line(line, answers::instant))?,
-        ["days"] => lines::each(&mut out, |line| answers::line(line, answers::date))?,
-        ["written"] => lines::each(&mut out, |line| answers::line(answers::without_return(line), answers::written))?,
+        ["instant"] => lines::each(&mut out, |line| answers::line(line, answers::instant))?,
+        ["date"] => lines::each(&mut out, |line| answers::line(line, answers::date))?,
+        ["write"] => lines::each(&mut out, |line| answers::line(answers::without_return(line), answers::written))?,
         ["back"] => lines::each(&mut out, answers::back)?,
         ["fields"] => lines::each(&mut out, answers::fields)?,
         _ => {

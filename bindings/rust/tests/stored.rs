@@ -29,12 +29,12 @@ fn parts() {
 
 #[test]
 fn instants() {
-    replay("instants", "crates/dates/lists/instants.in", "crates/dates/lists/instants.out", 1072);
+    replay("instant", "crates/dates/lists/instants.in", "crates/dates/lists/instants.out", 1072);
 }
 
 #[test]
 fn days() {
-    replay("days", "crates/dates/lists/days.in", "crates/dates/lists/days.out", 1072);
+    replay("date", "crates/dates/lists/days.in", "crates/dates/lists/days.out", 1072);
 }
 
 #[test]

@@ -178,7 +178,7 @@ fn main() {
     let Choice::Of(mode) = chosen() else {
         io::write_all(
             STDERR_FILENO,
-            b"dates: the one argument is parts, instants, days or write\n",
+            b"dates: the one argument is parts, instant, date or write\n",
         );
         return;
     };

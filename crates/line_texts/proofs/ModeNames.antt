@@ -51,10 +51,10 @@ module _ {name : List ℕ} where
 
   pub unknown : (name ≡ modeName Parts → ⊥) → (name ≡ modeName Instant → ⊥) → (name ≡ modeName Date → ⊥) → (name ≡ modeName Write → ⊥)
       → Chosen name Unknown
-  unknown parts instants days write = record { named = λ m e. absurd (none m e); own = λ m f. absurd (false≢true (ap isKnown f)) }
+  unknown parts instant date write = record { named = λ m e. absurd (none m e); own = λ m f. absurd (false≢true (ap isKnown f)) }
     where
       none : (m : Mode) → name ≡ modeName m → ⊥
       none Parts e = parts e
-      none Instant e = instants e
-      none Date e = days e
+      none Instant e = instant e
+      none Date e = date e
       none Write e = write e

@@ -11,8 +11,8 @@ use Rattle.line_texts.specs.declared.modes.Choice.the-variants.{Of, Unkn
 -- the name of each mode
 abbrev pub modeName : Mode → List ℕ
 modeName Parts = utf8 "parts"
-modeName Instant = utf8 "instants"
-modeName Date = utf8 "days"
+modeName Instant = utf8 "instant"
+modeName Date = utf8 "date"
 modeName Write = utf8 "write"
 
 -- r is the mode that has the name, and none where no mode has it

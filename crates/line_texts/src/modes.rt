@@ -14,10 +14,10 @@ pub fn choice_of(name: &[u8]) -> Choice
     if check::same(name, b"parts") {
         return Choice::Of(Mode::Parts);
     }
-    if check::same(name, b"instants") {
+    if check::same(name, b"instant") {
         return Choice::Of(Mode::Instant);
     }
-    if check::same(name, b"days") {
+    if check::same(name, b"date") {
         return Choice::Of(Mode::Date);
     }
     if check::same(name, b"write") {

@@ -30,8 +30,8 @@ pub fn answer(mode: &str, line: &[u8]) -> String {
     let (template, rest) = cut(if mode == "write" { without_return(line) } else { line });
     let once = match mode {
         "parts" => shown(read(template, rest).map(numbers)),
-        "instants" => shown(instant(template, rest)),
-        "days" => shown(date(template, rest)),
+        "instant" => shown(instant(template, rest)),
+        "date" => shown(date(template, rest)),
         "write" => shown(format(template, &moment(rest))),
         _ => panic!("no such mode: {mode}"),
     };
@@ -45,8 +45,8 @@ pub fn answer(mode: &str, line: &[u8]) -> String {
 fn compiled(template: &Template, mode: &str, rest: &[u8]) -> String {
     match mode {
         "parts" => shown(template.read(rest).map(numbers)),
-        "instants" => shown(template.instant(rest)),
-        "days" => shown(template.date(rest)),
+        "instant" => shown(template.instant(rest)),
+        "date" => shown(template.date(rest)),
         _ => shown(template.format(&moment(rest))),
     }
 }

@@ -14,11 +14,11 @@ use Rattle.line_texts.proofs.modes.choice_of.Tie as tie
 returns : tie.Need-returns
 returns c = chosen Parts (c .before .same .ensures .0 (c .if1 .taken))
 
--- instants
+-- instant
 returns-2 : tie.Need-returns-2
 returns-2 c = chosen Instant (c .before .same2 .ensures .0 (c .if2 .taken))
 
--- days
+-- date
 returns-3 : tie.Need-returns-3
 returns-3 c = chosen Date (c .before .same3 .ensures .0 (c .if3 .taken))
 
@@ -30,13 +30,13 @@ returns-4 c = chosen Write (c .before .same4 .ensures .0 (c .if4 .taken))
 returns-5 : tie.Need-returns-5
 returns-5 c =
     let at-write = c .before in
-    let at-days = at-write .before .before .before in
-    let at-instants = at-days .before .before .before in
-    let at-parts = at-instants .before .before .before in
+    let at-date = at-write .before .before .before in
+    let at-instant = at-date .before .before .before in
+    let at-parts = at-instant .before .before .before in
     unknown
     (another Parts (c .before .before .before .before .before .before .before .before .before .if1 .left) (at-parts .same .ensures .1))
-    (another Instant (c .before .before .before .before .before .before .if2 .left) (at-instants .same2 .ensures .1))
-    (another Date (c .before .before .before .if3 .left) (at-days .same3 .ensures .1))
+    (another Instant (c .before .before .before .before .before .before .if2 .left) (at-instant .same2 .ensures .1))
+    (another Date (c .before .before .before .if3 .left) (at-date .same3 .ensures .1))
     (another Write (c .if4 .left) (at-write .same4 .ensures .1))
 
 pub choice-of-spec : {M : Type 1} → statement M
