@@ -6,7 +6,7 @@ use crate::random::Random;
 
 pub fn questions(random: &mut Random) -> Vec<String> {
     let mut questions = Vec::new();
-    for (mode, name) in [("parts", "parts"), ("instants", "instants"), ("days", "days"), ("write", "moments")] {
+    for (mode, name) in [("parts", "parts"), ("instant", "instants"), ("date", "days"), ("write", "moments")] {
         let (known, generator) = list(name).expect(name);
         let lines = known.into_iter().chain((0..100).map(|_| generator(random)));
         // as long as a question may hold

@@ -147,8 +147,8 @@ unfoldable pub namedText : List ℕ → List ℕ → ℕ → List ℕ
 namedText name line from =
     if same name (utf8 "parse") then templateText line from
     else if same name (utf8 "parts_line") then lineText mode.Parts line from
-    else if same name (utf8 "instants_line") then lineText mode.Instant line from
-    else if same name (utf8 "days_line") then lineText mode.Date line from
+    else if same name (utf8 "instant_line") then lineText mode.Instant line from
+    else if same name (utf8 "date_line") then lineText mode.Date line from
     else if same name (utf8 "write_line") then lineText mode.Write line from
     else valuesText (valuesOf name line from)
 

@@ -288,10 +288,10 @@ fn put_named(name: &[u8], line: &[u8], end: usize, out: &mut [u8], at: usize) ->
     if check::same(name, b"parts_line") {
         return put_line(Mode::Parts, line, end, out, at);
     }
-    if check::same(name, b"instants_line") {
+    if check::same(name, b"instant_line") {
         return put_line(Mode::Instant, line, end, out, at);
     }
-    if check::same(name, b"days_line") {
+    if check::same(name, b"date_line") {
         return put_line(Mode::Date, line, end, out, at);
     }
     if check::same(name, b"write_line") {
