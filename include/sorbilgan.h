@@ -76,8 +76,8 @@ enum sorbilgan_refusal {
     SORBILGAN_NO_YEAR = 14,           /* day of the year, and no year */
     SORBILGAN_FIELD_OVERFLOW = 15,    /* field value overflow */
     SORBILGAN_OFFSET_RANGE = 16,      /* offset hours outside 0 to 15 or minutes outside 0 to 59 */
-    SORBILGAN_INSTANT_RANGE = 17,     /* instants: outside 64 bits, or at one of their ends */
-    SORBILGAN_DATE_RANGE = 18,        /* dates: outside 32 bits, or at one of their ends */
+    SORBILGAN_INSTANT_RANGE = 17,     /* instant: outside 64 bits, or at one of their ends */
+    SORBILGAN_DATE_RANGE = 18,        /* date: outside 32 bits, or at one of their ends */
     SORBILGAN_NOT_WRITTEN = 19,       /* write: not written, or not with this prefix or suffix, or without FM: pattern */
     SORBILGAN_NO_MOMENT = 20,         /* write: no moment of the years 1 to 9999 */
     SORBILGAN_NO_ROOM = 21            /* write: a text longer than its buffer: the length needed */

@@ -46,9 +46,16 @@ fn what_is_accepted() {
     assert_eq!(count, 9);
 }
 
+/// Its number, and the words that the cause has too.
 #[test]
 fn every_refusal_has_its_row() {
     let readme = readme();
-    let numbers = readme.lines().filter_map(|line| line.strip_prefix("| ")?.split_once(" |")?.0.parse::<u8>().ok());
-    assert!(numbers.eq(Cause::ALL.iter().map(|cause| cause.number())));
+    let section = readme.split("## Refusals").nth(1).unwrap().split("## ").next().unwrap();
+    let rows: Vec<Vec<&str>> = section.lines().map(|line| line.split('|').map(str::trim).collect()).collect();
+    let rows: Vec<_> = rows.iter().filter(|cells| cells.len() > 2 && cells[1].parse::<u8>().is_ok()).collect();
+    assert_eq!(rows.len(), Cause::ALL.len());
+    for (cells, cause) in rows.into_iter().zip(Cause::ALL) {
+        assert_eq!(cells[1], cause.number().to_string());
+        assert!(cells[2].starts_with(&cause.to_string()), "{cause}: {}", cells[2]);
+    }
 }
