@@ -1,9 +1,10 @@
 //! Every conversion to and from chrono's types, at its ends and where it is refused.
 
-use chrono::{DateTime, Datelike, FixedOffset, NaiveDate, NaiveDateTime, TimeZone, Utc};
-use sorbilgan::{instant, read, Moment};
+mod common;
 
-const LAST: Moment = Moment { year: 9999, month: 12, day: 31, hour: 23, minute: 59, second: 59, micros: 999_999 };
+use chrono::{DateTime, Datelike, FixedOffset, NaiveDate, NaiveDateTime, TimeZone, Utc};
+use common::{LAST, LINES, TEMPLATE, WRONG, YEARS};
+use sorbilgan::{instant, read, Moment};
 
 fn naive(moment: Moment) -> Option<NaiveDateTime> {
     NaiveDateTime::try_from(moment).ok()
@@ -11,7 +12,7 @@ fn naive(moment: Moment) -> Option<NaiveDateTime> {
 
 #[test]
 fn every_day_of_some_years_and_back() {
-    for year in [1, 4, 1582, 1900, 1970, 2000, 2024, 9999] {
+    for year in YEARS {
         let mut day = NaiveDate::from_ymd_opt(year, 1, 1).unwrap();
         while day.year() == year {
             let time = day.and_hms_micro_opt(23, 59, 59, 999_999).unwrap();
@@ -26,18 +27,7 @@ fn every_day_of_some_years_and_back() {
 #[test]
 fn what_is_no_date_or_time() {
     assert_eq!(naive(LAST).unwrap().to_string(), "9999-12-31 23:59:59.999999");
-    for wrong in [
-        Moment { month: 0, ..LAST },
-        Moment { month: -1, ..LAST },
-        Moment { day: 32, ..LAST },
-        Moment { month: 2, day: 30, ..LAST },
-        Moment { hour: 24, ..LAST },
-        Moment { minute: 60, ..LAST },
-        Moment { second: 60, ..LAST },
-        Moment { micros: -1, ..LAST },
-        Moment { micros: 1_000_000, ..LAST },
-        Moment { year: i32::MAX, ..LAST },
-    ] {
+    for wrong in WRONG {
         assert_eq!(naive(wrong), None, "{wrong:?}");
     }
 }
@@ -54,10 +44,9 @@ fn what_would_be_lost() {
 /// The time of what was read is its instant, with an offset and without.
 #[test]
 fn instants() {
-    let template = "YYYY-MM-DD HH24:MI:SS.US TZH:TZM";
-    for line in ["2024-02-29 21:05:00.5 +05:30", "1960-01-01 00:00:00.000001 -15:59", "1969-12-31 23:59:59.999999"] {
-        let time = DateTime::<FixedOffset>::try_from(read(template, line).unwrap()).unwrap();
-        assert_eq!(time.timestamp_micros(), instant(template, line).unwrap(), "{line}");
+    for line in LINES {
+        let time = DateTime::<FixedOffset>::try_from(read(TEMPLATE, line).unwrap()).unwrap();
+        assert_eq!(time.timestamp_micros(), instant(TEMPLATE, line).unwrap(), "{line}");
     }
     let utc = DateTime::<FixedOffset>::try_from(read("YYYY", "2024").unwrap()).unwrap();
     assert_eq!(utc, Utc.with_ymd_and_hms(2024, 1, 1, 0, 0, 0).unwrap());

@@ -1,9 +1,10 @@
 //! Every conversion to and from the types of the crate time, at its ends and where it is refused.
 
+mod common;
+
+use common::{LAST, LINES, TEMPLATE, WRONG, YEARS};
 use sorbilgan::{instant, read, Moment};
 use time::{Date, Month, OffsetDateTime, PrimitiveDateTime, Time};
-
-const LAST: Moment = Moment { year: 9999, month: 12, day: 31, hour: 23, minute: 59, second: 59, micros: 999_999 };
 
 fn primitive(moment: Moment) -> Option<PrimitiveDateTime> {
     PrimitiveDateTime::try_from(moment).ok()
@@ -12,7 +13,7 @@ fn primitive(moment: Moment) -> Option<PrimitiveDateTime> {
 #[test]
 fn every_day_of_some_years_and_back() {
     let last = Time::from_hms_micro(23, 59, 59, 999_999).unwrap();
-    for year in [1, 4, 1582, 1900, 1970, 2000, 2024] {
+    for year in YEARS {
         let mut day = Date::from_calendar_date(year, Month::January, 1).unwrap();
         while day.year() == year {
             let moment = Moment::try_from(PrimitiveDateTime::new(day, last)).unwrap();
@@ -26,18 +27,7 @@ fn every_day_of_some_years_and_back() {
 #[test]
 fn what_is_no_date_or_time() {
     assert_eq!(primitive(LAST).unwrap().to_string(), "9999-12-31 23:59:59.999999");
-    for wrong in [
-        Moment { month: 0, ..LAST },
-        Moment { month: 257, ..LAST },
-        Moment { day: 32, ..LAST },
-        Moment { month: 2, day: 30, ..LAST },
-        Moment { hour: 24, ..LAST },
-        Moment { minute: 60, ..LAST },
-        Moment { second: 60, ..LAST },
-        Moment { micros: -1, ..LAST },
-        Moment { micros: 1_000_000, ..LAST },
-        Moment { year: i32::MAX, ..LAST },
-    ] {
+    for wrong in WRONG {
         assert_eq!(primitive(wrong), None, "{wrong:?}");
     }
 }
@@ -52,10 +42,9 @@ fn what_would_be_lost() {
 /// The time of what was read is its instant, with an offset and without.
 #[test]
 fn instants() {
-    let template = "YYYY-MM-DD HH24:MI:SS.US TZH:TZM";
-    for line in ["2024-02-29 21:05:00.5 +05:30", "1960-01-01 00:00:00.000001 -15:59", "1969-12-31 23:59:59.999999"] {
-        let time = OffsetDateTime::try_from(read(template, line).unwrap()).unwrap();
+    for line in LINES {
+        let time = OffsetDateTime::try_from(read(TEMPLATE, line).unwrap()).unwrap();
         let micros = time.unix_timestamp_nanos() / 1000;
-        assert_eq!(micros, i128::from(instant(template, line).unwrap()), "{line}");
+        assert_eq!(micros, i128::from(instant(TEMPLATE, line).unwrap()), "{line}");
     }
 }
