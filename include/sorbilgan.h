@@ -13,7 +13,6 @@
 #ifndef SORBILGAN_H
 #define SORBILGAN_H
 
-#include <assert.h>
 #include <stddef.h>
 #include <stdint.h>
 
@@ -21,18 +20,19 @@
 extern "C" {
 #endif
 
-/*
- * The version of this header. A library of another version does not link: it has no function of this version's name,
- * and with gcc and clang each file that includes the header asks for it. sorbilgan_version() is the library's version,
- * for callers that do not include this header.
- */
+/* The version of this header. sorbilgan_version() is the library's, for callers that do not include this header. */
 #define SORBILGAN_VERSION 1
 
 uint32_t sorbilgan_version(void);
 
+/*
+ * A library of another version has no function of this name, so it does not link: with gcc and clang, each file that
+ * includes this header asks for the function. A file that uses only types and constants, and is linked without the
+ * library, defines SORBILGAN_NO_LINK_CHECK before it includes this header.
+ */
 uint32_t sorbilgan_version_1(void);
 
-#ifdef __GNUC__
+#if defined(__GNUC__) && !defined(SORBILGAN_NO_LINK_CHECK)
 #ifdef __has_attribute
 #if __has_attribute(retain)
 __attribute__((retain))
@@ -61,13 +61,13 @@ __attribute__((used)) static uint32_t (*const sorbilgan_linked)(void) = sorbilga
 enum sorbilgan_refusal {
     SORBILGAN_OK = 0,
     SORBILGAN_TOO_LONG = 1,           /* template over 256 bytes or input over 512 */
-    SORBILGAN_NOT_UTF8 = 2,           /* either is not UTF-8 */
+    SORBILGAN_NOT_UTF8 = 2,           /* template or input is not UTF-8 */
     SORBILGAN_MIXED_DATES = 3,        /* Gregorian and ISO patterns mixed: pattern */
     SORBILGAN_CONFLICT = 4,           /* field set before to another value: pattern */
-    SORBILGAN_SHORT = 5,              /* fixed width, input shorter: pattern, width, bytes remaining */
-    SORBILGAN_NARROW = 6,             /* fixed width, fewer bytes parsed: pattern, width, bytes parsed */
+    SORBILGAN_SHORT = 5,              /* input shorter than a fixed width: pattern, width, bytes remaining */
+    SORBILGAN_NARROW = 6,             /* fewer bytes parsed than a fixed width: pattern, width, bytes parsed */
     SORBILGAN_NOT_INTEGER = 7,        /* no integer: pattern */
-    SORBILGAN_OUT_OF_RANGE = 8,       /* outside signed 32 bits: pattern */
+    SORBILGAN_OUT_OF_RANGE = 8,       /* number outside signed 32 bits: pattern */
     SORBILGAN_NO_WORD = 9,            /* none of the listed words: pattern */
     SORBILGAN_NOT_TWO_NUMBERS = 10,   /* Y,YYY without both numbers: pattern */
     SORBILGAN_YEAR_OUT_OF_RANGE = 11, /* Y,YYY outside 32 bits: pattern */
@@ -78,7 +78,7 @@ enum sorbilgan_refusal {
     SORBILGAN_OFFSET_RANGE = 16,      /* offset hours outside 0 to 15 or minutes outside 0 to 59 */
     SORBILGAN_INSTANT_RANGE = 17,     /* instant: outside 64 bits, or at one of their ends */
     SORBILGAN_DATE_RANGE = 18,        /* date: outside 32 bits, or at one of their ends */
-    SORBILGAN_NOT_WRITTEN = 19,       /* write: not written, or not with this prefix or suffix, or without FM: pattern */
+    SORBILGAN_NOT_WRITTEN = 19,       /* write: not written, not so prefixed or suffixed, or without FM: pattern */
     SORBILGAN_NO_MOMENT = 20,         /* write: no moment of the years 1 to 9999 */
     SORBILGAN_NO_ROOM = 21            /* write: a text longer than its buffer: the length needed */
 };
@@ -124,9 +124,12 @@ struct sorbilgan_moment {
     int32_t micros;
 };
 
-#if (defined(__cplusplus) && __cplusplus >= 201103L) || (defined(__STDC_VERSION__) && __STDC_VERSION__ >= 201112L)
+#if defined(__cplusplus) && __cplusplus >= 201103L
 static_assert(sizeof(struct sorbilgan_parts_answer) == 14 * sizeof(int64_t), "the answer is 14 numbers");
 static_assert(sizeof(struct sorbilgan_value_answer) == 5 * sizeof(int64_t), "the answer is 5 numbers");
+#elif defined(__STDC_VERSION__) && __STDC_VERSION__ >= 201112L
+_Static_assert(sizeof(struct sorbilgan_parts_answer) == 14 * sizeof(int64_t), "the answer is 14 numbers");
+_Static_assert(sizeof(struct sorbilgan_value_answer) == 5 * sizeof(int64_t), "the answer is 5 numbers");
 #endif
 
 /* Reading and writing fill the whole answer and return its number: SORBILGAN_OK, or the refusal's. */
@@ -163,15 +166,16 @@ int64_t sorbilgan_compile(const char *template_text, size_t template_length, uin
 
 /*
  * The same answers by a compiled template. It is lent together with the text that it was compiled from. Any bytes are
- * safe as nodes and any text with them: reading takes the nodes for as many as they are, and writing refuses more than
- * 1,536 bytes with 1. That text is neither held to 256 bytes nor tested for UTF-8, as it was when it was compiled: in
- * reading, 1 and 2 are the input's.
+ * safe as nodes, and any text with them. Reading accepts nodes of any length; writing refuses more than 1,536 bytes of
+ * them with 1. The text was tested when it was compiled: here it may be longer than 256 bytes, and need not be UTF-8,
+ * and what is refused with 1 or 2 in reading is the input.
  */
 uint8_t sorbilgan_parts_by(const uint8_t *nodes, size_t nodes_length, const char *template_text, size_t template_length,
                            const char *input, size_t input_length, struct sorbilgan_parts_answer *answer);
 
-uint8_t sorbilgan_instant_by(const uint8_t *nodes, size_t nodes_length, const char *template_text, size_t template_length,
-                             const char *input, size_t input_length, struct sorbilgan_value_answer *answer);
+uint8_t sorbilgan_instant_by(const uint8_t *nodes, size_t nodes_length, const char *template_text,
+                             size_t template_length, const char *input, size_t input_length,
+                             struct sorbilgan_value_answer *answer);
 
 uint8_t sorbilgan_date_by(const uint8_t *nodes, size_t nodes_length, const char *template_text, size_t template_length,
                           const char *input, size_t input_length, struct sorbilgan_value_answer *answer);
@@ -186,31 +190,43 @@ uint8_t sorbilgan_write_by(const uint8_t *nodes, size_t nodes_length, const char
  */
 size_t sorbilgan_pattern(uint8_t pattern, char name[SORBILGAN_NAME]);
 
+#ifdef __GNUC__
+#define SORBILGAN_INLINE static __inline__
+#else
+#define SORBILGAN_INLINE static inline
+#endif
+
+#ifdef __cplusplus
+#define SORBILGAN_INT32(number) static_cast<int32_t>(number)
+#else
+#define SORBILGAN_INT32(number) ((int32_t)(number))
+#endif
+
 /* The moment of an accepted answer, without its offset and precision. */
-static inline struct sorbilgan_moment sorbilgan_moment_of(const struct sorbilgan_parts_answer *parts) {
+SORBILGAN_INLINE struct sorbilgan_moment sorbilgan_moment_of(const struct sorbilgan_parts_answer *parts) {
     struct sorbilgan_moment moment;
 
-    moment.year = (int32_t)parts->year;
-    moment.month = (int32_t)parts->month;
-    moment.day = (int32_t)parts->day;
-    moment.hour = (int32_t)parts->hour;
-    moment.minute = (int32_t)parts->minute;
-    moment.second = (int32_t)parts->second;
-    moment.micros = (int32_t)parts->micros;
+    moment.year = SORBILGAN_INT32(parts->year);
+    moment.month = SORBILGAN_INT32(parts->month);
+    moment.day = SORBILGAN_INT32(parts->day);
+    moment.hour = SORBILGAN_INT32(parts->hour);
+    moment.minute = SORBILGAN_INT32(parts->minute);
+    moment.second = SORBILGAN_INT32(parts->second);
+    moment.micros = SORBILGAN_INT32(parts->micros);
     return moment;
 }
 
 /* sorbilgan_write, and below it sorbilgan_write_by, with a moment in place of seven numbers. */
-static inline uint8_t sorbilgan_write_moment(const char *template_text, size_t template_length,
-                                             const struct sorbilgan_moment *moment, char *text, size_t room,
-                                             struct sorbilgan_value_answer *answer) {
+SORBILGAN_INLINE uint8_t sorbilgan_write_moment(const char *template_text, size_t template_length,
+                                                const struct sorbilgan_moment *moment, char *text, size_t room,
+                                                struct sorbilgan_value_answer *answer) {
     return sorbilgan_write(template_text, template_length, moment->year, moment->month, moment->day, moment->hour,
                            moment->minute, moment->second, moment->micros, text, room, answer);
 }
 
-static inline uint8_t sorbilgan_write_moment_by(const uint8_t *nodes, size_t nodes_length, const char *template_text,
-                                                size_t template_length, const struct sorbilgan_moment *moment,
-                                                char *text, size_t room, struct sorbilgan_value_answer *answer) {
+SORBILGAN_INLINE uint8_t sorbilgan_write_moment_by(const uint8_t *nodes, size_t nodes_length, const char *template_text,
+                                                   size_t template_length, const struct sorbilgan_moment *moment,
+                                                   char *text, size_t room, struct sorbilgan_value_answer *answer) {
     return sorbilgan_write_by(nodes, nodes_length, template_text, template_length, moment->year, moment->month,
                               moment->day, moment->hour, moment->minute, moment->second, moment->micros, text, room,
                               answer);

@@ -1,7 +1,7 @@
 /*
  * What include/sorbilgan.h says beside the answers themselves: versions, NULL, the ends of the limits, nodes that no
- * template was compiled to, names with a final 0, moments as a struct. tests/installed builds and runs this, as C and as
- * C++.
+ * template was compiled to, the fields of answers, names with a final 0, moments as a struct. tests/installed builds
+ * and runs this, as C and as C++.
  */
 #include <stdio.h>
 #include <string.h>
@@ -86,6 +86,23 @@ static void over_the_limits(void) {
           == SORBILGAN_OK);
 }
 
+/* Each number of an answer is in the field that is named after it. */
+static void fields(void) {
+    static const char template_text[] = "YYYY-MM-DD HH24:MI:SS.FF3 TZH:TZM";
+    static const char line[] = "2024-02-29 21:05:07.000009 -05:30";
+
+    CHECK(sorbilgan_parts(template_text, sizeof template_text - 1, line, sizeof line - 1, &parts) == SORBILGAN_OK);
+    CHECK(parts.number == SORBILGAN_OK && parts.pattern == SORBILGAN_NO_PATTERN);
+    CHECK(parts.first_figure == 0 && parts.second_figure == 0);
+    CHECK(parts.year == 2024 && parts.month == 2 && parts.day == 29);
+    CHECK(parts.hour == 21 && parts.minute == 5 && parts.second == 7 && parts.micros == 9);
+    CHECK(parts.precision == 3 && parts.zoned == 1 && parts.offset == -19800);
+
+    CHECK(sorbilgan_date("YYYYMMDD", 8, "20242", 5, &value) == SORBILGAN_SHORT);
+    CHECK(value.number == SORBILGAN_SHORT && value.pattern == 33 && value.value == 0);
+    CHECK(value.first_figure == 2 && value.second_figure == 1);
+}
+
 /* Every name is a string, and nothing after its room is touched. */
 static void names(void) {
     char name[SORBILGAN_NAME + 1];
@@ -128,6 +145,7 @@ int main(void) {
     empty_readings();
     empty_writings();
     over_the_limits();
+    fields();
     names();
     moments();
     return failures != 0;

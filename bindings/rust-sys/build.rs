@@ -4,32 +4,46 @@
 use std::path::{Path, PathBuf};
 use std::{env, fs};
 
-/// The function that the library of this crate's version has, and no other.
-const VERSION: &[u8] = b"sorbilgan_version_1\0";
+/// The version of the library that is needed.
+const VERSION: u32 = 1;
 
 fn main() {
     println!("cargo::rerun-if-env-changed=SORBILGAN_LIB");
     let target = |part: &str| env::var(format!("CARGO_CFG_TARGET_{part}")).unwrap_or_default();
     if (target("OS").as_str(), target("ARCH").as_str()) != ("linux", "x86_64") {
-        println!("cargo::error=libsorbilgan.a is made for Linux on x86-64 alone");
+        println!("cargo::warning=libsorbilgan.a is made for Linux on x86-64 alone: nothing can be linked");
+        return;
     }
     let beside = || PathBuf::from(env!("CARGO_MANIFEST_DIR")).join("../../target/staticlib");
-    link(&env::var_os("SORBILGAN_LIB").map_or_else(beside, PathBuf::from).join("libsorbilgan.a"));
-    println!("cargo::rustc-link-lib=static=sorbilgan");
+    let named = env::var_os("SORBILGAN_LIB").filter(|folder| !folder.is_empty()).map(PathBuf::from);
+    match named {
+        // this script has another working folder than cargo's caller
+        Some(folder) if folder.is_relative() => println!("cargo::error=SORBILGAN_LIB must be an absolute path"),
+        named => link(&named.unwrap_or_else(beside).join("libsorbilgan.a")),
+    }
 }
 
 fn link(library: &Path) {
     let shown = library.display();
-    println!("cargo::rerun-if-changed={shown}");
+    println!("cargo::rustc-link-lib=static=sorbilgan");
+    // where there is no library, its folder is watched, or the nearest that there is
+    let watched = library.ancestors().find(|path| path.exists()).unwrap_or(library);
+    println!("cargo::rerun-if-changed={}", watched.display());
     match fs::read(library).and_then(|bytes| Ok((bytes, library.canonicalize()?))) {
         Err(why) => println!(
-            "cargo::warning={shown}: {why}. Nothing can be linked without it. Make it by ./build, or set SORBILGAN_LIB to \
-             the folder that has it"
+            "cargo::warning={shown}: {why}. Nothing can be linked without it. Make it by ./build, or set SORBILGAN_LIB \
+             to the folder that has it"
         ),
-        Ok((bytes, _)) if !bytes.windows(VERSION.len()).any(|found| found == VERSION) => println!(
-            "cargo::error={shown} is of another version than this crate, which needs version 1. Take both from one \
-             checkout: make the library by its ./build"
+        Ok((bytes, _)) if !is_needed(&bytes) => println!(
+            "cargo::error={shown} is of another version than this crate, which needs version {VERSION}. Take both from \
+             one checkout: make the library by its ./build"
         ),
         Ok((_, found)) => println!("cargo::rustc-link-search=native={}", found.with_file_name("").display()),
     }
+}
+
+/// Whether the library has the function that is named after the version.
+fn is_needed(library: &[u8]) -> bool {
+    let name = format!("sorbilgan_version_{VERSION}\0");
+    library.windows(name.len()).any(|found| found == name.as_bytes())
 }

@@ -38,7 +38,8 @@ static void print_leap_day(const uint8_t *nodes, size_t nodes_length) {
     struct sorbilgan_value_answer answer;
     char text[SORBILGAN_INPUT_LIMIT];
 
-    sorbilgan_write_moment_by(nodes, nodes_length, template_text, template_length, &leap_day, text, sizeof text, &answer);
+    sorbilgan_write_moment_by(nodes, nodes_length, template_text, template_length, &leap_day, text, sizeof text,
+                              &answer);
     print_text(&answer, text);
 }
 

@@ -51,3 +51,22 @@ fn instants() {
     let utc = DateTime::<FixedOffset>::try_from(read("YYYY", "2024").unwrap()).unwrap();
     assert_eq!(utc, Utc.with_ymd_and_hms(2024, 1, 1, 0, 0, 0).unwrap());
 }
+
+/// The first and last days that chrono has are converted, unless the time in UTC is outside. The year before year 0 is
+/// 2 BC, which is read from -2.
+#[test]
+fn ends_of_years() {
+    let (first, last) = (NaiveDate::MIN.year() - 1, NaiveDate::MAX.year());
+    let template = "YYYY-MM-DD HH24:MI TZH:TZM";
+    let converted = |line: &str| DateTime::<FixedOffset>::try_from(read(template, line).unwrap()).ok();
+    for line in [format!("{first}-01-01 00:00 -15:59"), format!("{last}-12-31 23:59 +15:59")] {
+        assert_eq!(converted(&line).map(|time| time.timestamp_micros()), instant(template, &line).ok(), "{line}");
+    }
+    for line in [
+        format!("{first}-01-01 00:00 +15:59"),
+        format!("{last}-12-31 23:59 -15:59"),
+        format!("{}-01-01 00:00 +00:00", last + 1),
+    ] {
+        assert_eq!(converted(&line), None, "{line}");
+    }
+}

@@ -17,6 +17,19 @@ use std::fmt;
 /// };
 /// assert_eq!(hint, "Hours go from 1 to 12 here.");
 /// ```
+///
+/// Later versions may have more, so a `match` needs a last arm:
+///
+/// ```compile_fail,E0004
+/// use sorbilgan::{read, Cause};
+///
+/// match read("HH12:MI", "13:30").unwrap_err().cause() {
+///     Cause::TooLong | Cause::NotUtf8 | Cause::MixedDates | Cause::Conflict | Cause::Short | Cause::Narrow => (),
+///     Cause::NotInteger | Cause::OutOfRange | Cause::NoWord | Cause::NotTwoNumbers | Cause::YearOutOfRange => (),
+///     Cause::ZoneLetter | Cause::HourOfTwelve | Cause::NoYear | Cause::FieldOverflow | Cause::OffsetRange => (),
+///     Cause::InstantRange | Cause::DateRange | Cause::NotWritten | Cause::NoMoment | Cause::NoRoom => (),
+/// }
+/// ```
 #[derive(Debug, Clone, Copy, PartialEq, Eq, PartialOrd, Ord, Hash)]
 #[non_exhaustive]
 #[cfg_attr(feature = "serde", derive(serde::Serialize, serde::Deserialize), serde(into = "u8", try_from = "u8"))]
@@ -119,13 +132,13 @@ impl fmt::Display for Cause {
     fn fmt(&self, f: &mut fmt::Formatter<'_>) -> fmt::Result {
         f.pad(match self {
             Cause::TooLong => "template over 256 bytes or input over 512",
-            Cause::NotUtf8 => "either is not UTF-8",
+            Cause::NotUtf8 => "template or input is not UTF-8",
             Cause::MixedDates => "Gregorian and ISO patterns mixed",
             Cause::Conflict => "field set before to another value",
-            Cause::Short => "fixed width, input shorter",
-            Cause::Narrow => "fixed width, fewer bytes parsed",
+            Cause::Short => "input shorter than a fixed width",
+            Cause::Narrow => "fewer bytes parsed than a fixed width",
             Cause::NotInteger => "no integer",
-            Cause::OutOfRange => "outside signed 32 bits",
+            Cause::OutOfRange => "number outside signed 32 bits",
             Cause::NoWord => "none of the listed words",
             Cause::NotTwoNumbers => "Y,YYY without both numbers",
             Cause::YearOutOfRange => "Y,YYY outside 32 bits",
@@ -136,7 +149,7 @@ impl fmt::Display for Cause {
             Cause::OffsetRange => "offset hours outside 0 to 15 or minutes outside 0 to 59",
             Cause::InstantRange => "instant: outside 64 bits, or at one of their ends",
             Cause::DateRange => "date: outside 32 bits, or at one of their ends",
-            Cause::NotWritten => "write: a pattern that is not written, the full name of a month without FM, or any other prefix or suffix",
+            Cause::NotWritten => "write: a pattern that is not written",
             Cause::NoMoment => "write: no moment of the years 1 to 9999",
             Cause::NoRoom => "write: a text longer than its buffer",
         })

@@ -43,20 +43,21 @@
 //!
 //! # Versions
 //!
-//! Later versions have more causes, parts and functions: match on [`Cause`] with a last arm `_`, and take [`Parts`] apart
-//! with `..`. A library of another version than this crate's is an error when it is built.
+//! Later versions have more causes, parts and functions: match on [`Cause`] with a last arm `_`, and take [`Parts`]
+//! apart with `..`. When the crate is built with a library of another version, that is an error.
 //!
 //! # Features
 //!
-//! The package in `bindings/rust` needs no crate of others. That in `bindings/rust-features` is the same crate with three
-//! features, none of them on by default:
+//! The package in `bindings/rust` needs no third-party crate. The one in `bindings/rust-features` is the same crate
+//! with three features, none of them on by default:
 //!
 //! - `serde`: [`Moment`], [`Parts`], [`Cause`] as its number and [`Template`] as its text are `Serialize` and
-//!   `Deserialize`; [`Refusal`] is `Serialize`.
+//!   `Deserialize`; [`Refusal`] is `Serialize`. The numbers of moments and parts are deserialized as they are.
 //! - `chrono`: [`Moment`] from and to `NaiveDateTime`, and [`Parts`] to `DateTime<FixedOffset>`.
 //! - `time`: [`Moment`] from and to `PrimitiveDateTime`, and [`Parts`] to `OffsetDateTime`.
 //!
-//! Each conversion is a `TryFrom` that loses nothing.
+//! Each conversion is a `TryFrom` that loses nothing. A program and the crates that it depends on must all take the
+//! same one of the two packages.
 
 #![deny(unsafe_code)]
 #![warn(missing_docs)]
@@ -69,6 +70,7 @@ mod moment;
 mod once;
 mod parts;
 mod refusal;
+mod system_time;
 mod template;
 #[cfg(feature = "chrono")]
 mod with_chrono;
@@ -81,9 +83,10 @@ pub use cause::{Cause, TryFromNumberError};
 #[cfg(any(feature = "chrono", feature = "time"))]
 pub use conversions::ConversionError;
 pub use moment::{Moment, TryFromPartsError};
-pub use once::{date, format, instant, read, system_time, write};
+pub use once::{date, format, instant, read, write};
 pub use parts::Parts;
 pub use refusal::Refusal;
+pub use system_time::system_time;
 pub use template::Template;
 
 /// The version of the library, as `sorbilgan_version()` answers in C.

@@ -1,7 +1,6 @@
 //! The answers for a template that is used once: it is compiled on the stack, at each call.
 
 use crate::{ffi, Moment, Parts, Refusal, INPUT_LIMIT};
-use std::time::{Duration, SystemTime, UNIX_EPOCH};
 
 /// Reads the parts of an input, as [`Template::read`](crate::Template::read) does.
 ///
@@ -30,29 +29,6 @@ pub fn read(template: impl AsRef<[u8]>, input: impl AsRef<[u8]>) -> Result<Parts
 /// ```
 pub fn instant(template: impl AsRef<[u8]>, input: impl AsRef<[u8]>) -> Result<i64, Refusal> {
     ffi::INSTANT.by_text(template.as_ref(), input.as_ref()).map(|answer| answer.value)
-}
-
-/// The time of an instant, before and after 1970.
-///
-/// ```
-/// use sorbilgan::{instant, system_time};
-/// use std::time::{Duration, UNIX_EPOCH};
-///
-/// assert_eq!(system_time(instant("YYYY", "1970")?), UNIX_EPOCH);
-///
-/// let days = |count: u64| Duration::from_secs(86_400 * count);
-/// assert_eq!(system_time(instant("YYYY", "1960")?), UNIX_EPOCH - days(3653));
-/// assert_eq!(system_time(instant("YYYY", "1980")?), UNIX_EPOCH + days(3652));
-/// # Ok::<(), sorbilgan::Refusal>(())
-/// ```
-#[must_use]
-pub fn system_time(instant: i64) -> SystemTime {
-    let distance = Duration::from_micros(instant.unsigned_abs());
-    if instant < 0 {
-        UNIX_EPOCH - distance
-    } else {
-        UNIX_EPOCH + distance
-    }
 }
 
 /// Reads the date of an input, as [`Template::date`](crate::Template::date) does.

@@ -6,7 +6,15 @@ use sorbilgan_sys::PartsAnswer;
 /// A part that the template does not name, or names and finds to be 0, has the value that it would have at the start
 /// of year 0: month and day 1, all others 0. The ranges are proved: month 1 to 12, day 1 to 31, hour 0 to 23, minute
 /// and second 0 to 59, microseconds 0 to 999,999; and where year, month and day are all read, the month has that day.
-/// Later versions may have more parts.
+///
+/// Later versions may have more parts, so it is made by reading or from a [`Moment`], and taken apart with `..`:
+///
+/// ```compile_fail,E0638
+/// use sorbilgan::{Moment, Parts};
+///
+/// let parts = Parts::from(Moment::midnight(2024, 2, 29));
+/// let Parts { year, month, day, hour, minute, second, micros, precision, offset } = parts;
+/// ```
 ///
 /// ```
 /// use sorbilgan::{read, Parts};

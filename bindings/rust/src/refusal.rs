@@ -113,7 +113,7 @@ impl fmt::Display for Refusal {
             Cause::FieldOverflow => write!(f, "no such date or time"),
             Cause::OffsetRange => write!(f, "an offset of more than 15 hours or 59 minutes"),
             Cause::InstantRange => write!(f, "an instant outside 64 bits"),
-            Cause::DateRange => write!(f, "a day outside 32 bits"),
+            Cause::DateRange => write!(f, "a date outside 32 bits"),
             Cause::NotWritten => {
                 write!(f, "{pattern} cannot be written, or only with another prefix or suffix, or none")
             }

@@ -2,7 +2,7 @@
 
 use crate::conversions::{found, local, micros, narrow};
 use crate::{ConversionError, Moment, Parts};
-use chrono::{DateTime, Datelike, FixedOffset, NaiveDate, NaiveDateTime, TimeZone, Timelike};
+use chrono::{DateTime, Datelike, Duration, FixedOffset, NaiveDate, NaiveDateTime, TimeZone, Timelike};
 
 /// The same date and time, where it is one.
 ///
@@ -69,6 +69,8 @@ impl TryFrom<Parts> for DateTime<FixedOffset> {
     fn try_from(parts: Parts) -> Result<DateTime<FixedOffset>, ConversionError> {
         let (moment, seconds) = local(parts)?;
         let offset = found(FixedOffset::east_opt(seconds))?;
-        found(offset.from_local_datetime(&NaiveDateTime::try_from(moment)?).single())
+        // at the ends of chrono's years the time in UTC may be outside
+        let utc = NaiveDateTime::try_from(moment)?.checked_sub_signed(Duration::seconds(seconds.into()));
+        Ok(offset.from_utc_datetime(&found(utc)?))
     }
 }

@@ -27,7 +27,7 @@ fn the_same_causes() {
 fn the_same_sizes() {
     let named = |line: &'static str| {
         let (name, number) = line.strip_prefix("#define SORBILGAN_")?.split_once(' ')?;
-        Some((name, number.parse().unwrap()))
+        Some((name, number.parse().ok()?))
     };
     let found: Vec<(&str, usize)> = HEADER.lines().filter_map(named).collect();
     let wanted = [
@@ -41,10 +41,32 @@ fn the_same_sizes() {
     assert_eq!(found, wanted);
 }
 
+/// A new cause is a new version: a crate without it must not link.
 #[test]
 fn the_same_version() {
     assert_eq!([sorbilgan_version(), sorbilgan_version_1()], [VERSION; 2]);
     assert!(HEADER.contains(&format!("= sorbilgan_version_{VERSION};")));
+    assert_eq!((VERSION, Cause::ALL.len()), (1, 21));
+}
+
+/// The fields of a struct in C or Rust, between its first line and the next brace.
+fn fields(text: &str, first: &str, name: impl Fn(&str) -> Option<String>) -> Vec<String> {
+    let body = text.split(first).nth(1).unwrap_or_else(|| panic!("there is no {first}")).split('}').next().unwrap();
+    body.lines().filter_map(name).collect()
+}
+
+#[test]
+fn the_same_fields() {
+    let in_c = |line: &str| Some(line.trim().strip_prefix("int64_t ")?.split(';').next()?.to_string());
+    let in_rust = |line: &str| Some(line.trim().strip_prefix("pub ")?.split(':').next()?.to_string());
+    let report = fields(DECLARATIONS, "pub struct Report {", in_rust);
+    for (c, rust, count) in [("parts_answer", "PartsAnswer", 14), ("value_answer", "ValueAnswer", 5)] {
+        let found = fields(HEADER, &format!("struct sorbilgan_{c} {{"), in_c);
+        let own = fields(DECLARATIONS, &format!("pub struct {rust} {{"), in_rust);
+        assert_eq!(own[0], "report");
+        assert_eq!(found, [&report, &own[1..]].concat());
+        assert_eq!(found.len(), count);
+    }
 }
 
 /// A type of Rust and its name in C; in an argument it is around the argument's name.

@@ -36,7 +36,7 @@ fn every_cause() {
         (parts("YYYY-MM-DD", "2023-02-29"), none, "no such date or time"),
         (parts("OF", "+16"), none, "an offset of more than 15 hours or 59 minutes"),
         (instant("YYYY", "294248").map(drop), none, "an instant outside 64 bits"),
-        (date("YYYY-MM-DD", "5881580-07-11").map(drop), none, "a day outside 32 bits"),
+        (date("YYYY-MM-DD", "5881580-07-11").map(drop), none, "a date outside 32 bits"),
         (
             written("DD FMMM", LEAP_DAY),
             at("MM"),

@@ -1,5 +1,5 @@
-//! Reads the dates of lessons, puts them in order, and writes each as learners see it. `tests/installed` builds and runs
-//! this with an installed library.
+//! Reads the dates of lessons, puts them in order, and writes each as learners see it. `tests/installed` builds and
+//! runs this with an installed library.
 
 use sorbilgan::{system_time, Cause, Moment, Template};
 use std::error::Error;

@@ -1,6 +1,7 @@
 //! A mark as an object of JSON, on a line of its own.
 
 use crate::marks::Mark;
+use crate::moment::shown;
 use sorbilgan::{Parts, Refusal};
 use std::io::{self, Write};
 
@@ -10,14 +11,14 @@ pub fn write(out: &mut impl Write, mark: &Mark, line: &[u8]) -> io::Result<()> {
     let members = match mark {
         Mark::Ok(parts) | Mark::Accepted(parts) => read(parts, &line),
         Mark::Otherwise(parts, text) => format!(r#"{},"expected":{}"#, read(parts, &line), string(text)),
-        Mark::Incomplete(parts, text) => format!(r#"{},"expected":{}"#, read(parts, &line), or_null(text.as_deref())),
+        Mark::Incomplete(parts, text) => format!(r#"{},"written":{}"#, read(parts, &line), or_null(text.as_deref())),
         Mark::Refused(refusal) => format!(r#"{},"line":{line}"#, refused(refusal)),
     };
     writeln!(out, r#"{{"mark":"{}",{members}}}"#, mark.name())
 }
 
 fn read(parts: &Parts, line: &str) -> String {
-    format!(r#""line":{line},"moment":"{}""#, moment(parts))
+    format!(r#""line":{line},"moment":"{}""#, shown(parts, 'T'))
 }
 
 fn refused(refusal: &Refusal) -> String {
@@ -30,21 +31,6 @@ fn refused(refusal: &Refusal) -> String {
 
 fn or_null(text: Option<&str>) -> String {
     text.map_or("null".into(), string)
-}
-
-/// The date and time by ISO 8601, with microseconds where there are any, and the offset where one was read. A year
-/// that is not of four digits has a sign.
-fn moment(p: &Parts) -> String {
-    let year = if (0..=9999).contains(&p.year) { format!("{:04}", p.year) } else { format!("{:+05}", p.year) };
-    let mut text = format!("{year}-{:02}-{:02}T{:02}:{:02}:{:02}", p.month, p.day, p.hour, p.minute, p.second);
-    if p.micros != 0 {
-        text += &format!(".{:06}", p.micros);
-    }
-    if let Some(seconds) = p.offset {
-        let minutes = seconds.abs() / 60;
-        text += &format!("{}{:02}:{:02}", if seconds < 0 { '-' } else { '+' }, minutes / 60, minutes % 60);
-    }
-    text
 }
 
 /// A text in quotes. Control characters are escaped, and so are the separators of lines and paragraphs, which some

@@ -8,6 +8,7 @@ mod count;
 mod json;
 mod lines;
 mod marks;
+mod moment;
 mod options;
 mod text;
 

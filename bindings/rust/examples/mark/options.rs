@@ -22,7 +22,8 @@ columns: the mark, what there is to say about it, and the line as it is.
 At the end the counts are on standard error.
 
   --json      writes an object of JSON for each line: mark, line, moment (by ISO 8601; the year is 0000 if none was
-              read) and expected; or for a refused line mark, number, cause, pattern, figures, reason and line
+              read), and expected or, if it is incomplete, written; for a refused line mark, number, cause, pattern,
+              figures, reason and line
   --help      writes this
   --          ends the options, so a template may begin with -
 

@@ -1,7 +1,7 @@
 //! A mark as a line of three columns.
 
 use crate::marks::Mark;
-use sorbilgan::Parts;
+use crate::moment::shown;
 use std::io::{self, Write};
 
 const ENDS_EARLY: &str = "the line ends before the template does";
@@ -13,7 +13,7 @@ pub fn write(out: &mut impl Write, mark: &Mark, line: &[u8]) -> io::Result<()> {
         _ => write!(out, "{}\t", mark.name())?,
     }
     match mark {
-        Mark::Ok(parts) | Mark::Accepted(parts) => write!(out, "{}", date_and_time(parts))?,
+        Mark::Ok(parts) | Mark::Accepted(parts) => write!(out, "{}", shown(parts, ' '))?,
         Mark::Otherwise(_, text) => write!(out, "accepted, but spelled otherwise; expected {}", visible(text))?,
         Mark::Incomplete(_, None) => write!(out, "{ENDS_EARLY}")?,
         Mark::Incomplete(_, Some(text)) => write!(out, "{ENDS_EARLY}; what was read is written {}", visible(text))?,
@@ -22,10 +22,6 @@ pub fn write(out: &mut impl Write, mark: &Mark, line: &[u8]) -> io::Result<()> {
     out.write_all(b"\t")?;
     out.write_all(line)?;
     out.write_all(b"\n")
-}
-
-fn date_and_time(p: &Parts) -> String {
-    format!("{:04}-{:02}-{:02} {:02}:{:02}:{:02}", p.year, p.month, p.day, p.hour, p.minute, p.second)
 }
 
 /// The text of a template that has a TAB or a newline must not end the column or the line.

@@ -12,9 +12,9 @@ fn each_mark() {
     let input = "2024-02-29\n2024-2-9\n2024\n10000-01-01\n\n";
     let wanted = r#"{"mark":"ok","line":"2024-02-29","moment":"2024-02-29T00:00:00"}
 {"mark":"otherwise","line":"2024-2-9","moment":"2024-02-09T00:00:00","expected":"2024-02-09"}
-{"mark":"incomplete","line":"2024","moment":"2024-01-01T00:00:00","expected":"2024-01-01"}
+{"mark":"incomplete","line":"2024","moment":"2024-01-01T00:00:00","written":"2024-01-01"}
 {"mark":"accepted","line":"10000-01-01","moment":"+10000-01-01T00:00:00"}
-{"mark":"incomplete","line":"","moment":"0000-01-01T00:00:00","expected":null}
+{"mark":"incomplete","line":"","moment":"0000-01-01T00:00:00","written":null}
 "#;
     let answer = answer(&["--json", "YYYY-MM-DD"], input);
     assert_eq!((answer.status, answer.output()), (0, wanted));
