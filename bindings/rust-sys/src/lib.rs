@@ -36,9 +36,10 @@ pub struct Report {
     pub second_figure: i64,
 }
 
-/// The parts of a moment. A refusal leaves all but the report 0.
+/// The parts of a moment. A refusal leaves all but the report 0. Later versions may have more: begin with the default.
 #[repr(C)]
 #[derive(Debug, Clone, Copy, Default, PartialEq, Eq)]
+#[non_exhaustive]
 pub struct PartsAnswer {
     pub report: Report,
     pub year: i64,

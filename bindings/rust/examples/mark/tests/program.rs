@@ -47,6 +47,17 @@ fn ends_of_lines() {
     assert_eq!(answer.output(), wanted);
 }
 
+/// Microseconds are shown where there are any, and an offset where one was read.
+#[test]
+fn moments_as_they_were_read() {
+    for (template, line, shown) in [
+        ("YYYY-MM-DD HH24:MI TZH", "2024-02-29 21:05 +07", "2024-02-29 21:05:00+07:00"),
+        ("YYYY-MM-DD HH24:MI:SS.US TZH", "-44-03-15 12:00:00.5 -01", "-0043-03-15 12:00:00.500000-01:00"),
+    ] {
+        assert_eq!(answer(&[template], line).output(), format!("accepted\t{shown}\t{line}\n"));
+    }
+}
+
 /// A TAB or newline of the template does not end the column.
 #[test]
 fn control_characters_of_the_template() {
