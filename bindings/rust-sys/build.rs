@@ -26,8 +26,8 @@ fn main() {
 fn link(library: &Path) {
     let shown = library.display();
     println!("cargo::rustc-link-lib=static=sorbilgan");
-    // where there is no library, its folder is watched, or the nearest that there is
-    let watched = library.ancestors().find(|path| path.exists()).unwrap_or(library);
+    // where there is no library, its folder is watched; a path that is not there would be new each time
+    let watched = library.ancestors().take(2).find(|path| path.exists()).unwrap_or(library);
     println!("cargo::rerun-if-changed={}", watched.display());
     match fs::read(library).and_then(|bytes| Ok((bytes, library.canonicalize()?))) {
         Err(why) => println!(

@@ -1,6 +1,6 @@
 //! What a compiled template does beside its answers: buffers, threads, memory, and the traits that it has.
 
-use sorbilgan::{write, Moment, Refusal, Template};
+use sorbilgan::{read, write, Moment, Refusal, Template};
 use std::alloc::{GlobalAlloc, Layout, System};
 use std::cell::Cell;
 use std::collections::HashSet;
@@ -130,6 +130,20 @@ fn a_refusal_leaves_the_buffer() {
             let mut buffer = vec![b'#'; room];
             assert_eq!(write(&moment, &mut buffer).unwrap_err().number(), number);
             assert_eq!(buffer, vec![b'#'; room]);
+        }
+    }
+}
+
+/// With `FF1` to `FF6`, a moment has the microseconds unless the instant is rounded to fewer digits.
+#[test]
+fn moments_of_a_precision() {
+    for digits in 1..=6 {
+        for places in 1..=6 {
+            let fraction = &"123456"[..places];
+            let parts = read(format!("SS.FF{digits}"), format!("5.{fraction}")).unwrap();
+            let micros = Moment::try_from(parts).map(|moment| moment.micros).ok();
+            let wanted = fraction.parse::<i32>().unwrap() * 10_i32.pow(6 - places as u32);
+            assert_eq!(micros, (places <= digits).then_some(wanted), "FF{digits} and {fraction}");
         }
     }
 }
