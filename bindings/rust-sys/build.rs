@@ -1,11 +1,12 @@
 //! Links libsorbilgan.a: from the folder that `SORBILGAN_LIB` names, or where `./build` of the repository puts it.
 //! Without it there is a warning alone, so that `cargo check` and `cargo doc` do their work.
 
+#[path = "src/version.rs"]
+mod version;
+
 use std::path::{Path, PathBuf};
 use std::{env, fs};
-
-/// The version of the library that is needed.
-const VERSION: u32 = 1;
+use version::VERSION;
 
 fn main() {
     println!("cargo::rerun-if-env-changed=SORBILGAN_LIB");

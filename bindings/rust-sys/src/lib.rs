@@ -14,8 +14,9 @@
 
 #![no_std]
 
-/// The version of the functions and records; a library of another does not link.
-pub const VERSION: u32 = 1;
+mod version;
+
+pub use version::VERSION;
 
 /// The room for a compiled template, in bytes.
 pub const NODES: usize = 1536;
