@@ -47,7 +47,7 @@ pub fn mark(template: &Template, line: &[u8]) -> Mark {
     match written(template, parts) {
         Some(text) if text.as_bytes() == line => Mark::Ok(parts),
         text if !reaches_all(template, line) => Mark::Incomplete(parts, text),
-        Some(text) if text.as_bytes().starts_with(line) => Mark::Incomplete(parts, Some(text)),
+        Some(text) if lacks_literals(&text, line) => Mark::Incomplete(parts, Some(text)),
         Some(text) => Mark::Otherwise(parts, text),
         None => Mark::Accepted(parts),
     }
@@ -76,9 +76,15 @@ fn written(template: &Template, parts: Parts) -> Option<String> {
 /// q. What was reached is read as before, because no number, word or offset goes on with a q.
 ///
 /// It cannot tell whether literals after the last pattern, or the two letters of its suffix TH, are missing: they take
-/// any characters, or none. [`mark`] sees that by the text, if the line is a beginning of it. And a line near the
-/// limit of an input may have no room for a q for each literal; it then seems to reach a pattern that it does not.
+/// any characters, or none ([`lacks_literals`]). And a line near the limit of an input may have no room for a q for
+/// each literal; it then seems to reach a pattern that it does not.
 fn reaches_all(template: &Template, line: &[u8]) -> bool {
     let room = INPUT_LIMIT.saturating_sub(line.len()).min(TEMPLATE_LIMIT + 1);
     template.read([line, &[b'q'; TEMPLATE_LIMIT + 1][..room]].concat()).is_ok()
+}
+
+/// Whether the line is a beginning of the text and lacks more than the last digits of a number: `0` for `00`, or the
+/// fraction `5` for `500000`, is only spelled otherwise.
+fn lacks_literals(text: &str, line: &[u8]) -> bool {
+    text.as_bytes().strip_prefix(line).is_some_and(|rest| !rest.iter().all(u8::is_ascii_digit))
 }

@@ -127,8 +127,17 @@ fn the_last_literal_is_missing() {
     assert_eq!(marked(r#"HH24" giờ""#, "09"), with("incomplete", "09 giờ"));
     assert_eq!(marked(r#"HH24" giờ""#, "09 gi"), with("incomplete", "09 giờ"));
     assert_eq!(marked(r#"HH24" giờ""#, "9"), with("otherwise", "09 giờ"));
-    assert_eq!(marked("SS.US", "05.5"), with("incomplete", "05.500000"));
+    assert_eq!(marked(r#"HH24" giờ""#, "0"), with("incomplete", "00 giờ"));
     assert_eq!(marked(r#""giờ""#, ""), with("incomplete", "giờ"));
+}
+
+/// A number that is there, with fewer digits than are written.
+#[test]
+fn the_last_digits_are_missing() {
+    assert_eq!(marked("SS.US", "05.5"), with("otherwise", "05.500000"));
+    assert_eq!(marked("HH24:MI", "21:0"), with("otherwise", "21:00"));
+    assert_eq!(marked("SSSSS", "0"), with("otherwise", "00000"));
+    assert_eq!(marked("HH24:MI", "21:"), with("incomplete", "21:00"));
 }
 
 #[test]
