@@ -17,11 +17,7 @@ pub struct Peer<'a> {
 
 /// A peer by its call. Beforehand each answer is held to the one that is wanted.
 pub fn peer<'a, G: 'a, T, U: PartialEq + Debug>(
-    kind: Kind,
-    name: &'static str,
-    given: Vec<G>,
-    call: impl Fn(&G) -> T + 'a,
-    answer: impl Fn(T) -> U,
+    kind: Kind, name: &'static str, given: Vec<G>, call: impl Fn(&G) -> T + 'a, answer: impl Fn(T) -> U,
     wanted: impl IntoIterator<Item = U>,
 ) -> Peer<'a> {
     for (given, wanted) in given.iter().zip(wanted) {

@@ -16,10 +16,7 @@ pub fn all(input: &Input) -> Vec<Peer<'_>> {
 
 /// A reader that gives microseconds since 1970-01-01, or nothing.
 fn reader<'a, T>(
-    kind: Kind,
-    name: &'static str,
-    input: &'a Input,
-    call: impl Fn(&Line) -> T + 'a,
+    kind: Kind, name: &'static str, input: &'a Input, call: impl Fn(&Line) -> T + 'a,
     instant: impl Fn(T) -> Option<i64>,
 ) -> Peer<'a> {
     let wanted = input.lines.iter().map(|line| line.instant);

@@ -30,10 +30,7 @@ fn wanted(input: &Input) -> Vec<Vec<u8>> {
 
 /// A writer that puts its text into the buffer and gives the length.
 fn writer<'a, M: 'a>(
-    name: &'static str,
-    input: &'a Input,
-    moments: Vec<M>,
-    call: impl Fn(&M, &mut [u8]) -> usize + 'a,
+    name: &'static str, input: &'a Input, moments: Vec<M>, call: impl Fn(&M, &mut [u8]) -> usize + 'a,
 ) -> Peer<'a> {
     let text = Rc::new(RefCell::new([0; ROOM]));
     let written = text.clone();
