@@ -10,6 +10,7 @@ mod lines;
 mod marks;
 mod moment;
 mod options;
+mod reach;
 mod text;
 
 #[cfg(test)]

@@ -1,6 +1,7 @@
 //! The mark of a line.
 
-use sorbilgan::{Moment, Parts, Refusal, Template, INPUT_LIMIT, TEMPLATE_LIMIT};
+use crate::reach::reaches_end;
+use sorbilgan::{Moment, Parts, Refusal, Template};
 
 /// The mark of a line, with what was read.
 #[derive(Debug, PartialEq)]
@@ -46,8 +47,7 @@ pub fn mark(template: &Template, line: &[u8]) -> Mark {
     };
     match written(template, parts) {
         Some(text) if text.as_bytes() == line => Mark::Ok(parts),
-        text if !reaches_all(template, line) => Mark::Incomplete(parts, text),
-        Some(text) if lacks_literals(&text, line) => Mark::Incomplete(parts, Some(text)),
+        text if !reaches_end(template, line) => Mark::Incomplete(parts, text),
         Some(text) => Mark::Otherwise(parts, text),
         None => Mark::Accepted(parts),
     }
@@ -67,24 +67,4 @@ fn written(template: &Template, parts: Parts) -> Option<String> {
     }
     let [text, other] = [2000, 2004].map(|year| template.format(&Moment { year, ..moment }).ok());
     text.filter(|text| other.as_ref() == Some(text))
-}
-
-/// Whether the line, which is accepted, reaches all patterns of the template.
-///
-/// A pattern is not read where the input has ended. So the line is read again with letters q after it: each literal
-/// that was not reached takes one at most, and the first pattern that was not reached is refused, because none reads a
-/// q. What was reached is read as before, because no number, word or offset goes on with a q.
-///
-/// It cannot tell whether literals after the last pattern, or the two letters of its suffix TH, are missing: they take
-/// any characters, or none ([`lacks_literals`]). And a line near the limit of an input may have no room for a q for
-/// each literal; it then seems to reach a pattern that it does not.
-fn reaches_all(template: &Template, line: &[u8]) -> bool {
-    let room = INPUT_LIMIT.saturating_sub(line.len()).min(TEMPLATE_LIMIT + 1);
-    template.read([line, &[b'q'; TEMPLATE_LIMIT + 1][..room]].concat()).is_ok()
-}
-
-/// Whether the line is a beginning of the text and lacks more than the last digits of a number: `0` for `00`, or the
-/// fraction `5` for `500000`, is only spelled otherwise.
-fn lacks_literals(text: &str, line: &[u8]) -> bool {
-    text.as_bytes().strip_prefix(line).is_some_and(|rest| !rest.iter().all(u8::is_ascii_digit))
 }

@@ -69,6 +69,6 @@ fn a_line_of_any_bytes() {
     let object = objects("DD", b"5\t\"\\\x00\xff\xc3");
     assert!(object.ends_with(",\"line\":\"5\\u0009\\\"\\\\\\u0000\u{fffd}\u{fffd}\"}\n"), "{object}");
     // the expected text is escaped too
-    let object = objects("DD\"\\\"\t\"", "5");
+    let object = objects("DD\"\\\"\t\"", "5--");
     assert!(object.ends_with(",\"expected\":\"05\\\"\\u0009\"}\n"), "{object}");
 }

@@ -2,6 +2,7 @@
 
 use super::answer;
 use crate::marks::{mark, Mark};
+use crate::reach::closing;
 use sorbilgan::{format, Cause, Moment, Template, INPUT_LIMIT};
 
 /// The mark's name, and the text that goes with it.
@@ -104,8 +105,12 @@ fn a_pattern_is_not_reached() {
 fn all_patterns_are_reached() {
     for (template, line) in [
         ("YYYY RM", "2024 xi"),
-        ("DDth", "5"),
-        ("DDth", "5t"),
+        ("DDth", "5th"),
+        ("DDth", "5 x"),
+        (r#"DD Month" giờ""#, "5 March giờ"),
+        (r#"DD Month" giờ""#, "5 March ngày"),
+        ("DD Month.", "5 March."),
+        ("DD MonthFX", "5 March"),
         ("YYYY BC", "44 BC"),
         ("TZH", "+07"),
         ("OF", "+07"),
@@ -120,15 +125,50 @@ fn all_patterns_are_reached() {
     }
 }
 
-/// A literal that is missing at the end is known by the expected text alone.
 #[test]
 fn the_last_literal_is_missing() {
     assert_eq!(marked(r#"HH24" giờ""#, "09 giờ"), alone("ok"));
-    assert_eq!(marked(r#"HH24" giờ""#, "09"), with("incomplete", "09 giờ"));
-    assert_eq!(marked(r#"HH24" giờ""#, "09 gi"), with("incomplete", "09 giờ"));
-    assert_eq!(marked(r#"HH24" giờ""#, "9"), with("otherwise", "09 giờ"));
-    assert_eq!(marked(r#"HH24" giờ""#, "0"), with("incomplete", "00 giờ"));
+    for line in ["09", "09 ", "09 g", "09 gi", "9", "9 gi", "9-gi"] {
+        assert_eq!(marked(r#"HH24" giờ""#, line), with("incomplete", "09 giờ"), "{line}");
+    }
+    for line in ["9 giờ", "09 giò", "09-giờ", "09 giờ and more", "09 giờAM", "9 giờ BC"] {
+        assert_eq!(marked(r#"HH24" giờ""#, line), with("otherwise", "09 giờ"), "{line}");
+    }
     assert_eq!(marked(r#""giờ""#, ""), with("incomplete", "giờ"));
+    assert_eq!(marked("DD.MM.", "5.3"), with("incomplete", "05.03."));
+    assert_eq!(marked("DD.MM.", "5.3 "), with("incomplete", "05.03."));
+    assert_eq!(marked("DD.MM.", "5.3-"), with("otherwise", "05.03."));
+    // a template that cannot be written, and the letters of a suffix
+    for (template, line) in [(r#"DD Month" giờ""#, "5 March"), ("DD Month.", "5 March"), ("DDth", "5"), ("DDth", "5t")]
+    {
+        assert_eq!(marked(template, line), alone("incomplete"), "{template}: {line}");
+    }
+    // spaces that are skipped after a number pay for literals
+    assert_eq!(marked(r#"HH24"   ""#, "9   "), with("otherwise", "09   "));
+}
+
+/// Quotes that do not end, and quotes and backslashes that are characters.
+#[test]
+fn the_last_quotes() {
+    for (template, ends) in [
+        ("DD", ""),
+        (r#""a"DD"#, ""),
+        (r#""aDD"#, "\""),
+        (r#"DD""#, "\""),
+        (r#"DD\""#, ""),
+        (r"DD\", ""),
+        (r#"\""a"#, "\""),
+        (r#""a\""#, "\""),
+        (r#""a\\""#, ""),
+        (r#""a\"#, "\\\""),
+    ] {
+        assert_eq!(closing(template), ends, "{template}");
+    }
+    assert_eq!(marked(r#"HH24" giờ"#, "9"), with("incomplete", "09 giờ"));
+    assert_eq!(marked(r#"HH24" giờ"#, "9 giờ"), with("otherwise", "09 giờ"));
+    assert_eq!(marked(r#"HH24"\"#, "9"), with("incomplete", r"09\"));
+    assert_eq!(marked(r#"HH24"\"#, r"9\"), with("otherwise", r"09\"));
+    assert_eq!(marked(r#"HH24\"""#, r#"9"""#), with("otherwise", "09\""));
 }
 
 /// A number that is there, with fewer digits than are written.
@@ -146,15 +186,21 @@ fn an_empty_template() {
     assert_eq!(marked("", "abc"), with("otherwise", ""));
 }
 
-/// The longest run of literals before a pattern; and lines that have no room for as many letters more.
+/// The longest run of literals before a pattern; and lines and templates that have no room for more.
 #[test]
 fn limits() {
     let template = format!("DD{}MM", "x".repeat(252));
     assert_eq!(marked(&template, "5").0, "incomplete");
     let spaces = |count| " ".repeat(count) + "05";
-    assert_eq!(marked("DDxxxMM", spaces(INPUT_LIMIT - 6)).0, "incomplete");
-    assert_eq!(marked("DDxxxMM", spaces(INPUT_LIMIT - 5)).0, "otherwise");
+    assert_eq!(marked("DDxxxMM", spaces(INPUT_LIMIT - 3)).0, "incomplete");
+    assert_eq!(marked("DDxxxMM", spaces(INPUT_LIMIT - 2)).0, "otherwise");
     assert_eq!(marked("DDMM", spaces(INPUT_LIMIT - 3)).0, "incomplete");
+    // without room for a pattern after the template: its own patterns are missed, and not its last literals
+    let literals = |count| format!("DD{}", "x".repeat(count));
+    assert_eq!(marked(&literals(252), "5").0, "incomplete");
+    assert_eq!(marked(&literals(253), "5").0, "otherwise");
+    assert_eq!(marked(&template, spaces(INPUT_LIMIT - 255)).0, "incomplete");
+    assert_eq!(marked(&template, spaces(INPUT_LIMIT - 254)).0, "otherwise");
     assert_eq!(marked("DD", spaces(INPUT_LIMIT - 2)), with("otherwise", "05"));
     assert_eq!(marked("DD", spaces(INPUT_LIMIT - 1)), alone("refused"));
 }
