@@ -83,14 +83,18 @@ def write(program, questions):
     return texts
 
 
-def read_due(mode, moment):
+def values_due(mode, moment):
     """What a moment's text is read as: the seven numbers, the microseconds or the days since 1970-01-01."""
     since = datetime(*moment) - EPOCH
     if mode == "instant":
-        return f"0 {since // timedelta(microseconds=1)}".encode()
-    if mode == "date":
-        return f"0 {since.days}".encode()
-    return f"0 {' '.join(map(str, moment))} 0 none".encode()
+        return (since // timedelta(microseconds=1),)
+    return (since.days,) if mode == "date" else moment
+
+
+def read_due(mode, moment):
+    """The same as the line program says it; the parts have no precision and no offset."""
+    rest = " 0 none" if mode == "parts" else ""
+    return f"0 {' '.join(map(str, values_due(mode, moment)))}{rest}".encode()
 
 
 def read_back(program, full):
@@ -102,10 +106,10 @@ def read_back(program, full):
                 sys.exit(f"{one.line!r} is written as {text!r} and read as {read!r}, {mode}")
 
 
-def arguments():
-    """PROGRAM SEED COUNT, as each model takes them."""
+def arguments(asked="PROGRAM"):
+    """PROGRAM SEED COUNT, as each model takes them; or what else is asked."""
     if len(sys.argv) != 4:
-        sys.exit(f"usage: {sys.argv[0]} PROGRAM SEED COUNT")
+        sys.exit(f"usage: {sys.argv[0]} {asked} SEED COUNT")
     program, seed, count = sys.argv[1:]
     return program, random.Random(int(seed)), int(count)
 

@@ -171,12 +171,16 @@ def spoilt(random_, parts, moment):
     return parts, moment
 
 
+def template_of(parts):
+    return "".join(map("".join, parts)).encode(errors="surrogateescape")
+
+
 def question(random_):
     parts = any_parts(random_) if random_.random() < 0.1 else full_parts(random_)
     moment = random_moment(random_)
     for _ in range(random_.choice((0, 0, 0, 0, 1, 2))):
         parts, moment = spoilt(random_, parts, moment)
-    template = "".join(map("".join, parts)).encode(errors="surrogateescape")
+    template = template_of(parts)
     due = answer(template, parts, moment)
     back = moment if due.startswith("0 ") and is_full(parts) else None
     return Question(line(template, moment), due.encode(), back)

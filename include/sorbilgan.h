@@ -7,8 +7,8 @@
  * not overlap what it is lent. Nothing is allocated or kept between calls, so every function may be called from
  * several threads at once.
  *
- * Later versions add functions, and numbers of refusals, and fields at the end of an answer. A program that is compiled
- * again with a later header goes on working, if it takes every number that it does not know for a refusal.
+ * Later versions add functions, settings, numbers of refusals, and fields at the end of an answer. A program that is
+ * compiled again with a later header goes on working, if it takes every number that it does not know for a refusal.
  */
 #ifndef SORBILGAN_H
 #define SORBILGAN_H
@@ -21,7 +21,7 @@ extern "C" {
 #endif
 
 /* The version of this header. sorbilgan_version() is the library's, for callers that do not include this header. */
-#define SORBILGAN_VERSION 1
+#define SORBILGAN_VERSION 2
 
 uint32_t sorbilgan_version(void);
 
@@ -30,7 +30,7 @@ uint32_t sorbilgan_version(void);
  * includes this header asks for the function. A file that uses only types and constants, and is linked without the
  * library, defines SORBILGAN_NO_LINK_CHECK before it includes this header.
  */
-uint32_t sorbilgan_version_1(void);
+uint32_t sorbilgan_version_2(void);
 
 #if defined(__GNUC__) && !defined(SORBILGAN_NO_LINK_CHECK)
 #ifdef __has_attribute
@@ -38,14 +38,23 @@ uint32_t sorbilgan_version_1(void);
 __attribute__((retain))
 #endif
 #endif
-__attribute__((used)) static uint32_t (*const sorbilgan_linked)(void) = sorbilgan_version_1;
+__attribute__((used)) static uint32_t (*const sorbilgan_linked)(void) = sorbilgan_version_2;
 #endif
 
-/* The limits of a template and of an input, in bytes. */
+/* The limits of a template and of an input, in bytes: first those of the exercise pages, then of the flash cards. */
 #define SORBILGAN_TEMPLATE_LIMIT 256
 #define SORBILGAN_INPUT_LIMIT 512
+#define SORBILGAN_CARDS_TEMPLATE_LIMIT 64
+#define SORBILGAN_CARDS_INPUT_LIMIT 96
 
-/* The room for a compiled template, in bytes. */
+/*
+ * Settings are a number of bits. The functions whose names end in _with take them; all others have settings 0, those of
+ * the exercise pages. SORBILGAN_CARDS sets the limits of the flash cards. Bits without a name are ignored, but a later
+ * version may name them, so leave them 0.
+ */
+#define SORBILGAN_CARDS 4u
+
+/* The room for a compiled template, in bytes, whatever the settings. */
 #define SORBILGAN_NODES 1536
 
 /* An answer's pattern where it names none; one that is named is below it. */
@@ -60,7 +69,7 @@ __attribute__((used)) static uint32_t (*const sorbilgan_linked)(void) = sorbilga
  */
 enum sorbilgan_refusal {
     SORBILGAN_OK = 0,
-    SORBILGAN_TOO_LONG = 1,           /* template over 256 bytes or input over 512 */
+    SORBILGAN_TOO_LONG = 1,           /* template over 256 bytes or input over 512 (flash cards: 64 and 96) */
     SORBILGAN_NOT_UTF8 = 2,           /* template or input is not UTF-8 */
     SORBILGAN_MIXED_DATES = 3,        /* Gregorian and ISO patterns mixed: pattern */
     SORBILGAN_CONFLICT = 4,           /* field set before to another value: pattern */
@@ -132,7 +141,10 @@ _Static_assert(sizeof(struct sorbilgan_parts_answer) == 14 * sizeof(int64_t), "t
 _Static_assert(sizeof(struct sorbilgan_value_answer) == 5 * sizeof(int64_t), "the answer is 5 numbers");
 #endif
 
-/* Reading and writing fill the whole answer and return its number: SORBILGAN_OK, or the refusal's. */
+/*
+ * Reading and writing fill the whole answer and return its number: SORBILGAN_OK, or the refusal's. The limits are those
+ * of the exercise pages, unless settings say otherwise.
+ */
 
 /* The parts of the input. */
 uint8_t sorbilgan_parts(const char *template_text, size_t template_length, const char *input, size_t input_length,
@@ -151,7 +163,7 @@ uint8_t sorbilgan_date(const char *template_text, size_t template_length, const 
  * after the text stay as they were, and on refusal all of them do. A marker (AM, PM, A.M., P.M.) and the name of a
  * month (FMMonth, Mon) are written in the case of their pattern. FM or fm is accepted before the full name of a month,
  * which needs it, and before nothing else. By a full template (a date, a time of day and US, each once) the text is at
- * most six bytes longer than the template.
+ * most six bytes longer than the template, and so within the limit of an input.
  */
 uint8_t sorbilgan_write(const char *template_text, size_t template_length, int32_t year, int32_t month, int32_t day,
                         int32_t hour, int32_t minute, int32_t second, int32_t micros, char *text, size_t room,
@@ -185,6 +197,45 @@ uint8_t sorbilgan_write_by(const uint8_t *nodes, size_t nodes_length, const char
                            int32_t micros, char *text, size_t room, struct sorbilgan_value_answer *answer);
 
 /*
+ * The nine functions above, with settings; settings 0 change nothing. With SORBILGAN_CARDS a template over 64 bytes or
+ * an input over 96 is refused with 1 (sorbilgan_compile_with: -1), and writing refuses more than 384 bytes of nodes
+ * with 1. Nothing else differs: within these limits the answers are equal, and so are the nodes that a template is
+ * compiled to. The room for nodes stays SORBILGAN_NODES, and that for a text is the caller's own.
+ */
+uint8_t sorbilgan_parts_with(uint32_t settings, const char *template_text, size_t template_length, const char *input,
+                             size_t input_length, struct sorbilgan_parts_answer *answer);
+
+uint8_t sorbilgan_instant_with(uint32_t settings, const char *template_text, size_t template_length, const char *input,
+                               size_t input_length, struct sorbilgan_value_answer *answer);
+
+uint8_t sorbilgan_date_with(uint32_t settings, const char *template_text, size_t template_length, const char *input,
+                            size_t input_length, struct sorbilgan_value_answer *answer);
+
+uint8_t sorbilgan_write_with(uint32_t settings, const char *template_text, size_t template_length, int32_t year,
+                             int32_t month, int32_t day, int32_t hour, int32_t minute, int32_t second, int32_t micros,
+                             char *text, size_t room, struct sorbilgan_value_answer *answer);
+
+int64_t sorbilgan_compile_with(uint32_t settings, const char *template_text, size_t template_length,
+                               uint8_t nodes[SORBILGAN_NODES]);
+
+uint8_t sorbilgan_parts_by_with(uint32_t settings, const uint8_t *nodes, size_t nodes_length, const char *template_text,
+                                size_t template_length, const char *input, size_t input_length,
+                                struct sorbilgan_parts_answer *answer);
+
+uint8_t sorbilgan_instant_by_with(uint32_t settings, const uint8_t *nodes, size_t nodes_length,
+                                  const char *template_text, size_t template_length, const char *input,
+                                  size_t input_length, struct sorbilgan_value_answer *answer);
+
+uint8_t sorbilgan_date_by_with(uint32_t settings, const uint8_t *nodes, size_t nodes_length, const char *template_text,
+                               size_t template_length, const char *input, size_t input_length,
+                               struct sorbilgan_value_answer *answer);
+
+uint8_t sorbilgan_write_by_with(uint32_t settings, const uint8_t *nodes, size_t nodes_length, const char *template_text,
+                                size_t template_length, int32_t year, int32_t month, int32_t day, int32_t hour,
+                                int32_t minute, int32_t second, int32_t micros, char *text, size_t room,
+                                struct sorbilgan_value_answer *answer);
+
+/*
  * The name of an answer's pattern as a string, and its length from 1 to 5. The bytes after the name are 0. For any
  * number that is no pattern's, the string is empty and the length 0.
  */
@@ -216,20 +267,34 @@ SORBILGAN_INLINE struct sorbilgan_moment sorbilgan_moment_of(const struct sorbil
     return moment;
 }
 
-/* sorbilgan_write, and below it sorbilgan_write_by, with a moment in place of seven numbers. */
+/* The four functions that write, with a moment in place of seven numbers. */
+SORBILGAN_INLINE uint8_t sorbilgan_write_moment_with(uint32_t settings, const char *template_text,
+                                                     size_t template_length, const struct sorbilgan_moment *moment,
+                                                     char *text, size_t room, struct sorbilgan_value_answer *answer) {
+    return sorbilgan_write_with(settings, template_text, template_length, moment->year, moment->month, moment->day,
+                                moment->hour, moment->minute, moment->second, moment->micros, text, room, answer);
+}
+
 SORBILGAN_INLINE uint8_t sorbilgan_write_moment(const char *template_text, size_t template_length,
                                                 const struct sorbilgan_moment *moment, char *text, size_t room,
                                                 struct sorbilgan_value_answer *answer) {
-    return sorbilgan_write(template_text, template_length, moment->year, moment->month, moment->day, moment->hour,
-                           moment->minute, moment->second, moment->micros, text, room, answer);
+    return sorbilgan_write_moment_with(0, template_text, template_length, moment, text, room, answer);
+}
+
+SORBILGAN_INLINE uint8_t sorbilgan_write_moment_by_with(uint32_t settings, const uint8_t *nodes, size_t nodes_length,
+                                                        const char *template_text, size_t template_length,
+                                                        const struct sorbilgan_moment *moment, char *text, size_t room,
+                                                        struct sorbilgan_value_answer *answer) {
+    return sorbilgan_write_by_with(settings, nodes, nodes_length, template_text, template_length, moment->year,
+                                   moment->month, moment->day, moment->hour, moment->minute, moment->second,
+                                   moment->micros, text, room, answer);
 }
 
 SORBILGAN_INLINE uint8_t sorbilgan_write_moment_by(const uint8_t *nodes, size_t nodes_length, const char *template_text,
                                                    size_t template_length, const struct sorbilgan_moment *moment,
                                                    char *text, size_t room, struct sorbilgan_value_answer *answer) {
-    return sorbilgan_write_by(nodes, nodes_length, template_text, template_length, moment->year, moment->month,
-                              moment->day, moment->hour, moment->minute, moment->second, moment->micros, text, room,
-                              answer);
+    return sorbilgan_write_moment_by_with(0, nodes, nodes_length, template_text, template_length, moment, text, room,
+                                          answer);
 }
 
 #ifdef __cplusplus

@@ -1,7 +1,7 @@
 /*
  * What include/sorbilgan.h says beside the answers themselves: versions, NULL, the ends of the limits, nodes that no
- * template was compiled to, the fields of answers, names with a final 0, moments as a struct. tests/installed builds
- * and runs this, as C and as C++.
+ * template was compiled to, the fields of answers, names with a final 0, moments as a struct, settings. tests/installed
+ * builds and runs this, as C and as C++.
  */
 #include <stdio.h>
 #include <string.h>
@@ -140,6 +140,127 @@ static void moments(void) {
     CHECK(sorbilgan_write_moment("DD", 2, &moment, text, sizeof text, &value) == SORBILGAN_NO_MOMENT);
 }
 
+/* The exercise pages and the flash cards, each without the bits that have no name and with all of them. */
+#define UNNAMED (~SORBILGAN_CARDS)
+
+struct caller {
+    uint32_t settings;
+    size_t template_limit;
+    size_t input_limit;
+};
+
+static const struct caller callers[] = {
+    {0, 256, 512}, {UNNAMED, 256, 512}, {SORBILGAN_CARDS, 64, 96}, {SORBILGAN_CARDS | UNNAMED, 64, 96}};
+
+static void empty_texts_with(uint32_t settings) {
+    CHECK(sorbilgan_parts_with(settings, NULL, 0, NULL, 0, &parts) == SORBILGAN_OK);
+    CHECK(sorbilgan_instant_with(settings, NULL, 0, NULL, 0, &value) == SORBILGAN_OK);
+    CHECK(sorbilgan_date_with(settings, NULL, 0, NULL, 0, &value) == SORBILGAN_OK);
+    CHECK(sorbilgan_write_with(settings, NULL, 0, 2024, 2, 29, 0, 0, 0, 0, NULL, 0, &value) == SORBILGAN_OK);
+    CHECK(sorbilgan_compile_with(settings, NULL, 0, nodes) == 0);
+    CHECK(sorbilgan_parts_by_with(settings, NULL, 0, NULL, 0, NULL, 0, &parts) == SORBILGAN_OK);
+    CHECK(sorbilgan_instant_by_with(settings, NULL, 0, NULL, 0, NULL, 0, &value) == SORBILGAN_OK);
+    CHECK(sorbilgan_date_by_with(settings, NULL, 0, NULL, 0, NULL, 0, &value) == SORBILGAN_OK);
+    CHECK(sorbilgan_write_by_with(settings, NULL, 0, NULL, 0, 2024, 2, 29, 0, 0, 0, 0, NULL, 0, &value)
+          == SORBILGAN_OK);
+}
+
+/* By the text and by its nodes, without settings and with them: the same answer. */
+#define CHECK_SAME(name, answer, other)                                                                          \
+    do {                                                                                                         \
+        const uint8_t number = sorbilgan_##name(text, t, input, s, &answer);                                     \
+        CHECK(sorbilgan_##name##_with(settings, text, t, input, s, &other) == number);                           \
+        CHECK(memcmp(&answer, &other, sizeof answer) == 0);                                                      \
+        CHECK(sorbilgan_##name##_by(nodes, (size_t)length, text, t, input, s, &other) == number);                \
+        CHECK(memcmp(&answer, &other, sizeof answer) == 0);                                                      \
+        CHECK(sorbilgan_##name##_by_with(settings, nodes, (size_t)length, text, t, input, s, &other) == number); \
+        CHECK(memcmp(&answer, &other, sizeof answer) == 0);                                                      \
+    } while (0)
+
+/* Within the limits of both callers, each gets the same answer and the same nodes. */
+static void same_readings(uint32_t settings, const char *text, const char *input) {
+    static uint8_t other_nodes[SORBILGAN_NODES];
+    const size_t t = strlen(text);
+    const size_t s = strlen(input);
+    const int64_t length = sorbilgan_compile(text, t, nodes);
+    struct sorbilgan_parts_answer other_parts;
+    struct sorbilgan_value_answer other_value;
+
+    CHECK(sorbilgan_compile_with(settings, text, t, other_nodes) == length);
+    CHECK(memcmp(nodes, other_nodes, (size_t)length) == 0);
+    CHECK_SAME(parts, parts, other_parts);
+    CHECK_SAME(instant, value, other_value);
+    CHECK_SAME(date, value, other_value);
+}
+
+static void same_texts(uint32_t settings, const char *text) {
+    const struct sorbilgan_moment moment = {2024, 2, 29, 21, 5, 7, 9};
+    const size_t t = strlen(text);
+    const int64_t length = sorbilgan_compile(text, t, nodes);
+    struct sorbilgan_value_answer other;
+    char written[40];
+    char again[sizeof written];
+    const uint8_t number = sorbilgan_write(text, t, 2024, 2, 29, 21, 5, 7, 9, written, sizeof written, &value);
+
+    CHECK(sorbilgan_write_moment_with(settings, text, t, &moment, again, sizeof again, &other) == number);
+    CHECK(memcmp(&value, &other, sizeof value) == 0 && memcmp(written, again, (size_t)value.value) == 0);
+    memset(again, '#', sizeof again);
+    CHECK(sorbilgan_write_moment_by_with(settings, nodes, (size_t)length, text, t, &moment, again, sizeof again, &other)
+          == number);
+    CHECK(memcmp(&value, &other, sizeof value) == 0 && memcmp(written, again, (size_t)value.value) == 0);
+}
+
+/* A template and an input at the caller's limits are accepted, and refused with one byte more; nodes have no limit. */
+#define CHECK_LIMITS(name, answer)                                                                                     \
+    do {                                                                                                               \
+        CHECK(sorbilgan_##name##_with(settings, text, t, input, s, &answer) == SORBILGAN_OK);                          \
+        CHECK(sorbilgan_##name##_with(settings, text, t + 1, input, s, &answer) == SORBILGAN_TOO_LONG);                \
+        CHECK(sorbilgan_##name##_with(settings, text, t, input, s + 1, &answer) == SORBILGAN_TOO_LONG);                \
+        CHECK(sorbilgan_##name##_by_with(settings, nodes, 6 * t + 6, text, t + 1, input, s, &answer) == SORBILGAN_OK); \
+        CHECK(sorbilgan_##name##_by_with(settings, nodes, 6, text, t, input, s + 1, &answer) == SORBILGAN_TOO_LONG);   \
+    } while (0)
+
+static void at_the_limits(const struct caller *by) {
+    static char text[SORBILGAN_TEMPLATE_LIMIT + 1];
+    static char input[SORBILGAN_INPUT_LIMIT + 1];
+    const uint32_t settings = by->settings;
+    const size_t t = by->template_limit;
+    const size_t s = by->input_limit;
+
+    memset(text, '-', sizeof text);
+    memset(input, ' ', sizeof input);
+    memset(nodes, 0, sizeof nodes);
+    CHECK_LIMITS(parts, parts);
+    CHECK_LIMITS(instant, value);
+    CHECK_LIMITS(date, value);
+    CHECK(sorbilgan_compile_with(settings, text, t + 1, nodes) == -SORBILGAN_TOO_LONG);
+    CHECK(sorbilgan_compile_with(settings, "\xff", 1, nodes) == -SORBILGAN_NOT_UTF8);
+    CHECK(sorbilgan_compile_with(settings, text, t, nodes) == (int64_t)(6 * t));
+    CHECK(sorbilgan_write_with(settings, text, t, 2024, 2, 29, 0, 0, 0, 0, input, t, &value) == SORBILGAN_OK);
+    CHECK(sorbilgan_write_with(settings, text, t + 1, 2024, 2, 29, 0, 0, 0, 0, input, t + 1, &value)
+          == SORBILGAN_TOO_LONG);
+    CHECK(sorbilgan_write_by_with(settings, nodes, 6 * t, text, t + 1, 2024, 2, 29, 0, 0, 0, 0, input, t, &value)
+          == SORBILGAN_OK);
+    CHECK(sorbilgan_write_by_with(settings, nodes, 6 * t + 6, text, t, 2024, 2, 29, 0, 0, 0, 0, input, t, &value)
+          == SORBILGAN_TOO_LONG);
+}
+
+static void settings_of_both(void) {
+    size_t i;
+
+    CHECK(SORBILGAN_CARDS_TEMPLATE_LIMIT == 64 && SORBILGAN_CARDS_INPUT_LIMIT == 96);
+    for (i = 0; i < sizeof callers / sizeof callers[0]; i++) {
+        empty_texts_with(callers[i].settings);
+        same_readings(callers[i].settings, "YYYY-MM-DD HH24:MI:SS.FF3 TZH:TZM", "2024-02-29 21:05:07.000009 -05:30");
+        same_readings(callers[i].settings, "YYYYMMDD", "20242");
+        same_readings(callers[i].settings, "YYYY", "294248");
+        same_texts(callers[i].settings, "YYYY-MM-DD HH24:MI:SS.US");
+        same_texts(callers[i].settings, "DD Month YYYY");
+        same_texts(callers[i].settings, "USUSUSUSUSUSUS");
+        at_the_limits(&callers[i]);
+    }
+}
+
 int main(void) {
     versions();
     empty_readings();
@@ -148,5 +269,6 @@ int main(void) {
     fields();
     names();
     moments();
+    settings_of_both();
     return failures != 0;
 }

@@ -1,7 +1,7 @@
 //! What is serialized, and what is refused when it is read again.
 
 use serde_json::{from_str, json, to_value};
-use sorbilgan::{read, Cause, Moment, Parts, Template};
+use sorbilgan::{read, Cause, Moment, Parts, Settings, Template};
 
 #[test]
 fn moments_and_parts() {
@@ -25,6 +25,20 @@ fn templates_as_their_text() {
     assert_eq!(from_str::<Template>(&shown.to_string()).unwrap(), template);
     let long = json!("-".repeat(257)).to_string();
     assert!(from_str::<Template>(&long).unwrap_err().to_string().starts_with("the template is over 256 bytes"));
+}
+
+/// Settings are kept beside a template's text; one that is missing is the default.
+#[test]
+fn settings() {
+    let cards = Settings::new().cards(true);
+    assert_eq!(to_value(cards).unwrap(), json!({"cards": true}));
+    assert_eq!(from_str::<Settings>(r#"{"cards": true}"#).unwrap(), cards);
+    assert_eq!(from_str::<Settings>("{}").unwrap(), Settings::new());
+
+    let template = Template::compile_with("DD", cards).unwrap();
+    let shown = to_value(&template).unwrap();
+    assert_eq!(shown, json!("DD"));
+    assert_eq!(from_str::<Template>(&shown.to_string()).unwrap().settings(), Settings::new());
 }
 
 #[test]

@@ -18,7 +18,10 @@ mod version;
 
 pub use version::VERSION;
 
-/// The room for a compiled template, in bytes.
+/// The bit of the settings that sets the limits of the flash cards. Bits without a name are ignored.
+pub const CARDS: u32 = 4;
+
+/// The room for a compiled template, in bytes, whatever the settings.
 pub const NODES: usize = 1536;
 
 /// The room for a pattern's name and a final 0, in bytes.
@@ -68,7 +71,7 @@ const _: () = assert!(size_of::<ValueAnswer>() == 5 * size_of::<i64>());
 
 unsafe extern "C" {
     pub safe fn sorbilgan_version() -> u32;
-    pub safe fn sorbilgan_version_1() -> u32;
+    pub safe fn sorbilgan_version_2() -> u32;
     pub fn sorbilgan_parts(
         template: *const u8, template_length: usize, input: *const u8, input_length: usize, answer: *mut PartsAnswer,
     ) -> u8;
@@ -100,9 +103,45 @@ unsafe extern "C" {
         day: i32, hour: i32, minute: i32, second: i32, micros: i32, text: *mut u8, room: usize,
         answer: *mut ValueAnswer,
     ) -> u8;
+    pub fn sorbilgan_parts_with(
+        settings: u32, template: *const u8, template_length: usize, input: *const u8, input_length: usize,
+        answer: *mut PartsAnswer,
+    ) -> u8;
+    pub fn sorbilgan_instant_with(
+        settings: u32, template: *const u8, template_length: usize, input: *const u8, input_length: usize,
+        answer: *mut ValueAnswer,
+    ) -> u8;
+    pub fn sorbilgan_date_with(
+        settings: u32, template: *const u8, template_length: usize, input: *const u8, input_length: usize,
+        answer: *mut ValueAnswer,
+    ) -> u8;
+    pub fn sorbilgan_write_with(
+        settings: u32, template: *const u8, template_length: usize, year: i32, month: i32, day: i32, hour: i32,
+        minute: i32, second: i32, micros: i32, text: *mut u8, room: usize, answer: *mut ValueAnswer,
+    ) -> u8;
+    pub fn sorbilgan_compile_with(
+        settings: u32, template: *const u8, template_length: usize, nodes: *mut [u8; NODES],
+    ) -> i64;
+    pub fn sorbilgan_parts_by_with(
+        settings: u32, nodes: *const u8, nodes_length: usize, template: *const u8, template_length: usize,
+        input: *const u8, input_length: usize, answer: *mut PartsAnswer,
+    ) -> u8;
+    pub fn sorbilgan_instant_by_with(
+        settings: u32, nodes: *const u8, nodes_length: usize, template: *const u8, template_length: usize,
+        input: *const u8, input_length: usize, answer: *mut ValueAnswer,
+    ) -> u8;
+    pub fn sorbilgan_date_by_with(
+        settings: u32, nodes: *const u8, nodes_length: usize, template: *const u8, template_length: usize,
+        input: *const u8, input_length: usize, answer: *mut ValueAnswer,
+    ) -> u8;
+    pub fn sorbilgan_write_by_with(
+        settings: u32, nodes: *const u8, nodes_length: usize, template: *const u8, template_length: usize, year: i32,
+        month: i32, day: i32, hour: i32, minute: i32, second: i32, micros: i32, text: *mut u8, room: usize,
+        answer: *mut ValueAnswer,
+    ) -> u8;
     pub fn sorbilgan_pattern(pattern: u8, name: *mut [u8; NAME]) -> usize;
 }
 
 /// Asks the linker for this version's library, whatever else is called.
 #[used]
-static LINKED: extern "C" fn() -> u32 = sorbilgan_version_1;
+static LINKED: extern "C" fn() -> u32 = sorbilgan_version_2;

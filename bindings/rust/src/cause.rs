@@ -35,7 +35,7 @@ use std::fmt;
 #[cfg_attr(feature = "serde", derive(serde::Serialize, serde::Deserialize), serde(into = "u8", try_from = "u8"))]
 #[repr(u8)]
 pub enum Cause {
-    /// The template is over 256 bytes, or the input over 512.
+    /// The template is over 256 bytes, or the input over 512; on flash cards over 64 and 96.
     TooLong = 1,
     /// The template or the input is not UTF-8.
     NotUtf8 = 2,
@@ -131,7 +131,7 @@ impl Cause {
 impl fmt::Display for Cause {
     fn fmt(&self, f: &mut fmt::Formatter<'_>) -> fmt::Result {
         f.pad(match self {
-            Cause::TooLong => "template over 256 bytes or input over 512",
+            Cause::TooLong => "template over 256 bytes or input over 512 (flash cards: 64 and 96)",
             Cause::NotUtf8 => "template or input is not UTF-8",
             Cause::MixedDates => "Gregorian and ISO patterns mixed",
             Cause::Conflict => "field set before to another value",

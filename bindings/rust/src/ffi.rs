@@ -3,7 +3,7 @@
 
 #![allow(unsafe_code)]
 
-use crate::{Cause, Moment, Refusal};
+use crate::{Cause, Moment, Refusal, Settings};
 use sorbilgan_sys as sys;
 use sorbilgan_sys::{PartsAnswer, Report, ValueAnswer, NAME, NODES};
 
@@ -35,17 +35,17 @@ fn answered<A: Answer>(ask: impl FnOnce(*mut A) -> u8) -> Result<A, Refusal> {
     }
 }
 
-/// One of the answers to an input: by a template's text, or by its nodes and text.
+/// One of the answers to an input: by a template's text, or by its settings, nodes and text.
 pub struct Reader<A> {
     text: unsafe extern "C" fn(*const u8, usize, *const u8, usize, *mut A) -> u8,
-    nodes: unsafe extern "C" fn(*const u8, usize, *const u8, usize, *const u8, usize, *mut A) -> u8,
+    nodes: unsafe extern "C" fn(u32, *const u8, usize, *const u8, usize, *const u8, usize, *mut A) -> u8,
 }
 
-pub const PARTS: Reader<PartsAnswer> = Reader { text: sys::sorbilgan_parts, nodes: sys::sorbilgan_parts_by };
+pub const PARTS: Reader<PartsAnswer> = Reader { text: sys::sorbilgan_parts, nodes: sys::sorbilgan_parts_by_with };
 /// Microseconds since 1970-01-01.
-pub const INSTANT: Reader<ValueAnswer> = Reader { text: sys::sorbilgan_instant, nodes: sys::sorbilgan_instant_by };
+pub const INSTANT: Reader<ValueAnswer> = Reader { text: sys::sorbilgan_instant, nodes: sys::sorbilgan_instant_by_with };
 /// Days since 1970-01-01.
-pub const DATE: Reader<ValueAnswer> = Reader { text: sys::sorbilgan_date, nodes: sys::sorbilgan_date_by };
+pub const DATE: Reader<ValueAnswer> = Reader { text: sys::sorbilgan_date, nodes: sys::sorbilgan_date_by_with };
 
 impl<A: Answer> Reader<A> {
     pub fn by_text(&self, template: &[u8], input: &[u8]) -> Result<A, Refusal> {
@@ -53,10 +53,10 @@ impl<A: Answer> Reader<A> {
         answered(|out| unsafe { (self.text)(template.as_ptr(), template.len(), input.as_ptr(), input.len(), out) })
     }
 
-    pub fn by_nodes(&self, nodes: &[u8], template: &[u8], input: &[u8]) -> Result<A, Refusal> {
-        let (c, t, s) = (nodes.as_ptr(), template.as_ptr(), input.as_ptr());
+    pub fn by_nodes(&self, settings: Settings, nodes: &[u8], template: &[u8], input: &[u8]) -> Result<A, Refusal> {
+        let (bits, c, t, s) = (settings.bits(), nodes.as_ptr(), template.as_ptr(), input.as_ptr());
         // SAFETY: as said above.
-        answered(|out| unsafe { (self.nodes)(c, nodes.len(), t, template.len(), s, input.len(), out) })
+        answered(|out| unsafe { (self.nodes)(bits, c, nodes.len(), t, template.len(), s, input.len(), out) })
     }
 }
 
@@ -77,24 +77,28 @@ pub fn write(template: &[u8], moment: &Moment, text: &mut [u8]) -> Result<usize,
 }
 
 /// The length of the text that is written by nodes.
-pub fn write_by(nodes: &[u8], template: &[u8], moment: &Moment, text: &mut [u8]) -> Result<usize, Refusal> {
+pub fn write_by(
+    settings: Settings, nodes: &[u8], template: &[u8], moment: &Moment, text: &mut [u8],
+) -> Result<usize, Refusal> {
     let &Moment { year, month, day, hour, minute, second, micros } = moment;
-    let (c, c_length, t, t_length, room) = (nodes.as_ptr(), nodes.len(), template.as_ptr(), template.len(), text.len());
-    let text = text.as_mut_ptr();
+    let (bits, c, c_length, t, t_length) =
+        (settings.bits(), nodes.as_ptr(), nodes.len(), template.as_ptr(), template.len());
+    let (room, text) = (text.len(), text.as_mut_ptr());
     // SAFETY: as said above.
     let answer = answered(|out| unsafe {
-        sys::sorbilgan_write_by(
-            c, c_length, t, t_length, year, month, day, hour, minute, second, micros, text, room, out,
+        sys::sorbilgan_write_by_with(
+            bits, c, c_length, t, t_length, year, month, day, hour, minute, second, micros, text, room, out,
         )
     });
     answer.map(length_of)
 }
 
 /// The nodes of a template.
-pub fn compile(template: &[u8]) -> Result<Box<[u8]>, Refusal> {
+pub fn compile(settings: Settings, template: &[u8]) -> Result<Box<[u8]>, Refusal> {
     let mut nodes = [0; NODES];
+    let (bits, t, t_length) = (settings.bits(), template.as_ptr(), template.len());
     // SAFETY: as said above.
-    match unsafe { sys::sorbilgan_compile(template.as_ptr(), template.len(), &raw mut nodes) } {
+    match unsafe { sys::sorbilgan_compile_with(bits, t, t_length, &raw mut nodes) } {
         -1 => Err(Refusal::alone(Cause::TooLong)),
         -2 => Err(Refusal::alone(Cause::NotUtf8)),
         length => Ok(nodes[..length as usize].into()),

@@ -38,21 +38,25 @@
 //! The functions [`read`], [`instant`], [`date`], [`write()`] and [`format()`] do the same for a template that is
 //! used once.
 //!
+//! A template for a flash card is compiled with [`Settings`], which give it smaller limits; within them its answers are
+//! the same.
+//!
 //! Where a template or an input is asked for, text and bytes are both taken: a learner's line need not be UTF-8 to be
 //! answered.
 //!
 //! # Versions
 //!
-//! Later versions have more causes, parts and functions: match on [`Cause`] with a last arm `_`, and take [`Parts`]
-//! apart with `..`. When the crate is built with a library of another version, that is an error.
+//! Later versions have more causes, parts, settings and functions: match on [`Cause`] with a last arm `_`, and take
+//! [`Parts`] apart with `..`. When the crate is built with a library of another version, that is an error.
 //!
 //! # Features
 //!
 //! The package in `bindings/rust` needs no third-party crate. The one in `bindings/rust-features` is the same crate
 //! with three features, none of them on by default:
 //!
-//! - `serde`: [`Moment`], [`Parts`], [`Cause`] as its number and [`Template`] as its text are `Serialize` and
-//!   `Deserialize`; [`Refusal`] is `Serialize`. The numbers of moments and parts are deserialized as they are.
+//! - `serde`: [`Moment`], [`Parts`], [`Settings`], [`Cause`] as its number and [`Template`] as its text are `Serialize`
+//!   and `Deserialize`; [`Refusal`] is `Serialize`. The numbers of moments and parts are deserialized as they are. A
+//!   template is deserialized with the default settings.
 //! - `chrono`: [`Moment`] from and to `NaiveDateTime`, and [`Parts`] to `DateTime<FixedOffset>`.
 //! - `time`: [`Moment`] from and to `PrimitiveDateTime`, and [`Parts`] to `OffsetDateTime`.
 //!
@@ -70,6 +74,7 @@ mod moment;
 mod once;
 mod parts;
 mod refusal;
+mod settings;
 mod system_time;
 mod template;
 #[cfg(feature = "chrono")]
@@ -86,17 +91,18 @@ pub use moment::{Moment, TryFromPartsError};
 pub use once::{date, format, instant, read, write};
 pub use parts::Parts;
 pub use refusal::Refusal;
+pub use settings::Settings;
 pub use system_time::system_time;
 pub use template::Template;
 
 /// The version of the library, as `sorbilgan_version()` answers in C.
 ///
 /// ```
-/// assert_eq!(sorbilgan::VERSION, 1);
+/// assert_eq!(sorbilgan::VERSION, 2);
 /// ```
 pub const VERSION: u32 = sorbilgan_sys::VERSION;
 
-/// The most bytes of a template.
+/// The most bytes of a template, unless its [`Settings`] say less.
 ///
 /// ```
 /// use sorbilgan::{Cause, Template, TEMPLATE_LIMIT};
@@ -106,7 +112,7 @@ pub const VERSION: u32 = sorbilgan_sys::VERSION;
 /// ```
 pub const TEMPLATE_LIMIT: usize = 256;
 
-/// The most bytes of an input, and of a text that [`format()`] gives.
+/// The most bytes of an input, and of a text that [`format()`] gives, unless a template's [`Settings`] say less.
 ///
 /// ```
 /// use sorbilgan::{read, Cause, INPUT_LIMIT};

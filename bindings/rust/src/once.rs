@@ -73,12 +73,14 @@ pub fn write(template: impl AsRef<[u8]>, moment: &Moment, text: &mut [u8]) -> Re
 /// # Ok::<(), sorbilgan::Refusal>(())
 /// ```
 pub fn format(template: impl AsRef<[u8]>, moment: &Moment) -> Result<String, Refusal> {
-    text_of(|text| write(template, moment, text))
+    text_of(INPUT_LIMIT, |text| write(template, moment, text))
 }
 
-/// The text that is written to a buffer of the longest input.
-pub(crate) fn text_of(write: impl FnOnce(&mut [u8]) -> Result<usize, Refusal>) -> Result<String, Refusal> {
+/// The text that is written to a buffer of the longest input, or of a smaller limit.
+pub(crate) fn text_of(
+    limit: usize, write: impl FnOnce(&mut [u8]) -> Result<usize, Refusal>,
+) -> Result<String, Refusal> {
     let mut text = [0; INPUT_LIMIT];
-    let length = write(&mut text)?;
+    let length = write(&mut text[..limit])?;
     Ok(String::from_utf8(text[..length].to_vec()).expect("characters of a template in UTF-8, digits and words"))
 }

@@ -96,7 +96,9 @@ impl fmt::Display for Refusal {
         let pattern = self.pattern.unwrap_or("-");
         let [first, second] = self.figures;
         match self.cause {
-            Cause::TooLong => write!(f, "the template is over 256 bytes, or the input over 512"),
+            Cause::TooLong => {
+                write!(f, "the template is over 256 bytes, or the input over 512 (flash cards: 64 and 96)")
+            }
             Cause::NotUtf8 => write!(f, "the template or the input is not UTF-8"),
             Cause::MixedDates => write!(f, "{pattern} mixes calendar dates with ISO weeks"),
             Cause::Conflict => write!(f, "{pattern} differs from what was read before"),

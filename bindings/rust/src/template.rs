@@ -1,4 +1,4 @@
-use crate::{ffi, once, Cause, Moment, Parts, Refusal};
+use crate::{ffi, once, Cause, Moment, Parts, Refusal, Settings};
 use std::fmt;
 use std::str::{self, FromStr};
 
@@ -30,17 +30,18 @@ use std::str::{self, FromStr};
 /// assert_eq!(ISO.date("2024-02-29"), Ok(19_782));
 /// ```
 ///
-/// Templates are equal, and ordered, by their texts.
+/// Templates are equal, and ordered, by their texts and then their settings.
 #[derive(Clone, PartialEq, Eq, PartialOrd, Ord, Hash)]
 pub struct Template {
-    // first: the text decides the nodes
+    // first: text and settings decide the nodes
     text: Box<str>,
+    settings: Settings,
     nodes: Box<[u8]>,
 }
 
 impl Template {
-    /// Compiles a template. Any text of at most [`TEMPLATE_LIMIT`](crate::TEMPLATE_LIMIT) bytes is one: what is no
-    /// pattern is a literal.
+    /// Compiles a template with the default settings, those of the exercise pages. Any text of at most
+    /// [`TEMPLATE_LIMIT`](crate::TEMPLATE_LIMIT) bytes is one: what is no pattern is a literal.
     ///
     /// # Errors
     ///
@@ -53,10 +54,31 @@ impl Template {
     /// assert_eq!(Template::compile(b"YYYY\xff").unwrap_err().cause(), Cause::NotUtf8);
     /// ```
     pub fn compile(template: impl AsRef<[u8]>) -> Result<Template, Refusal> {
+        Template::compile_with(template, Settings::new())
+    }
+
+    /// Compiles a template with settings; it reads and writes with them.
+    ///
+    /// # Errors
+    ///
+    /// [`Cause::TooLong`], at the settings' own limit, and [`Cause::NotUtf8`].
+    ///
+    /// ```
+    /// use sorbilgan::{Cause, Settings, Template};
+    ///
+    /// let cards = Settings::new().cards(true);
+    /// assert_eq!(Template::compile_with("DD.MM.YYYY", cards)?.date("29.02.2024")?, 19_782);
+    ///
+    /// let long = r#""hôm nay là ngày "DD" tháng "MM" năm "YYYY", bây giờ là "HH24" giờ "MI"#;
+    /// assert!(Template::compile(long).is_ok());
+    /// assert_eq!(Template::compile_with(long, cards).unwrap_err().cause(), Cause::TooLong);
+    /// # Ok::<(), sorbilgan::Refusal>(())
+    /// ```
+    pub fn compile_with(template: impl AsRef<[u8]>, settings: Settings) -> Result<Template, Refusal> {
         let template = template.as_ref();
-        let nodes = ffi::compile(template)?;
+        let nodes = ffi::compile(settings, template)?;
         let text = str::from_utf8(template).map_err(|_| Refusal::alone(Cause::NotUtf8))?;
-        Ok(Template { text: text.into(), nodes })
+        Ok(Template { text: text.into(), settings, nodes })
     }
 
     /// The text that it was compiled from.
@@ -70,6 +92,20 @@ impl Template {
     #[must_use]
     pub fn as_str(&self) -> &str {
         &self.text
+    }
+
+    /// The settings that it was compiled with.
+    ///
+    /// ```
+    /// use sorbilgan::{Settings, Template};
+    ///
+    /// let cards = Settings::new().cards(true);
+    /// assert_eq!(Template::compile_with("YYYY-MM-DD", cards)?.settings(), cards);
+    /// # Ok::<(), sorbilgan::Refusal>(())
+    /// ```
+    #[must_use]
+    pub const fn settings(&self) -> Settings {
+        self.settings
     }
 
     /// Reads the parts of an input.
@@ -130,7 +166,7 @@ impl Template {
     }
 
     fn answer<A: ffi::Answer>(&self, reader: &ffi::Reader<A>, input: &[u8]) -> Result<A, Refusal> {
-        reader.by_nodes(&self.nodes, self.text.as_bytes(), input)
+        reader.by_nodes(self.settings, &self.nodes, self.text.as_bytes(), input)
     }
 
     /// Writes a moment to the front of a buffer and answers the length of the text. The bytes after it stay as they
@@ -154,11 +190,11 @@ impl Template {
     /// # Ok::<(), sorbilgan::Refusal>(())
     /// ```
     pub fn write(&self, moment: &Moment, text: &mut [u8]) -> Result<usize, Refusal> {
-        ffi::write_by(&self.nodes, self.text.as_bytes(), moment, text)
+        ffi::write_by(self.settings, &self.nodes, self.text.as_bytes(), moment, text)
     }
 
-    /// The text of a moment. One over [`INPUT_LIMIT`](crate::INPUT_LIMIT) bytes, which could not be read back, is
-    /// refused; [`Template::write`] has no such limit.
+    /// The text of a moment. One over the settings' [`input_limit`](Settings::input_limit), which could not be read
+    /// back, is refused; [`Template::write`] has no such limit.
     ///
     /// # Errors
     ///
@@ -180,7 +216,7 @@ impl Template {
     /// # Ok::<(), sorbilgan::Refusal>(())
     /// ```
     pub fn format(&self, moment: &Moment) -> Result<String, Refusal> {
-        once::text_of(|text| self.write(moment, text))
+        once::text_of(self.settings.input_limit(), |text| self.write(moment, text))
     }
 }
 
@@ -226,8 +262,14 @@ impl fmt::Display for Template {
     }
 }
 
+/// The text, and the settings where they are not the default.
 impl fmt::Debug for Template {
     fn fmt(&self, f: &mut fmt::Formatter<'_>) -> fmt::Result {
-        f.debug_tuple("Template").field(&self.text).finish()
+        let mut shown = f.debug_tuple("Template");
+        shown.field(&self.text);
+        if self.settings != Settings::new() {
+            shown.field(&self.settings);
+        }
+        shown.finish()
     }
 }

@@ -1,4 +1,4 @@
-//! A template is serialized as its text.
+//! A template is serialized as its text, without its settings.
 
 use crate::Template;
 use serde::de::Error;
@@ -11,7 +11,8 @@ impl Serialize for Template {
     }
 }
 
-/// A text that is no template is an error with the refusal's sentence.
+/// The template has the default settings; `Template::compile_with` gives its text others. A text that is no template is
+/// an error with the refusal's sentence.
 impl<'de> Deserialize<'de> for Template {
     fn deserialize<D: Deserializer<'de>>(deserializer: D) -> Result<Template, D::Error> {
         let text = Cow::<str>::deserialize(deserializer)?;

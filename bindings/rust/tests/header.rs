@@ -1,8 +1,8 @@
 //! include/sorbilgan.h says what these crates say: the version, the numbers of the refusals, and the functions that
 //! `rust-sys/src/lib.rs` declares, which other tests call.
 
-use sorbilgan::{Cause, INPUT_LIMIT, TEMPLATE_LIMIT, VERSION};
-use sorbilgan_sys::{sorbilgan_version, sorbilgan_version_1, NAME, NODES, NO_PATTERN};
+use sorbilgan::{Cause, Settings, INPUT_LIMIT, TEMPLATE_LIMIT, VERSION};
+use sorbilgan_sys::{sorbilgan_version, sorbilgan_version_2, CARDS, NAME, NODES, NO_PATTERN};
 use std::collections::BTreeMap;
 
 const HEADER: &str = include_str!("../../../include/sorbilgan.h");
@@ -27,13 +27,17 @@ fn the_same_causes() {
 fn the_same_sizes() {
     let named = |line: &'static str| {
         let (name, number) = line.strip_prefix("#define SORBILGAN_")?.split_once(' ')?;
-        Some((name, number.parse().ok()?))
+        Some((name, number.trim_end_matches('u').parse().ok()?))
     };
     let found: Vec<(&str, usize)> = HEADER.lines().filter_map(named).collect();
+    let cards = Settings::new().cards(true);
     let wanted = [
         ("VERSION", VERSION as usize),
         ("TEMPLATE_LIMIT", TEMPLATE_LIMIT),
         ("INPUT_LIMIT", INPUT_LIMIT),
+        ("CARDS_TEMPLATE_LIMIT", cards.template_limit()),
+        ("CARDS_INPUT_LIMIT", cards.input_limit()),
+        ("CARDS", CARDS as usize),
         ("NODES", NODES),
         ("NO_PATTERN", NO_PATTERN.into()),
         ("NAME", NAME),
@@ -44,9 +48,9 @@ fn the_same_sizes() {
 /// A new cause is a new version: a crate without it must not link.
 #[test]
 fn the_same_version() {
-    assert_eq!([sorbilgan_version(), sorbilgan_version_1()], [VERSION; 2]);
+    assert_eq!([sorbilgan_version(), sorbilgan_version_2()], [VERSION; 2]);
     assert!(HEADER.contains(&format!("= sorbilgan_version_{VERSION};")));
-    assert_eq!((VERSION, Cause::ALL.len()), (1, 21));
+    assert_eq!((VERSION, Cause::ALL.len()), (2, 21));
 }
 
 /// The fields of a struct in C or Rust, between its first line and the next brace.
@@ -127,5 +131,5 @@ fn of_crate() -> Functions {
 fn the_same_functions() {
     let (header, rust) = (of_header(), of_crate());
     assert_eq!(header, rust);
-    assert_eq!(header.len(), 12);
+    assert_eq!(header.len(), 21);
 }

@@ -19,7 +19,11 @@ fn every_cause() {
     let at = |pattern| (Some(pattern), [0, 0]);
     let no_leap_day = Moment { year: 2023, ..LEAP_DAY };
     let cases = [
-        (parts(&"-".repeat(257), ""), none, "the template is over 256 bytes, or the input over 512"),
+        (
+            parts(&"-".repeat(257), ""),
+            none,
+            "the template is over 256 bytes, or the input over 512 (flash cards: 64 and 96)",
+        ),
         (read("YYYY", b"2024\xff").map(drop), none, "the template or the input is not UTF-8"),
         (parts("IYYY-MM", "2024-05"), at("MM"), "MM mixes calendar dates with ISO weeks"),
         (parts("Day Dy", "Monday Mon"), at("Dy"), "Dy differs from what was read before"),

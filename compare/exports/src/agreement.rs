@@ -1,7 +1,7 @@
 //! Whether the exports answer as the ported module does.
 
-use crate::archive::{self, NAME, NODES};
-use oracle::answers::{Moment, records};
+use crate::archive::{self, CARDS, NAME, NODE, NODES, Settings};
+use oracle::answers::{Limits, Moment, records};
 use oracle::hex;
 use std::fmt::{self, Debug, Display};
 
@@ -9,95 +9,161 @@ use std::fmt::{self, Debug, Display};
 const UNSET: i64 = -0x5a5a_5a5a_5a5a_5a5b;
 const FILLER: u8 = 0xa5;
 
-/// The bytes of a node.
-const NODE: i64 = 6;
+/// More bytes of nodes than any caller takes to write by.
+const MORE: [u8; NODES + 1] = [0; NODES + 1];
+/// The most bytes that the text of a full template has more than the template.
+const LONGER: usize = 6;
 
 pub struct Difference {
     export: &'static str,
+    settings: Settings,
     wanted: String,
     found: String,
 }
 
 impl Display for Difference {
     fn fmt(&self, f: &mut fmt::Formatter) -> fmt::Result {
-        write!(f, "{}: wanted {}, found {}", self.export, self.wanted, self.found)
+        let with = self.settings.map_or(String::new(), |settings| format!(" with settings {settings:#x}"));
+        write!(f, "{}{with}: wanted {}, found {}", self.export, self.wanted, self.found)
     }
 }
 
 pub type Agreement<T> = Result<T, Difference>;
 
-fn same<T: PartialEq + Debug>(export: &'static str, wanted: T, found: T) -> Agreement<()> {
-    if wanted == found {
-        return Ok(());
+/// Who calls: its limits, and the settings that give it these.
+struct Caller {
+    limits: Limits,
+    settings: Settings,
+}
+
+/// The exercise pages as they always called.
+const PAGES: Caller = Caller { limits: Limits::PAGES, settings: None };
+
+impl Caller {
+    /// The exercise pages without settings and with them, and the flash cards. The bits besides mean nothing.
+    fn all(bits: u32) -> [Caller; 3] {
+        let pages = Caller { settings: Some(bits), ..PAGES };
+        [PAGES, pages, Caller { limits: Limits::CARDS, settings: Some(bits | CARDS) }]
     }
-    Err(Difference { export, wanted: format!("{wanted:?}"), found: format!("{found:?}") })
+
+    fn same<T: PartialEq + Debug>(&self, export: &'static str, wanted: T, found: T) -> Agreement<()> {
+        if wanted == found {
+            return Ok(());
+        }
+        let (wanted, found) = (format!("{wanted:?}"), format!("{found:?}"));
+        Err(Difference { export, settings: self.settings, wanted, found })
+    }
+
+    /// The record is filled as a whole, and its number is returned. Where a limit is passed, it is that of refusal 1.
+    fn answered<const WORDS: usize>(
+        &self, export: &'static str, within: bool, wanted: [i64; WORDS], call: impl FnOnce(&mut [i64; WORDS]) -> u8,
+    ) -> Agreement<()> {
+        let wanted = records::limited(within, wanted);
+        let mut found = [UNSET; WORDS];
+        let number = call(&mut found);
+        self.same(export, (wanted[0], wanted), (number.into(), found))
+    }
+
+    /// The same of a record and a buffer, which stays as it was where a limit is passed.
+    fn written(
+        &self, export: &'static str, within: bool, (wanted, text): (archive::Value, &[u8]),
+        call: impl FnOnce(&mut [u8], &mut archive::Value) -> u8,
+    ) -> Agreement<()> {
+        let untouched = vec![FILLER; text.len()];
+        let mut buffer = untouched.clone();
+        self.answered(export, within, wanted, |out| call(&mut buffer, out))?;
+        self.same(export, if within { text } else { &untouched }, &buffer)
+    }
 }
 
-/// The record is filled as a whole, and its number is returned.
-fn answered<const WORDS: usize>(
-    export: &'static str, wanted: [i64; WORDS], call: impl FnOnce(&mut [i64; WORDS]) -> u8,
-) -> Agreement<()> {
-    let mut found = [UNSET; WORDS];
-    let number = call(&mut found);
-    same(export, (wanted[0], wanted), (number.into(), found))
-}
-
-/// A template with its nodes, if it has any.
+/// A template with its nodes, if it is accepted, and those who use it.
 pub struct Template<'a> {
     text: &'a [u8],
-    nodes: archive::Nodes,
-    length: Option<usize>,
+    nodes: Option<archive::Nodes>,
+    length: usize,
+    callers: [Caller; 3],
 }
 
 impl Template<'_> {
-    pub fn compiled(text: &[u8]) -> Agreement<Template<'_>> {
-        let mut nodes = [FILLER; NODES];
-        let length = archive::compile(text, &mut nodes);
-        let wanted = records::compiled(text);
-        same("compile", if wanted < 0 { wanted } else { wanted * NODE }, length)?;
-        if length < 0 {
-            same("compile", [FILLER; NODES], nodes)?;
+    /// Compiled by each caller. Those who accept the template get the same nodes.
+    pub fn compiled(text: &[u8], bits: u32) -> Agreement<Template<'_>> {
+        let callers = Caller::all(bits);
+        let count = records::compiled(text);
+        let length = if count < 0 { count } else { count * NODE as i64 };
+        let mut nodes = None;
+        for caller in &callers {
+            let wanted = if caller.limits.hold(text, &[]) { length } else { -1 };
+            let mut found = [FILLER; NODES];
+            caller.same("compile", wanted, archive::compile_with(caller.settings, text, &mut found))?;
+            let wanted = if wanted < 0 { [FILLER; NODES] } else { *nodes.get_or_insert(found) };
+            caller.same("compile", wanted, found)?;
         }
-        Ok(Template { text, nodes, length: length.try_into().ok() })
+        Ok(Template { text, nodes, length: length.max(0) as usize, callers })
     }
 
     pub fn nodes(&self) -> Option<&[u8]> {
-        self.length.map(|length| &self.nodes[..length])
+        self.nodes.as_ref().map(|nodes| &nodes[..self.length])
     }
 }
 
-/// What is read by a template from an input: the numbers of the three answers.
+/// What is read by a template from an input: the numbers of the three answers. By a compiled template only the input
+/// can be too long.
 pub fn read(template: &Template, input: &[u8]) -> Agreement<[i64; 3]> {
     let text = template.text;
     let parts = records::parts(text, input);
     let instant = records::instant(text, input);
     let date = records::date(text, input);
-    answered("parts", parts, |out| archive::parts(text, input, out))?;
-    answered("instant", instant, |out| archive::instant(text, input, out))?;
-    answered("date", date, |out| archive::date(text, input, out))?;
-    if let Some(nodes) = template.nodes() {
-        answered("parts_by", parts, |out| archive::parts_by(nodes, text, input, out))?;
-        answered("instant_by", instant, |out| archive::instant_by(nodes, text, input, out))?;
-        answered("date_by", date, |out| archive::date_by(nodes, text, input, out))?;
+    for caller in &template.callers {
+        let settings = caller.settings;
+        let within = caller.limits.hold(text, input);
+        caller.answered("parts", within, parts, |out| archive::parts_with(settings, text, input, out))?;
+        caller.answered("instant", within, instant, |out| archive::instant_with(settings, text, input, out))?;
+        caller.answered("date", within, date, |out| archive::date_with(settings, text, input, out))?;
+        let Some(nodes) = template.nodes() else { continue };
+        let within = caller.limits.hold(&[], input);
+        caller.answered("parts_by", within, parts, |out| archive::parts_by_with(settings, nodes, text, input, out))?;
+        caller.answered("instant_by", within, instant, |out| {
+            archive::instant_by_with(settings, nodes, text, input, out)
+        })?;
+        caller.answered("date_by", within, date, |out| archive::date_by_with(settings, nodes, text, input, out))?;
     }
     Ok([parts[0], instant[0], date[0]])
 }
 
 /// What is written by a template for a moment, into a buffer of `room` bytes: the number and the text. After the
-/// text the buffer is as it was.
+/// text the buffer is as it was. Of a compiled template the nodes have a limit, in place of the text.
 pub fn write(template: &Template, moment: &Moment, room: usize) -> Agreement<(i64, String)> {
-    let (wanted, text) = records::written(template.text, moment, room);
-    let mut wanted_buffer = vec![FILLER; room];
-    wanted_buffer[..text.len()].copy_from_slice(text.as_bytes());
+    let (record, text) = records::written(template.text, moment, room);
     let mut buffer = vec![FILLER; room];
-    answered("write", wanted, |out| archive::write(template.text, moment, &mut buffer, out))?;
-    same("write", &wanted_buffer, &buffer)?;
-    if let Some(nodes) = template.nodes() {
-        buffer.fill(FILLER);
-        answered("write_by", wanted, |out| archive::write_by(nodes, template.text, moment, &mut buffer, out))?;
-        same("write_by", &wanted_buffer, &buffer)?;
+    buffer[..text.len()].copy_from_slice(text.as_bytes());
+    let wanted = (record, buffer.as_slice());
+    for caller in &template.callers {
+        let settings = caller.settings;
+        let within = caller.limits.hold(template.text, &[]);
+        caller.written("write", within, wanted, |into, out| {
+            archive::write_with(settings, template.text, moment, into, out)
+        })?;
+        let Some(nodes) = template.nodes() else { continue };
+        let most = NODE * caller.limits.template;
+        for (nodes, within) in [(nodes, nodes.len() <= most), (&MORE[..=most], false)] {
+            caller.written("write_by", within, wanted, |into, out| {
+                archive::write_by_with(settings, nodes, template.text, moment, into, out)
+            })?;
+        }
     }
-    Ok((wanted[0], text))
+    Ok((record[0], text))
+}
+
+/// The text that a full template writes is read as its moment by each caller that takes the template.
+pub fn read_back(template: &Template, moment: &Moment, text: &str) -> Agreement<()> {
+    PAGES.same("write", text.len().min(template.text.len() + LONGER), text.len())?;
+    for caller in template.callers.iter().filter(|caller| caller.limits.hold(template.text, &[])) {
+        let mut found = [UNSET; 14];
+        archive::parts_with(caller.settings, template.text, text.as_bytes(), &mut found);
+        let numbers: Vec<i64> = moment.iter().map(|number| i64::from(*number)).collect();
+        caller.same("parts", (0, &numbers[..]), (found[0], &found[4..11]))?;
+    }
+    Ok(())
 }
 
 /// The names of the patterns, and none after the last.
@@ -108,12 +174,13 @@ pub fn patterns() -> Agreement<()> {
         padded[..wanted.len()].copy_from_slice(wanted);
         let mut name = [FILLER; NAME];
         let length = archive::pattern(place, &mut name);
-        same("pattern", (wanted.len(), padded), (length, name))?;
+        PAGES.same("pattern", (wanted.len(), padded), (length, name))?;
     }
     Ok(())
 }
 
 /// What a difference was found on, in hexadecimal digits.
+#[derive(Clone, Copy)]
 pub enum Case<'a> {
     Reading { template: &'a [u8], input: &'a [u8] },
     Writing { template: &'a [u8], moment: &'a Moment },

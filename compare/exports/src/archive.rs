@@ -3,52 +3,76 @@
 
 use oracle::answers::Moment;
 use sorbilgan_sys as sys;
-pub use sorbilgan_sys::{NAME, NODES};
+pub use sorbilgan_sys::{CARDS, NAME, NODES};
+
+/// The bytes of a node.
+pub const NODE: usize = 6;
 
 pub type Parts = [i64; 14];
 pub type Value = [i64; 5];
 pub type Nodes = [u8; NODES];
 pub type Name = [u8; NAME];
 
+/// Which export is called: the one with settings and these, or the one without.
+pub type Settings = Option<u32>;
+
 const _: () = assert!(size_of::<Parts>() == size_of::<sys::PartsAnswer>());
 const _: () = assert!(size_of::<Value>() == size_of::<sys::ValueAnswer>());
 
-/// A reading export, and the one that reads by a compiled template.
-macro_rules! reading {
-    ($name:ident $export:ident, $by:ident $export_by:ident, $answer:ty) => {
-        pub fn $name(template: &[u8], input: &[u8], out: &mut $answer) -> u8 {
-            let (t, t_length, s, s_length) = (template.as_ptr(), template.len(), input.as_ptr(), input.len());
-            unsafe { sys::$export(t, t_length, s, s_length, out.as_mut_ptr().cast()) }
+/// The exports of one name, without settings and with them.
+macro_rules! export {
+    ($name:ident $plain:ident, $name_with:ident $with:ident, ($($given:ident: $type:ty),*) -> $answer:ty,
+     ($($passed:expr),*)) => {
+        pub fn $name_with(settings: Settings, $($given: $type),*) -> $answer {
+            match settings {
+                None => unsafe { sys::$plain($($passed),*) },
+                Some(settings) => unsafe { sys::$with(settings, $($passed),*) },
+            }
         }
 
-        pub fn $by(nodes: &[u8], template: &[u8], input: &[u8], out: &mut $answer) -> u8 {
-            let (t, t_length, s, s_length) = (template.as_ptr(), template.len(), input.as_ptr(), input.len());
-            unsafe { sys::$export_by(nodes.as_ptr(), nodes.len(), t, t_length, s, s_length, out.as_mut_ptr().cast()) }
+        pub fn $name($($given: $type),*) -> $answer {
+            $name_with(None, $($given),*)
         }
     };
 }
 
-reading!(parts sorbilgan_parts, parts_by sorbilgan_parts_by, Parts);
-reading!(instant sorbilgan_instant, instant_by sorbilgan_instant_by, Value);
-reading!(date sorbilgan_date, date_by sorbilgan_date_by, Value);
-
-pub fn write(template: &[u8], &[y, mo, d, h, mi, s, us]: &Moment, text: &mut [u8], out: &mut Value) -> u8 {
-    let (t, t_length, into, room) = (template.as_ptr(), template.len(), text.as_mut_ptr(), text.len());
-    unsafe { sys::sorbilgan_write(t, t_length, y, mo, d, h, mi, s, us, into, room, out.as_mut_ptr().cast()) }
+/// Exports that read, with the template each time.
+macro_rules! reading {
+    ($name:ident $plain:ident, $name_with:ident $with:ident, $answer:ty) => {
+        export!($name $plain, $name_with $with, (template: &[u8], input: &[u8], out: &mut $answer) -> u8,
+            (template.as_ptr(), template.len(), input.as_ptr(), input.len(), out.as_mut_ptr().cast()));
+    };
 }
 
-pub fn write_by(
-    nodes: &[u8], template: &[u8], &[y, mo, d, h, mi, s, us]: &Moment, text: &mut [u8], out: &mut Value,
-) -> u8 {
-    let (c, c_length, t, t_length) = (nodes.as_ptr(), nodes.len(), template.as_ptr(), template.len());
-    let (into, room, out) = (text.as_mut_ptr(), text.len(), out.as_mut_ptr().cast());
-    unsafe { sys::sorbilgan_write_by(c, c_length, t, t_length, y, mo, d, h, mi, s, us, into, room, out) }
+/// Exports that read by a compiled template.
+macro_rules! reading_by {
+    ($name:ident $plain:ident, $name_with:ident $with:ident, $answer:ty) => {
+        export!($name $plain, $name_with $with, (nodes: &[u8], template: &[u8], input: &[u8], out: &mut $answer) -> u8,
+            (nodes.as_ptr(), nodes.len(), template.as_ptr(), template.len(), input.as_ptr(), input.len(),
+             out.as_mut_ptr().cast()));
+    };
 }
 
-/// The bytes of the nodes; -1 or -2 where the template is refused, and the nodes are as they were.
-pub fn compile(template: &[u8], nodes: &mut Nodes) -> i64 {
-    unsafe { sys::sorbilgan_compile(template.as_ptr(), template.len(), nodes) }
-}
+reading!(parts sorbilgan_parts, parts_with sorbilgan_parts_with, Parts);
+reading!(instant sorbilgan_instant, instant_with sorbilgan_instant_with, Value);
+reading!(date sorbilgan_date, date_with sorbilgan_date_with, Value);
+reading_by!(parts_by sorbilgan_parts_by, parts_by_with sorbilgan_parts_by_with, Parts);
+reading_by!(instant_by sorbilgan_instant_by, instant_by_with sorbilgan_instant_by_with, Value);
+reading_by!(date_by sorbilgan_date_by, date_by_with sorbilgan_date_by_with, Value);
+
+export!(write sorbilgan_write, write_with sorbilgan_write_with,
+    (template: &[u8], moment: &Moment, text: &mut [u8], out: &mut Value) -> u8,
+    (template.as_ptr(), template.len(), moment[0], moment[1], moment[2], moment[3], moment[4], moment[5], moment[6],
+     text.as_mut_ptr(), text.len(), out.as_mut_ptr().cast()));
+
+export!(write_by sorbilgan_write_by, write_by_with sorbilgan_write_by_with,
+    (nodes: &[u8], template: &[u8], moment: &Moment, text: &mut [u8], out: &mut Value) -> u8,
+    (nodes.as_ptr(), nodes.len(), template.as_ptr(), template.len(), moment[0], moment[1], moment[2], moment[3],
+     moment[4], moment[5], moment[6], text.as_mut_ptr(), text.len(), out.as_mut_ptr().cast()));
+
+// The bytes of the nodes; -1 or -2 where the template is refused, and the nodes are as they were.
+export!(compile sorbilgan_compile, compile_with sorbilgan_compile_with,
+    (template: &[u8], nodes: &mut Nodes) -> i64, (template.as_ptr(), template.len(), nodes));
 
 /// The length of a pattern's name by its place in the table.
 pub fn pattern(place: u8, name: &mut Name) -> usize {

@@ -2,6 +2,7 @@
 
 use exports::agreement::{self, Agreement, Case, Difference, Template};
 use exports::batches::Batch;
+use oracle::answers::{Limits, Moment, is_full};
 use oracle::random::Random;
 use std::panic::{AssertUnwindSafe, catch_unwind};
 use std::process::ExitCode;
@@ -21,11 +22,24 @@ const ANSWERS: [&str; 4] = ["parts", "instants", "days", "texts"];
 /// One more than the last number of a refusal.
 const NUMBERS: usize = 22;
 
+/// What is counted of the two callers, of lengths at the flash cards' limits, and of texts by full templates.
+const CALLERS: [&str; 4] = [
+    "inputs within the smaller limits read equally",
+    "refused with 1 by the cards alone",
+    "moments written equally",
+    "refused with 1 by the cards alone",
+];
+const LENGTHS: [&str; 4] = ["templates of 64 bytes", "of 65", "inputs of 96", "of 97"];
+const BACK: [&str; 2] = ["texts of full templates", "by the cards too"];
+
 /// How often each number was the answer, and what differed.
 #[derive(Default)]
 struct Tally {
     pairs: u64,
     numbers: [[u64; NUMBERS]; 4],
+    callers: [u64; CALLERS.len()],
+    lengths: [u64; LENGTHS.len()],
+    back: [u64; BACK.len()],
     differences: u64,
     shown: Vec<String>,
 }
@@ -38,10 +52,23 @@ impl Tally {
         }
     }
 
+    /// Counts a pair that was answered as it should be, by the number of the pages' answer. A moment is no input.
+    fn answered(&mut self, template: &[u8], input: Option<&[u8]>, number: i64) {
+        let limits = Limits::CARDS;
+        let within = limits.hold(template, input.unwrap_or_default());
+        let counted = [within, !within && number != 1].map(u64::from);
+        add(&mut self.callers[if input.is_some() { 0 } else { 2 }..], counted);
+        let of_template = [limits.template, limits.template + 1].map(|length| template.len() == length);
+        let of_input = [limits.input, limits.input + 1].map(|length| input.is_some_and(|input| input.len() == length));
+        add(&mut self.lengths, of_template.into_iter().chain(of_input).map(u64::from));
+    }
+
     fn join(&mut self, other: Tally) {
         self.pairs += other.pairs;
-        let counts = self.numbers.iter_mut().flatten();
-        counts.zip(other.numbers.iter().flatten()).for_each(|(count, more)| *count += more);
+        self.numbers.iter_mut().zip(other.numbers).for_each(|(counts, more)| add(counts, more));
+        add(&mut self.callers, other.callers);
+        add(&mut self.lengths, other.lengths);
+        add(&mut self.back, other.back);
         self.differences += other.differences;
         self.shown.extend(other.shown);
         self.shown.truncate(SHOWN);
@@ -53,11 +80,24 @@ impl Tally {
             let counts: Vec<String> = counts.map(|(number, count)| format!("{count} of {number}")).collect();
             println!("{answer}: {}", counts.join(", "));
         }
+        let counted: [(_, &[u64], &[&str]); 3] = [
+            ("callers", &self.callers, &CALLERS),
+            ("lengths", &self.lengths, &LENGTHS),
+            ("read back", &self.back, &BACK),
+        ];
+        for (what, counts, names) in counted {
+            let counts: Vec<String> = counts.iter().zip(names).map(|(count, name)| format!("{count} {name}")).collect();
+            println!("{what}: {}", counts.join(", "));
+        }
         for shown in &self.shown {
             println!("  {shown}");
         }
         println!("{} differences", self.differences);
     }
+}
+
+fn add(counts: &mut [u64], more: impl IntoIterator<Item = u64>) {
+    counts.iter_mut().zip(more).for_each(|(count, more)| *count += more);
 }
 
 /// A stop of the module is shown with the case at which it stops; its message goes to the standard error.
@@ -80,18 +120,24 @@ fn read(template: &[u8], compiled: &Template, input: &[u8], tally: &mut Tally) {
     let case = Case::Reading { template, input };
     if let Some(numbers) = caught(case, tally, || agreement::read(compiled, input)) {
         numbers.iter().zip(&mut tally.numbers).for_each(|(number, counts)| counts[*number as usize] += 1);
+        tally.answered(template, Some(input), numbers[0]);
     }
 }
 
-/// The text that is written is also read.
-fn write(template: &[u8], compiled: &Template, moment: &[i32; 7], room: usize, tally: &mut Tally) -> String {
+/// The text that is written is also read: that of a full template as the moment.
+fn write(template: &[u8], compiled: &Template, moment: &Moment, room: usize, tally: &mut Tally) -> String {
     let case = Case::Writing { template, moment };
     let Some((number, text)) = caught(case, tally, || agreement::write(compiled, moment, room)) else {
         return String::new();
     };
     tally.numbers[3][number as usize] += 1;
+    tally.answered(template, None, number);
     if number == 0 {
         read(template, compiled, text.as_bytes(), tally);
+        let back = || agreement::read_back(compiled, moment, &text);
+        if is_full(template) && caught(case, tally, back).is_some() {
+            add(&mut tally.back, [1, Limits::CARDS.hold(template, &[]).into()]);
+        }
     }
     text
 }
@@ -100,7 +146,7 @@ fn check(batch: &Batch, tally: &mut Tally) {
     tally.pairs += batch.pairs();
     let template = &batch.template;
     let case = Case::Reading { template, input: &[] };
-    let Some(compiled) = caught(case, tally, || Template::compiled(template)) else { return };
+    let Some(compiled) = caught(case, tally, || Template::compiled(template, batch.bits)) else { return };
     for input in &batch.inputs {
         read(template, &compiled, input, tally);
     }

@@ -12,10 +12,10 @@ pub mod records;
 mod writing;
 
 pub use fields::fields;
-pub use reading::{cut, date, instant, line, parts, without_return};
+pub use reading::{Limits, cut, date, instant, line, parts, without_return};
 #[cfg(test)]
 pub use writing::patterns;
-pub use writing::{Moment, back, micros, numbers_of, written};
+pub use writing::{Moment, back, is_full, micros, numbers_of, written};
 
 pub fn answer(question: &str) -> String {
     let words: Vec<&str> = question.split(' ').collect();

@@ -4,12 +4,28 @@
 use super::*;
 use std::fmt;
 
-pub const TEMPLATE_LIMIT: usize = 256;
-pub const INPUT_LIMIT: usize = 512;
+/// A caller's limits of a template and an input, in bytes.
+#[derive(Clone, Copy)]
+pub struct Limits {
+    pub template: usize,
+    pub input: usize,
+}
+
+impl Limits {
+    /// Those of the exercise pages, by which all answers here are given.
+    pub const PAGES: Limits = Limits { template: 256, input: 512 };
+    /// Those of the flash cards.
+    pub const CARDS: Limits = Limits { template: 64, input: 96 };
+
+    /// Whether neither is too long.
+    pub fn hold(&self, template: &[u8], input: &[u8]) -> bool {
+        template.len() <= self.template && input.len() <= self.input
+    }
+}
 
 /// The answer of the line program to one line, "template TAB input", where `answer` answers a template and an input.
 pub fn line(line: &[u8], answer: impl Fn(&[u8], &[u8]) -> String) -> String {
-    if line.len() > TEMPLATE_LIMIT + 1 + INPUT_LIMIT {
+    if line.len() > Limits::PAGES.template + 1 + Limits::PAGES.input {
         return Refusal::plain(1).to_string();
     }
     let (template, input) = cut(line);
@@ -60,7 +76,7 @@ pub fn shown<T>(answer: Answer<T>, accepted: impl Fn(T) -> String) -> String {
 }
 
 pub fn read<T>(template: &[u8], input: &[u8], by: impl Fn(&str, &str) -> Result<T>) -> Answer<T> {
-    if template.len() > TEMPLATE_LIMIT || input.len() > INPUT_LIMIT {
+    if !Limits::PAGES.hold(template, input) {
         return Err(Refusal::plain(1));
     }
     let (Ok(template), Ok(input)) = (std::str::from_utf8(template), std::str::from_utf8(input)) else {

@@ -1,6 +1,6 @@
 //! The same answers as records of 64-bit words, as the library's exports fill them.
 
-use super::reading::{Answer, read, to_instant};
+use super::reading::{Answer, Limits, Refusal, read, to_instant};
 use super::writing::{Moment, attempt};
 use super::*;
 
@@ -20,6 +20,11 @@ fn record<const WORDS: usize>(answer: Answer<Vec<i64>>) -> [i64; WORDS] {
         }
     }
     words
+}
+
+/// The answer to a caller of its own limits: within them the same, else refusal 1, which comes before all others.
+pub fn limited<const WORDS: usize>(within: bool, answer: [i64; WORDS]) -> [i64; WORDS] {
+    if within { answer } else { record(Err(Refusal::plain(1))) }
 }
 
 /// The values are the nine parts, with a flag before the offset.
@@ -47,7 +52,7 @@ pub fn written(template: &[u8], moment: &Moment, room: usize) -> ([i64; 5], Stri
 
 /// The number of nodes of a template; -1 over its limit, -2 where it is not UTF-8.
 pub fn compiled(template: &[u8]) -> i64 {
-    if template.len() > reading::TEMPLATE_LIMIT {
+    if template.len() > Limits::PAGES.template {
         -1
     } else if std::str::from_utf8(template).is_err() {
         -2

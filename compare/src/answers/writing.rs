@@ -1,6 +1,6 @@
 //! The answers to a template and a moment: the text that the module writes, or a refusal by the writer's own rules.
 
-use super::reading::{Answer, INPUT_LIMIT, Refusal, TEMPLATE_LIMIT, shown};
+use super::reading::{Answer, Limits, Refusal, shown};
 use super::*;
 use crate::timestamp::{days_from_civil, month_lengths};
 
@@ -20,7 +20,7 @@ const TIMES: [&[&str]; 3] = [&["HH24", "MI", "SS"], &["HH12", "MI", "SS", "AM"],
 
 /// 0 and the text of a moment; or a refusal.
 pub fn written(template: &[u8], moment: &[u8]) -> String {
-    shown(attempt(template, numbers_of(moment), INPUT_LIMIT), |text| text)
+    shown(attempt(template, numbers_of(moment), Limits::PAGES.input), |text| text)
 }
 
 /// What the written text must be read as, where a line's template is full: the moment, then its microseconds and days
@@ -39,7 +39,7 @@ pub fn back(line: &[u8]) -> String {
 
 /// The text of a moment for a buffer of `room` bytes. What are not seven numbers is no moment.
 pub fn attempt(template: &[u8], numbers: Option<Moment>, room: usize) -> Answer<String> {
-    if template.len() > TEMPLATE_LIMIT {
+    if template.len() > Limits::PAGES.template {
         return Err(Refusal::plain(1));
     }
     let template = std::str::from_utf8(template).map_err(|_| Refusal::plain(2))?;
@@ -124,7 +124,7 @@ pub fn patterns(template: &[u8]) -> Vec<String> {
 }
 
 /// Whether a template that the writer accepts has one date group, one time group and US, and nothing else.
-fn is_full(template: &[u8]) -> bool {
+pub fn is_full(template: &[u8]) -> bool {
     let mut patterns = patterns(template);
     patterns.sort();
     let group = |date: &[&'static str], time: &[&'static str]| {

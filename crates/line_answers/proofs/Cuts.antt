@@ -14,6 +14,8 @@ use lib.Seq.{take-all, take-at}
 use Rattle.base_notation.proofs.Cases.{by-if}
 use Rattle.base_notation.specs.Text.{byteAt}
 use Rattle.write_pieces.specs.declared.Moment.{Moment}
+use Rattle.base_settings.specs.Limits.{pages}
+use Rattle.base_settings.specs.declared.Settings.{Settings}
 use Rattle.write_text.specs.Report.{unwrittenReport}
 use Rattle.write_text.specs.Text.{textOf}
 use Rattle.write_text.specs.Writer.{Wrote, bufferAfter, writtenTo}
@@ -57,12 +59,13 @@ counted-within Date line = omega arith
 counted-within Write line =
     by-if (λ (n : ℕ). n ≤ length line) (eqb (byteAt line (length line - 1)) 13) (length line - 1) (length line) (λ e. omega arith) (λ e. omega arith)
 
-module _ {t after-text : List ℕ} {m : Moment} {buffer : List ℕ} {r : Written} (room : length buffer ≡ 512) (w : Wrote t m buffer after-text r) where
-  answer-is : r ≡ writtenTo t m 512
-  answer-is = rw room at (w .is)
+module _ {set : Settings} {t after-text : List ℕ} {m : Moment} {buffer : List ℕ} {r : Written} (own : set ≡ pages) (room : length buffer ≡ 512)
+    (w : Wrote set t m buffer after-text r) where
+  answer-is : r ≡ writtenTo pages t m 512
+  answer-is = rw (own, room) at (w .is)
 
   pub text-within : (n : ℕ) → r ≡ Length n → (n ≡ length (textOf t m)) × (n ≤ 512)
-  text-within n e = to-measured 512 t m n (sym answer-is ∙ e)
+  text-within n e = to-measured 512 pages t m n (sym answer-is ∙ e)
 
   -- the moment is that of the line
   module _ (s : List ℕ) (moment-is : m ≡ momentOf s) where

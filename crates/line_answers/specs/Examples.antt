@@ -3,6 +3,7 @@ use mathlib.Core.Path.{_≡_, refl}
 use Prim.Native.Nat.{ℕ}
 use Rattle.base_notation.specs.Text.{utf8}
 use Rattle.base_chars.specs.Utf8.{sequence, wellFormedAfter}
+use Rattle.base_settings.specs.Limits.{limits-compute}
 use Rattle.base_refusals.specs.Report.{reportOf}
 use Rattle.base_strtol.specs.Decimal as D
 use Rattle.base_strtol.specs.Runs.{leading}
@@ -11,7 +12,7 @@ use Rattle.calendar_gregorian.specs.Civil.{civil-computes}
 use Rattle.read_input.specs.Examples.{reading-computes}
 use Rattle.moment_date.specs.Dates.{date-computes}
 use Rattle.moment_time.specs.Time.{time-computes}
-use Rattle.moment_parts.specs.Parts.{checkedMoment, momentOf as partsMoment, partsOf}
+use Rattle.moment_parts.specs.Parts.{checkedMoment, momentOf as partsMoment, partsOf, partsRead}
 use Rattle.moment_instants.specs.ByTemplate.{dateOf, timestampOf}
 use Rattle.moment_instants.specs.Instant.{dayOf, instantOf, lessOffset, roundedTo, secondsOf, wallOf}
 use Rattle.moment_instants.specs.Report.{undatedReport}
@@ -34,7 +35,7 @@ use Rattle.line_answers.specs.declared.Mode.the-variants.{Parts, Instant
 
 -- unfolds all that the answer to a line is computed by, for worked examples
 unfoldable pub line-computes : ℕ
-unfolding answerLine wholeAnswer pairAnswer counted withoutReturn leading reportText patternName digits significant reportOf partsOf partsMoment checkedMoment wellFormedAfter sequence reading-computes time-computes date-computes
+unfolding answerLine wholeAnswer pairAnswer counted withoutReturn leading reportText patternName digits significant reportOf partsOf partsRead limits-compute partsMoment checkedMoment wellFormedAfter sequence reading-computes time-computes date-computes
 line-computes = 0
 
 -- the parts of a moment: February 29 of 2024, a day without a year, and one that 2023 has not

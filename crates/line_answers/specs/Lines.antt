@@ -7,6 +7,7 @@ use lib.Dec.{eqb, ltb}
 use lib.ListN.{length, take, drop}
 use Rattle.base_notation.specs.Choice.{if_then_else_}
 use Rattle.base_notation.specs.Text.{byteAt, utf8}
+use Rattle.base_settings.specs.Limits.{pages}
 use Rattle.base_refusals.specs.Report.{reportOf}
 use Rattle.base_refusals.specs.declared.Refusal.the-variants.{TooLong}
 use Rattle.moment_parts.specs.Parts.{partsOf}
@@ -42,12 +43,12 @@ counted Instant line = length line
 counted Date line = length line
 counted Write line = withoutReturn line
 
--- the answer to a template and what follows it
+-- the answer to a template and what follows it, with the settings of the exercise pages
 unfoldable pub pairAnswer : Mode → List ℕ → List ℕ → List ℕ
-pairAnswer Parts t s = partsAnswer (partsOf t s)
-pairAnswer Instant t s = instantAnswer (timestampOf t s)
-pairAnswer Date t s = dayAnswer (dateOf t s)
-pairAnswer Write t s = textAnswer (textOf t (momentOf s)) (writtenTo t (momentOf s) textLimit)
+pairAnswer Parts t s = partsAnswer (partsOf pages t s)
+pairAnswer Instant t s = instantAnswer (timestampOf pages t s)
+pairAnswer Date t s = dayAnswer (dateOf pages t s)
+pairAnswer Write t s = textAnswer (textOf t (momentOf s)) (writtenTo pages t (momentOf s) textLimit)
 
 -- the answer to a line that is too long
 unfoldable pub tooLongAnswer : List ℕ

@@ -62,7 +62,7 @@ pub fn text(t: &[u8], s: &[u8], out: &mut [u8], at: usize) -> usize
     ensures { λ r. ⌜ Answered (now (out .entry)) at (pairAnswer Write (now (t .entry)) (now (s .entry))) (now (out .exit)) r ⌝ }
 {
     let mut buffer = [0u8; TEXT];
-    match write_text::write(t, moment_of(s), &mut buffer) {
+    match write_text::write(base_settings::pages(), t, moment_of(s), &mut buffer) {
         Written::Length(len) => put_text(&buffer[0..len], out, at),
         Written::Refused(why) => put_report(write_text::report_of(why), out, at),
     }

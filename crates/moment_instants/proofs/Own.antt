@@ -10,6 +10,7 @@ use lib.Dec.{ltb}
 use lib.IntN.{ℤ, pos, negsuc, natAbs, _+ℤ_, _-ℤ_, _*ℤ_}
 use lib.Signed.{ltZ}
 use Rattle.base_notation.proofs.Cases.{by-if}
+use Rattle.base_settings.specs.declared.Settings.{Settings}
 use Rattle.base_refusals.specs.Report.{noPattern}
 use Rattle.calendar_gregorian.specs.Civil.{daysFromCivil}
 use Rattle.template_nodes.specs.Template.{nodesOf}
@@ -97,17 +98,17 @@ module _ (ns : List Node) where
   answer-day (Moment p) named = day-unnamed (NoneOrIn ns) (inl refl) p
 
 -- by any nodes, and by a template
-module _ (t s : List ℕ) {why : Undated} where
-  pub instant-own : (ns : List Node) → instantBy (partsBy ns t s) ≡ NoInstant why → NoneOrIn ns (undatedReport why .pattern)
-  instant-own ns e = subst (InstantNames (NoneOrIn ns)) e (answer-instant ns (partsBy ns t s) (named-own ns t s))
+module _ (set : Settings) (t s : List ℕ) {why : Undated} where
+  pub instant-own : (ns : List Node) → instantBy (partsBy set ns t s) ≡ NoInstant why → NoneOrIn ns (undatedReport why .pattern)
+  instant-own ns e = subst (InstantNames (NoneOrIn ns)) e (answer-instant ns (partsBy set ns t s) (named-own set ns t s))
 
-  pub day-own : (ns : List Node) → dayBy (partsBy ns t s) ≡ NoDay why → NoneOrIn ns (undatedReport why .pattern)
-  day-own ns e = subst (DayNames (NoneOrIn ns)) e (answer-day ns (partsBy ns t s) (named-own ns t s))
+  pub day-own : (ns : List Node) → dayBy (partsBy set ns t s) ≡ NoDay why → NoneOrIn ns (undatedReport why .pattern)
+  day-own ns e = subst (DayNames (NoneOrIn ns)) e (answer-day ns (partsBy set ns t s) (named-own set ns t s))
 
-  pub timestamp-own : timestampOf t s ≡ NoInstant why → NoneOrIn (nodesOf t) (undatedReport why .pattern)
+  pub timestamp-own : timestampOf set t s ≡ NoInstant why → NoneOrIn (nodesOf t) (undatedReport why .pattern)
   unfolding timestampOf
-  timestamp-own e = subst (InstantNames (NoneOrIn (nodesOf t))) e (answer-instant (nodesOf t) (partsOf t s) (named-in-template t s))
+  timestamp-own e = subst (InstantNames (NoneOrIn (nodesOf t))) e (answer-instant (nodesOf t) (partsOf set t s) (named-in-template set t s))
 
-  pub date-own : dateOf t s ≡ NoDay why → NoneOrIn (nodesOf t) (undatedReport why .pattern)
+  pub date-own : dateOf set t s ≡ NoDay why → NoneOrIn (nodesOf t) (undatedReport why .pattern)
   unfolding dateOf
-  date-own e = subst (DayNames (NoneOrIn (nodesOf t))) e (answer-day (nodesOf t) (partsOf t s) (named-in-template t s))
+  date-own e = subst (DayNames (NoneOrIn (nodesOf t))) e (answer-day (nodesOf t) (partsOf set t s) (named-in-template set t s))

@@ -2,6 +2,7 @@
 use mathlib.Core.Path.{_≡_, refl}
 use mathlib.Core.List.{List}
 use Prim.Native.Nat.{ℕ}
+use Rattle.base_settings.specs.declared.Settings.{Settings}
 use Rattle.base_refusals.specs.declared.Refusal.the-variants.{FieldOverflow}
 use Rattle.moment_instants.specs.Instant.{dayOf, instantOf}
 use Rattle.moment_instants.specs.declared.epoch.Day.{Day}
@@ -22,12 +23,12 @@ abbrev pub dayBy : Answer → Day
 dayBy (Refused why) = NoDay (Unread why)
 dayBy (Moment p) = dayOf p
 
--- the instant and the day of an input by a template
-unfoldable pub timestampOf : List ℕ → List ℕ → Instant
-timestampOf t s = instantBy (partsOf t s)
+-- the instant and the day of an input by a template, for a caller with settings
+unfoldable pub timestampOf : Settings → List ℕ → List ℕ → Instant
+timestampOf set t s = instantBy (partsOf set t s)
 
-unfoldable pub dateOf : List ℕ → List ℕ → Day
-dateOf t s = dayBy (partsOf t s)
+unfoldable pub dateOf : Settings → List ℕ → List ℕ → Day
+dateOf set t s = dayBy (partsOf set t s)
 
 -- what is not read has neither, for the same cause
 pub worked

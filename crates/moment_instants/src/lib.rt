@@ -5,6 +5,7 @@ ghost use mathlib.Core.Path.{_≡_};
 ghost use Rattle.moment_parts.specs.Parts.{partsBy};
 ghost use Rattle.template_nodes.specs.Bytes.{nodesIn};
 ghost use Rattle.moment_instants.specs.ByTemplate.{instantBy, dayBy, timestampOf, dateOf};
+use base_settings::Settings;
 pub use epoch::Day;
 pub use epoch::Instant;
 pub use epoch::Undated;
@@ -36,27 +37,27 @@ fn day_from(answer: Answer) -> Day
 }
 
 // The instant and the day of an input by a template.
-pub fn to_timestamp_text(t: &[u8], s: &[u8]) -> Instant
-    ensures { λ r. ⌜ r ≡ timestampOf (now (t .entry)) (now (s .entry)) ⌝ }
+pub fn to_timestamp_text(set: Settings, t: &[u8], s: &[u8]) -> Instant
+    ensures { λ r. ⌜ r ≡ timestampOf set (now (t .entry)) (now (s .entry)) ⌝ }
 {
-    instant_from(moment_parts::to_timestamp_parts(t, s))
+    instant_from(moment_parts::to_timestamp_parts(set, t, s))
 }
 
-pub fn to_date_text(t: &[u8], s: &[u8]) -> Day
-    ensures { λ r. ⌜ r ≡ dateOf (now (t .entry)) (now (s .entry)) ⌝ }
+pub fn to_date_text(set: Settings, t: &[u8], s: &[u8]) -> Day
+    ensures { λ r. ⌜ r ≡ dateOf set (now (t .entry)) (now (s .entry)) ⌝ }
 {
-    day_from(moment_parts::to_timestamp_parts(t, s))
+    day_from(moment_parts::to_timestamp_parts(set, t, s))
 }
 
 // The same by the nodes that any bytes hold. t is the template that they were made from.
-pub fn instant_by(c: &[u8], t: &[u8], s: &[u8]) -> Instant
-    ensures { λ r. ⌜ r ≡ instantBy (partsBy (nodesIn (now (c .entry))) (now (t .entry)) (now (s .entry))) ⌝ }
+pub fn instant_by(set: Settings, c: &[u8], t: &[u8], s: &[u8]) -> Instant
+    ensures { λ r. ⌜ r ≡ instantBy (partsBy set (nodesIn (now (c .entry))) (now (t .entry)) (now (s .entry))) ⌝ }
 {
-    instant_from(moment_parts::parts_by(c, t, s))
+    instant_from(moment_parts::parts_by(set, c, t, s))
 }
 
-pub fn day_by(c: &[u8], t: &[u8], s: &[u8]) -> Day
-    ensures { λ r. ⌜ r ≡ dayBy (partsBy (nodesIn (now (c .entry))) (now (t .entry)) (now (s .entry))) ⌝ }
+pub fn day_by(set: Settings, c: &[u8], t: &[u8], s: &[u8]) -> Day
+    ensures { λ r. ⌜ r ≡ dayBy (partsBy set (nodesIn (now (c .entry))) (now (t .entry)) (now (s .entry))) ⌝ }
 {
-    day_from(moment_parts::parts_by(c, t, s))
+    day_from(moment_parts::parts_by(set, c, t, s))
 }

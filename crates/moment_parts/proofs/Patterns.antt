@@ -2,7 +2,7 @@
 -- `named-own`: so it is by any nodes, whatever the template and the input are.
 -- `named-in-template`: so it is by a template, with its own nodes.
 use mathlib.Core.Path.{refl}
-use mathlib.Core.Bool.{not, _&&_, _||_}
+use mathlib.Core.Bool.{not, _||_}
 use mathlib.Core.List.{List, [], _∷_}
 use mathlib.Core.Logic.{inl, inr}
 use Prim.Native.Nat.{ℕ}
@@ -10,6 +10,8 @@ use lib.Dec.{ltb}
 use lib.IntN.{ℤ}
 use lib.ListN.{length}
 use Rattle.base_notation.proofs.Cases.{by-if}
+use Rattle.base_settings.specs.Limits.{templateLimit, inputLimit}
+use Rattle.base_settings.specs.declared.Settings.{Settings}
 use Rattle.base_refusals.specs.Report.{noPattern, reportOf}
 use Rattle.base_chars.specs.Utf8.{wellFormed}
 use Rattle.read_fields.specs.declared.Fields.{Fields}
@@ -32,7 +34,7 @@ use Rattle.moment_time.specs.Time.{minuteOf, secondOf, clockHour, microsOf, tim
 use Rattle.moment_time.specs.declared.Zoned.{Zoned}
 use Rattle.moment_time.specs.declared.Zoned.the-variants.{At, Refused as NoZone}
 use Rattle.moment_time.proofs.Unnamed.{ZonedNames, clock-unnamed, micros-unnamed, offset-unnamed}
-use Rattle.moment_parts.specs.Parts.{templateLimit, inputLimit, withOffset, checkedMoment, thenMoment, thenMicros, thenDate, momentOf, thenFields, partsBy, partsOf}
+use Rattle.moment_parts.specs.Parts.{withOffset, checkedMoment, thenMoment, thenMicros, thenDate, momentOf, thenFields, partsRead, partsBy, partsOf}
 use Rattle.moment_parts.specs.Patterns.{PatternIn, NoneOrIn, NamesOwn}
 
 module _ (ns : List Node) where
@@ -83,16 +85,19 @@ fields-own ns t s =
     let r = readAll t s ns in
     then-fields ns (r .fields) (r .verdict) (read-own (NoneOrIn ns) t s ns (each-in (NoneOrIn ns) ns (λ k i. inr i)))
 
--- for any nodes, and all templates and inputs, of any bytes and length
-pub named-own : (ns : List Node) (t s : List ℕ) → NamesOwn ns (partsBy ns t s)
-unfolding partsBy reportOf
-named-own ns t s =
-    by-if (NamesOwn ns) (ltb inputLimit (length s)) _ _ (λ e. none ns)
-    (λ e. by-if (NamesOwn ns) (not (wellFormed s)) _ _ (λ e. none ns) (λ e. fields-own ns t s))
+-- the parts of an input within its limit
+parts-own : (ns : List Node) (t s : List ℕ) → NamesOwn ns (partsRead ns t s)
+unfolding partsRead reportOf
+parts-own ns t s = by-if (NamesOwn ns) (not (wellFormed s)) _ _ (λ e. none ns) (λ e. fields-own ns t s)
 
-pub named-in-template : (t s : List ℕ) → NamesOwn (nodesOf t) (partsOf t s)
+-- for any nodes, and all templates and inputs, of any bytes and length
+pub named-own : (set : Settings) (ns : List Node) (t s : List ℕ) → NamesOwn ns (partsBy set ns t s)
+unfolding partsBy reportOf
+named-own set ns t s = by-if (NamesOwn ns) (ltb (inputLimit set) (length s)) _ _ (λ e. none ns) (λ e. parts-own ns t s)
+
+pub named-in-template : (set : Settings) (t s : List ℕ) → NamesOwn (nodesOf t) (partsOf set t s)
 unfolding partsOf reportOf
-named-in-template t s =
+named-in-template set t s =
     let ns = nodesOf t in
-    by-if (NamesOwn ns) (ltb templateLimit (length t) || ltb inputLimit (length s)) _ _ (λ e. none ns)
-    (λ e. by-if (NamesOwn ns) (not (wellFormed t && wellFormed s)) _ _ (λ e. none ns) (λ e. fields-own ns t s))
+    by-if (NamesOwn ns) (ltb (templateLimit set) (length t) || ltb (inputLimit set) (length s)) _ _ (λ e. none ns)
+    (λ e. by-if (NamesOwn ns) (not (wellFormed t)) _ _ (λ e. none ns) (λ e. parts-own ns t s))

@@ -17,6 +17,8 @@ use lib.ListN.{length}
 use lib.Signed.{ltZ}
 use Rattle.base_notation.specs.Choice.{if_then_else_}
 use Rattle.base_notation.proofs.Cases.{by-if, both}
+use Rattle.base_settings.specs.Limits.{templateLimit, inputLimit}
+use Rattle.base_settings.specs.declared.Settings.{Settings}
 use Rattle.base_refusals.specs.Report.{reportOf}
 use Rattle.base_refusals.specs.declared.Refusal.{Refusal}
 use Rattle.base_refusals.specs.declared.Refusal.the-variants.{TooLong, NotUtf8, MixedDates, Conflict, Short, Narrow, NotInteger, OutOfRange, NoWord, NotTwoNumbers, YearOutOfRange, ZoneLetter, HourOfTwelve, NoYear, FieldOverflow, OffsetRange}
@@ -32,7 +34,7 @@ use Rattle.read_fields.specs.declared.Verdict.the-variants.{Read, Refused as St
 use Rattle.template_nodes.specs.Template.{nodesOf}
 use Rattle.template_nodes.specs.declared.Node.{Node}
 use Rattle.moment_date.specs.Dates.{yearBit, monthBit, dayBit, allBits, isSet, outside, partInRange, dayInMonth, dateInRange, datedOf}
-use Rattle.moment_parts.specs.Parts.{templateLimit, inputLimit, withOffset, checkedMoment, thenMoment, thenMicros, thenDate, momentOf, thenFields, partsBy, partsOf}
+use Rattle.moment_parts.specs.Parts.{withOffset, checkedMoment, thenMoment, thenMicros, thenDate, momentOf, thenFields, partsRead, partsBy, partsOf}
 use Rattle.moment_sums.specs.Within.{Within, below}
 use Rattle.moment_parts.specs.Ranges.{OffsetWithin, maskOf, HasDay, InRange, Answered, fieldsBy, fieldsOf}
 use Rattle.moment_time.specs.Time.{minuteOf, secondOf, clockHour, microsOf, timeInRange, eastOf, offsetOf, offsetInRange, checkedOffset}
@@ -209,28 +211,31 @@ module _ (f : Fields) (few : Within 0 6 (get f ff)) where
 
 -- for all nodes, templates and inputs, of any bytes and length
 module _ (ns : List Node) (t s : List ℕ) where
-  -- an input that is not too long and is UTF-8
-  read-answered : Answered (fieldsBy ns t s) (thenFields (readAll t s ns .verdict) (fieldsBy ns t s))
-  read-answered =
+  -- an input that is UTF-8
+  fields-answered : Answered (fieldsBy ns t s) (thenFields (readAll t s ns .verdict) (fieldsBy ns t s))
+  fields-answered =
       let few = read-precise t s ns in
       then-fields (fieldsBy ns t s) (record { at = few .at; is = few .is; from = zero-le; to = few .to }) (readAll t s ns .verdict)
 
-  -- the two tests before that
-  tested : (long bad : Bool)
-      → Answered (fieldsBy ns t s) (if long then Refused TooLong else if bad then Refused NotUtf8 else thenFields (readAll t s ns .verdict) (fieldsBy ns t s))
-  tested true bad = numbered TooLong
-  tested false true = numbered NotUtf8
-  tested false false = read-answered
+  -- an input that is not too long
+  read-answered : Answered (fieldsBy ns t s) (partsRead ns t s)
+  unfolding partsRead
+  read-answered =
+      by-if (Answered (fieldsBy ns t s)) (not (wellFormed s)) _ _ (λ e. numbered NotUtf8) (λ e. fields-answered)
 
-  pub parts-by-answered : Answered (fieldsBy ns t s) (partsBy ns t s)
-  unfolding partsBy
-  parts-by-answered = tested (ltb inputLimit (length s)) (not (wellFormed s))
+pub parts-by-answered : (set : Settings) (ns : List Node) (t s : List ℕ) → Answered (fieldsBy ns t s) (partsBy set ns t s)
+unfolding partsBy
+parts-by-answered set ns t s =
+    by-if (Answered (fieldsBy ns t s)) (ltb (inputLimit set) (length s)) _ _ (λ e. numbered TooLong) (λ e. read-answered ns t s)
 
 -- by a template
-module _ (t s : List ℕ) where
-  pub answered : Answered (fieldsOf t s) (partsOf t s)
+module _ (set : Settings) (t s : List ℕ) where
+  pub answered : Answered (fieldsOf t s) (partsOf set t s)
   unfolding partsOf
-  answered = tested (nodesOf t) t s (ltb templateLimit (length t) || ltb inputLimit (length s)) (not (wellFormed t && wellFormed s))
+  answered =
+      let P = Answered (fieldsOf t s) in
+      by-if P (ltb (templateLimit set) (length t) || ltb (inputLimit set) (length s)) _ _ (λ e. numbered TooLong)
+      (λ e. by-if P (not (wellFormed t)) _ _ (λ e. numbered NotUtf8) (λ e. read-answered (nodesOf t) t s))
 
-  pub parts-in-range : {p : Parts} → partsOf t s ≡ Moment p → InRange (fieldsOf t s) p
+  pub parts-in-range : {p : Parts} → partsOf set t s ≡ Moment p → InRange (fieldsOf t s) p
   parts-in-range e = subst (Answered (fieldsOf t s)) e answered

@@ -9,10 +9,11 @@ use Rattle.moment_date.specs.Dates.{date-computes}
 use Rattle.moment_time.specs.Time.{time-computes}
 use Rattle.read_input.specs.Examples.{reading-computes}
 use Rattle.base_notation.specs.Text.{utf8}
+use Rattle.base_settings.specs.Limits.{limits-compute, pages}
 use Rattle.base_refusals.specs.Report.{reportOf}
 use Rattle.base_refusals.specs.declared.Report.{Report}
 use Rattle.base_chars.specs.Utf8.{sequence, wellFormedAfter}
-use Rattle.moment_parts.specs.Parts.{checkedMoment, momentOf, partsOf}
+use Rattle.moment_parts.specs.Parts.{checkedMoment, momentOf, partsOf, partsRead}
 use Rattle.moment_parts.specs.Patterns.{patternName}
 use Rattle.moment_parts.specs.declared.Answer.{Answer}
 use Rattle.moment_parts.specs.declared.Answer.the-variants.{Moment, Refused}
@@ -33,9 +34,9 @@ abbrev pub shown : Answer → Shown
 shown (Moment p) = accepted p
 shown (Refused why) = reported (reportOf why)
 
--- what users see for a template and an input
+-- what users of the exercise pages see for a template and an input
 abbrev pub reads : String → String → Shown
-reads t s = shown (partsOf (utf8 t) (utf8 s))
+reads t s = shown (partsOf pages (utf8 t) (utf8 s))
 
 -- a moment by its year, month, day, hour, microseconds and offset; minute, second and precision are 0
 abbrev pub moment : ℕ → ℕ → ℕ → ℕ → ℕ → Offset → Shown
@@ -74,5 +75,5 @@ Table =
     × (reads "\"ngày\"DD" "ngày05" ≡ refusal 7 "DD" 0 0)
 
 pub table : Table
-unfolding partsOf momentOf checkedMoment reportOf patternName wellFormedAfter sequence reading-computes time-computes date-computes
+unfolding partsOf partsRead limits-compute momentOf checkedMoment reportOf patternName wellFormedAfter sequence reading-computes time-computes date-computes
 table = (refl, refl, refl, refl, refl, refl, refl, refl, refl, refl, refl, refl, refl, refl, refl, refl, refl, refl)

@@ -1,11 +1,13 @@
 -- The parts answer: limits and UTF-8 first, then the fields that are read, then the moment that they make.
-use mathlib.Core.Bool.{Bool, true, false, not, _&&_, _||_}
+use mathlib.Core.Bool.{Bool, true, false, not, _||_}
 use mathlib.Core.List.{List, []}
 use Prim.Native.Nat.{ℕ}
 use lib.Dec.{ltb}
 use lib.IntN.{ℤ, pos}
 use lib.ListN.{length}
 use Rattle.base_notation.specs.Choice.{if_then_else_}
+use Rattle.base_settings.specs.Limits.{templateLimit, inputLimit}
+use Rattle.base_settings.specs.declared.Settings.{Settings}
 use Rattle.base_refusals.specs.declared.Refusal.{Refusal}
 use Rattle.base_refusals.specs.declared.Refusal.the-variants.{TooLong, NotUtf8, FieldOverflow}
 use Rattle.base_chars.specs.Utf8.{wellFormed}
@@ -29,13 +31,6 @@ use Rattle.moment_sums.specs.declared.Value.{Value}
 use Rattle.moment_sums.specs.declared.Value.the-variants.{Is, Not}
 use Rattle.moment_time.specs.declared.Zoned.{Zoned}
 use Rattle.moment_time.specs.declared.Zoned.the-variants.{At, Refused as NoZone}
-
--- the limits, in bytes
-abbrev pub templateLimit : ℕ
-templateLimit = 256
-
-abbrev pub inputLimit : ℕ
-inputLimit = 512
 
 -- the moment with its offset
 abbrev pub withOffset : Fields → Days → ℤ → ℤ → Zoned → Answer
@@ -81,18 +76,19 @@ abbrev pub thenFields : Verdict → Fields → Answer
 thenFields Done f = momentOf f
 thenFields (Stopped why) f = Refused why
 
--- the parts of an input by the nodes of a template t
-unfoldable pub partsBy : List Node → List ℕ → List ℕ → Answer
-partsBy ns t s =
+-- the parts of an input within its limit, by the nodes of a template t
+unfoldable pub partsRead : List Node → List ℕ → List ℕ → Answer
+partsRead ns t s =
     let r = readAll t s ns in
-    if ltb inputLimit (length s) then Refused TooLong
-    else if not (wellFormed s) then Refused NotUtf8
-    else thenFields (r .verdict) (r .fields)
+    if not (wellFormed s) then Refused NotUtf8 else thenFields (r .verdict) (r .fields)
+
+-- the parts of an input by these nodes, for a caller with settings
+unfoldable pub partsBy : Settings → List Node → List ℕ → List ℕ → Answer
+partsBy set ns t s = if ltb (inputLimit set) (length s) then Refused TooLong else partsRead ns t s
 
 -- the parts of an input by a template
-unfoldable pub partsOf : List ℕ → List ℕ → Answer
-partsOf t s =
-    let r = readAll t s (nodesOf t) in
-    if ltb templateLimit (length t) || ltb inputLimit (length s) then Refused TooLong
-    else if not (wellFormed t && wellFormed s) then Refused NotUtf8
-    else thenFields (r .verdict) (r .fields)
+unfoldable pub partsOf : Settings → List ℕ → List ℕ → Answer
+partsOf set t s =
+    if ltb (templateLimit set) (length t) || ltb (inputLimit set) (length s) then Refused TooLong
+    else if not (wellFormed t) then Refused NotUtf8
+    else partsRead (nodesOf t) t s

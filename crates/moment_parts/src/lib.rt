@@ -3,8 +3,9 @@ ghost use mathlib.Core.Path.{_≡_};
 ghost use Prim.Native.Nat.{_≤_};
 ghost use lib.ListN.{length};
 ghost use Rattle.template_nodes.specs.Bytes.{nodesIn};
-ghost use Rattle.moment_parts.specs.Parts.{checkedMoment, momentOf, partsBy, partsOf, thenFields};
+ghost use Rattle.moment_parts.specs.Parts.{checkedMoment, momentOf, partsBy, partsOf, partsRead, thenFields};
 use base_refusals::Refusal;
+use base_settings::Settings;
 use moment_date::Dated;
 use moment_date::Days;
 use moment_date::date_in_range;
@@ -87,11 +88,6 @@ pub fn moment_of(f: Fields) -> Answer
     }
 }
 
-// The limits, in bytes.
-pub const TEMPLATE_LIMIT: usize = 256;
-
-pub const INPUT_LIMIT: usize = 512;
-
 // The answer once the fields are read.
 fn answered(r: Reading) -> Answer
     ensures { λ a. ⌜ a ≡ thenFields (r .verdict) (r .fields) ⌝ }
@@ -107,7 +103,7 @@ fn answered(r: Reading) -> Answer
 // The parts of an input within its limit.
 fn parts_within(c: &[u8], t: &[u8], s: &[u8]) -> Answer
     requires { ⌜ length (now s) ≤ 512 ⌝ }
-    ensures { λ a. ⌜ a ≡ partsBy (nodesIn (now (c .entry))) (now (t .entry)) (now (s .entry)) ⌝ }
+    ensures { λ a. ⌜ a ≡ partsRead (nodesIn (now (c .entry))) (now (t .entry)) (now (s .entry)) ⌝ }
 {
     if !base_chars::is_utf8(s) {
         return Answer::Refused(Refusal::NotUtf8);
@@ -116,23 +112,24 @@ fn parts_within(c: &[u8], t: &[u8], s: &[u8]) -> Answer
 }
 
 // The parts of an input by the nodes that any bytes hold. t is the template that they were made from.
-pub fn parts_by(c: &[u8], t: &[u8], s: &[u8]) -> Answer
-    ensures { λ a. ⌜ a ≡ partsBy (nodesIn (now (c .entry))) (now (t .entry)) (now (s .entry)) ⌝ }
+pub fn parts_by(set: Settings, c: &[u8], t: &[u8], s: &[u8]) -> Answer
+    ensures { λ a. ⌜ a ≡ partsBy set (nodesIn (now (c .entry))) (now (t .entry)) (now (s .entry)) ⌝ }
 {
-    if INPUT_LIMIT < s.len() {
+    let limit = base_settings::input_limit(set);
+    if limit < s.len() {
         return Answer::Refused(Refusal::TooLong);
     }
     parts_within(c, t, s)
 }
 
 // The parts of an input by a template.
-pub fn to_timestamp_parts(t: &[u8], s: &[u8]) -> Answer
-    ensures { λ a. ⌜ a ≡ partsOf (now (t .entry)) (now (s .entry)) ⌝ }
+pub fn to_timestamp_parts(set: Settings, t: &[u8], s: &[u8]) -> Answer
+    ensures { λ a. ⌜ a ≡ partsOf set (now (t .entry)) (now (s .entry)) ⌝ }
 {
-    if TEMPLATE_LIMIT < t.len() {
+    if base_settings::template_limit(set) < t.len() {
         return Answer::Refused(Refusal::TooLong);
     }
-    if INPUT_LIMIT < s.len() {
+    if base_settings::input_limit(set) < s.len() {
         return Answer::Refused(Refusal::TooLong);
     }
     if !base_chars::is_utf8(t) {

@@ -3,6 +3,7 @@
 use mathlib.Core.Path.{_≡_, ap, subst, sym}
 use mathlib.Core.List.{List}
 use Prim.Native.Nat.{ℕ}
+use Rattle.base_settings.specs.declared.Settings.{Settings}
 use Rattle.read_words.proofs.FoldOnce.{fold-once}
 use Rattle.template_nodes.proofs.Cover.{covered}
 use Rattle.moment_parts.proofs.Ranges.{answered, parts-by-answered}
@@ -25,7 +26,9 @@ use Rattle.write_text.specs.declared.Unwritten.{Unwritten}
 use Rattle.write_text.specs.declared.Written.{Written}
 use Rattle.write_text.specs.declared.Written.the-variants.{Refused}
 use Rattle.sorbilgan_records.proofs.Ranges.{parts-recorded, template-recorded, instant-recorded, day-recorded}
+use Rattle.readback.specs.ReadBack.{six-needed}
 use Rattle.readback.proofs.ReadBack.{every-back}
+use Rattle.sorbilgan.proofs.Callers.{cards-and-pages, within-both}
 use Rattle.sorbilgan.proofs.Once.{compile-once}
 use Rattle.moment_parts.proofs.to_timestamp_parts.Met as ToTimestampParts
 use Rattle.moment_parts.proofs.parts_by.Met as PartsBy
@@ -36,6 +39,15 @@ use Rattle.moment_instants.proofs.day_by.Met as DayBy
 use Rattle.write_text.proofs.write.Met as Write
 use Rattle.write_text.proofs.write_by.Met as WriteBy
 use Rattle.readback.proofs.write_and_read.Met as WriteAndRead
+use Rattle.sorbilgan.proofs.sorbilgan_parts_with.Met as SorbilganPartsWith
+use Rattle.sorbilgan.proofs.sorbilgan_parts_by_with.Met as SorbilganPartsByWith
+use Rattle.sorbilgan.proofs.sorbilgan_instant_with.Met as SorbilganInstantWith
+use Rattle.sorbilgan.proofs.sorbilgan_instant_by_with.Met as SorbilganInstantByWith
+use Rattle.sorbilgan.proofs.sorbilgan_date_with.Met as SorbilganDateWith
+use Rattle.sorbilgan.proofs.sorbilgan_date_by_with.Met as SorbilganDateByWith
+use Rattle.sorbilgan.proofs.sorbilgan_write_with.Met as SorbilganWriteWith
+use Rattle.sorbilgan.proofs.sorbilgan_write_by_with.Met as SorbilganWriteByWith
+use Rattle.sorbilgan.proofs.sorbilgan_compile_with.Met as SorbilganCompileWith
 use Rattle.sorbilgan.proofs.sorbilgan_parts.Met as SorbilganParts
 use Rattle.sorbilgan.proofs.sorbilgan_parts_by.Met as SorbilganPartsBy
 use Rattle.sorbilgan.proofs.sorbilgan_instant.Met as SorbilganInstant
@@ -68,15 +80,15 @@ every-answer =
       instant-record = instant-recorded;
       day-record = day-recorded;
       names-by = named-own;
-      instant-names-by = λ ns t s e. instant-own t s ns e;
-      day-names-by = λ ns t s e. day-own t s ns e;
-      text-names-by = λ c t m room e. written-in-own t m room c e;
+      instant-names-by = λ set ns t s e. instant-own set t s ns e;
+      day-names-by = λ set ns t s e. day-own set t s ns e;
+      text-names-by = λ set c t m room e. written-in-own set t m room c e;
       names = named-in-template;
-      instant-names = λ t s e. timestamp-own t s e;
-      day-names = λ t s e. date-own t s e;
-      text-names = λ t m room e. written-own t m room e;
-      buffer = λ t m before e. left _ before e;
-      buffer-by = λ c t m before e. left _ before e;
+      instant-names = λ set t s e. timestamp-own set t s e;
+      day-names = λ set t s e. date-own set t s e;
+      text-names = λ set t m room e. written-own set t m room e;
+      buffer = λ set t m before e. left _ before e;
+      buffer-by = λ set c t m before e. left _ before e;
     }
 
 pub every-equation : EveryEquation
@@ -90,6 +102,15 @@ every-equation =
       day-by = DayBy.met;
       write = Write.met;
       write-by = WriteBy.met;
+      sorbilgan-parts-with = SorbilganPartsWith.met;
+      sorbilgan-parts-by-with = SorbilganPartsByWith.met;
+      sorbilgan-instant-with = SorbilganInstantWith.met;
+      sorbilgan-instant-by-with = SorbilganInstantByWith.met;
+      sorbilgan-date-with = SorbilganDateWith.met;
+      sorbilgan-date-by-with = SorbilganDateByWith.met;
+      sorbilgan-write-with = SorbilganWriteWith.met;
+      sorbilgan-write-by-with = SorbilganWriteByWith.met;
+      sorbilgan-compile-with = SorbilganCompileWith.met;
       sorbilgan-parts = SorbilganParts.met;
       sorbilgan-parts-by = SorbilganPartsBy.met;
       sorbilgan-instant = SorbilganInstant.met;
@@ -106,17 +127,18 @@ every-equation =
       table = table;
     }
 
-pub right-and-safe : (t s : List ℕ) (r : Readings) → r .parts ≡ partsOf t s → r .instant ≡ timestampOf t s → r .day ≡ dateOf t s → RightAndSafe t s r
+pub right-and-safe : (set : Settings) (t s : List ℕ) (r : Readings) → r .parts ≡ partsOf set t s → r .instant ≡ timestampOf set t s → r .day ≡ dateOf set t s
+    → RightAndSafe set t s r
 unfolding timestampOf dateOf
-right-and-safe t s r p i d =
+right-and-safe set t s r p i d =
     record {
       parts = p;
       instant = i;
       day = d;
-      parts-safe = subst (Answered (fieldsOf t s)) (sym p) (answered t s);
-      instant-safe = subst InstantAnswered (sym i) (instant-answered (partsOf t s));
-      day-safe = subst DayAnswered (sym d) (day-answered (partsOf t s));
-      names = subst (NamesOwn (nodesOf t)) (sym p) (named-in-template t s);
+      parts-safe = subst (Answered (fieldsOf t s)) (sym p) (answered set t s);
+      instant-safe = subst InstantAnswered (sym i) (instant-answered (partsOf set t s));
+      day-safe = subst DayAnswered (sym d) (day-answered (partsOf set t s));
+      names = subst (NamesOwn (nodesOf t)) (sym p) (named-in-template set t s);
     }
 
 pub every-moment : EveryMoment
@@ -126,7 +148,15 @@ pub every-template : EveryTemplate
 every-template = record { covered = covered; once = compile-once }
 
 pub every-request : EveryRequest
-every-request = record { own-case = own-case; fold-once = fold-once; by-name = by-name }
+every-request =
+    record {
+      own-case = own-case;
+      fold-once = fold-once;
+      by-name = by-name;
+      within-both = within-both;
+      cards-and-pages = cards-and-pages;
+      six-needed = six-needed;
+    }
 
 pub kept : Promises
 kept =

@@ -32,7 +32,7 @@ use Rattle.write_pieces.specs.Moment.{moment}
 use Rattle.readback.proofs.MomentFacts.{IsMoment}
 use Rattle.write_pieces.specs.Pieces.{widthOf, numberOf, pieceOf}
 use Rattle.write_pieces.specs.declared.Moment.{Moment}
-use Rattle.readback.proofs.Settings.{settings, filledBy}
+use Rattle.readback.proofs.FieldSettings.{settings, filledBy}
 use Rattle.readback.proofs.Ahead.{ink-spaces}
 use Rattle.readback.proofs.Known.{taskFor, modeFor}
 use Rattle.readback.proofs.Literals.{Left, left-past}

@@ -8,6 +8,7 @@ use Prim.Native.Nat.{ℕ, _≤_}
 use native.Mathlib.Omega.{arith}
 use lib.ListN.{length, take, drop, length-append}
 use lib.Seq.{take-append-seam}
+use Rattle.base_settings.specs.declared.Settings.{Settings}
 use Rattle.write_text.specs.Text.{textOf}
 use Rattle.write_text.specs.Writer.{Wrote, bufferAfter, writtenTo}
 use Rattle.write_pieces.specs.declared.Moment.{Moment}
@@ -20,22 +21,22 @@ use Rattle.readback.specs.declared.Again.{Again}
 use Rattle.readback.specs.declared.Again.the-variants.{NotWritten}
 use Rattle.readback.proofs.ReadBack.{every-back}
 
-module _ (t : List ℕ) (m : Moment) {before after : List ℕ} where
+module _ (set : Settings) (t : List ℕ) (m : Moment) {before after : List ℕ} where
   -- the whole promise follows from the answer and the buffer
-  promised : (r : Again) → r ≡ againOf t m (length before) → after ≡ bufferAfter (writtenTo t m (length before)) (textOf t m) before
-      → WroteAndRead t m before after r
+  promised : (r : Again) → r ≡ againOf set t m (length before) → after ≡ bufferAfter (writtenTo set t m (length before)) (textOf t m) before
+      → WroteAndRead set t m before after r
   unfolding againOf
   promised r answer buffer = record {
     is = answer;
     buffer = buffer;
-    back = λ full is enough.
-        let back = every-back t m full is in
+    back = λ apart full is enough.
+        let back = every-back set apart t m full is in
         let written = back .written before enough in
         (answer ∙ rw (written .0, back .read .parts, back .read .instant, back .read .day), buffer ∙ written .1, back);
   }
 
-  module _ {w : Written} (wrote : Wrote t m before after w) where
-    pub not-written : {why : Unwritten} → w ≡ Refused why → WroteAndRead t m before after (NotWritten why)
+  module _ {w : Written} (wrote : Wrote set t m before after w) where
+    pub not-written : {why : Unwritten} → w ≡ Refused why → WroteAndRead set t m before after (NotWritten why)
     unfolding againOf
     not-written {why} refused =
         let as-defined = sym (wrote .is) ∙ refused in
@@ -43,7 +44,7 @@ module _ (t : List ℕ) (m : Moment) {before after : List ℕ} where
 
     module _ {n : ℕ} (written : w ≡ Length n) where
       known : n ≡ length (textOf t m)
-      known = to-measured (length before) t m n (sym (wrote .is) ∙ written) .0
+      known = to-measured (length before) set t m n (sym (wrote .is) ∙ written) .0
 
       after-is : after ≡ textOf t m ++ drop n before
       after-is = wrote .buffer ∙ rw written
@@ -55,7 +56,7 @@ module _ (t : List ℕ) (m : Moment) {before after : List ℕ} where
       pub room : n ≤ length after
       room = rw after-is (omega (arith, known, length-append (textOf t m) (drop n before)))
 
-      pub read : (r : Again) → r ≡ readAgain t (take n after) (Length (length (take n after))) → WroteAndRead t m before after r
+      pub read : (r : Again) → r ≡ readAgain set t (take n after) (Length (length (take n after))) → WroteAndRead set t m before after r
       unfolding againOf
       read r answer =
           let as-defined = sym (wrote .is) ∙ written in

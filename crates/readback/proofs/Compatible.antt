@@ -19,7 +19,7 @@ use Rattle.read_fields.specs.Fields.{mode, get, noFields}
 use Rattle.read_input.specs.Reader.{mixes}
 use Rattle.write_text.specs.Full.{times}
 use Rattle.write_pieces.specs.declared.Moment.{Moment}
-use Rattle.readback.proofs.Settings.{Kept, always, own, Setting, settings, valueOf, filledBy, expected}
+use Rattle.readback.proofs.FieldSettings.{Kept, always, own, Setting, settings, valueOf, filledBy, expected}
 use Rattle.readback.proofs.Filled.{has, among, inPairs, other, held, one-more}
 use Rattle.readback.proofs.Known.{taskFor, modeFor}
 

@@ -20,7 +20,7 @@ use Rattle.read_fields.specs.Fields.{get, put}
 use Rattle.read_fields.specs.declared.Fields.{Fields}
 use Rattle.write_text.specs.Full.{times}
 use Rattle.write_pieces.specs.declared.Moment.{Moment}
-use Rattle.readback.proofs.Settings.{Kept, always, own, Setting, valueOf, filledBy}
+use Rattle.readback.proofs.FieldSettings.{Kept, always, own, Setting, valueOf, filledBy}
 
 -- the piece q occurs
 abbrev pub has : List ℕ → ℕ → Bool

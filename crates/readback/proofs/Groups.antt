@@ -18,7 +18,7 @@ use Rattle.template_nodes.specs.declared.Node.{Node}
 use Rattle.write_text.specs.Full.{pieces, dateGroups, timeGroups, times, sameFrom, same, anyOf, areFull}
 use Rattle.write_pieces.specs.Pieces.{micros, pieceOf}
 use Rattle.write_pieces.specs.declared.Moment.{Moment}
-use Rattle.readback.proofs.Settings.{expected}
+use Rattle.readback.proofs.FieldSettings.{expected}
 use Rattle.readback.proofs.Filled.{order-free}
 use Rattle.readback.proofs.Sound.{Sound, a-literal, a-pattern, AllSound, pieces-literal, pieces-pattern}
 

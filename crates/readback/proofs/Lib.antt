@@ -6,7 +6,7 @@ pub mod Boundaries
 -- the nodes of a well-formed template are whole characters and patterns of the table
 pub mod Nodes
 -- which fields each piece sets, and to what
-pub mod Settings
+pub mod FieldSettings
 -- settings may be put in any order
 pub mod Filled
 -- what reading does at each pattern that the writer knows

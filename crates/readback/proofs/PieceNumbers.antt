@@ -1,7 +1,8 @@
 -- The number of each piece. Assumes nothing.
 -- `number-small`: it fits the width of its piece, and 32 bits.
--- `number-kept`: what is kept of it in its field is the piece's own number, as Settings has it.
--- `number-stored`: with it in the field, and what else reading a number notes, the fields are as Settings has them.
+-- `number-kept`: what is kept of it in its field is the piece's own number, as FieldSettings has it.
+-- `number-stored`: with it in the field, and what else reading a number notes, the fields are as FieldSettings has
+-- them.
 -- `word-kept`, `word-stored`: the same of a word, by its index in its list.
 use mathlib.Core.Path.{_≡_, _∙_, refl, ap}
 use mathlib.Core.Bool.{Bool, true, false}
@@ -27,7 +28,7 @@ use Rattle.write_pieces.specs.Moment.{moment}
 use Rattle.readback.proofs.MomentFacts.{IsMoment}
 use Rattle.write_pieces.specs.Pieces.{widthOf, numberOf, isMorning}
 use Rattle.write_pieces.specs.declared.Moment.{Moment}
-use Rattle.readback.proofs.Settings.{settings, ownOf, filledBy}
+use Rattle.readback.proofs.FieldSettings.{settings, ownOf, filledBy}
 use Rattle.readback.proofs.Known.{taskFor, modeFor, indexFor}
 
 module _ {y mo d h mi s us : ℕ} (is : IsMoment y mo d h mi s us) where

@@ -1,11 +1,12 @@
 -- The theorem of reading back, `every-back`: for every full template and every moment the text is written, no other
--- moment has it, and it is read as the moment. Assumes nothing. Two halves, joined here:
+-- moment has it, and it is read as the moment, by every caller whose limits are six bytes apart. Assumes nothing. Two
+-- halves, joined here:
 -- 1. Reading the text sets exactly what the template's pieces set: `text-is-read`, `fields-read` in ReadText.
 --    A template is whole characters and known patterns (Boundaries, Nodes, Known, Sound), and the text spells them
---    (Words, Texts, Spells). A pattern, read at what spells its piece, sets the fields of the piece (Settings, Numbers,
---    PieceNumbers, Actions). A reader may be ahead by spaces and separators, and literals let it (Ahead, Literals). The
---    pieces are those of a date group, a time group and US (Groups), and can be read in any order (Filled, Compatible).
---    So, by induction on the nodes, any input that spells them is read (Simulation).
+--    (Words, Texts, Spells). A pattern, read at what spells its piece, sets the fields of the piece (FieldSettings,
+--    Numbers, PieceNumbers, Actions). A reader may be ahead by spaces and separators, and literals let it (Ahead,
+--    Literals). The pieces are those of a date group, a time group and US (Groups), and can be read in any order
+--    (Filled, Compatible). So, by induction on the nodes, any input that spells them is read (Simulation).
 -- 2. Fields that are set so are read as the moment: `moment-read` in MomentRead. They make the date (GroupFields,
 --    FieldSteps, DateGroups) and the time (TimeGroups).
 use mathlib.Core.Path.{_≡_, refl, sym, _∙_, ap}
@@ -16,11 +17,13 @@ use native.Mathlib.Omega.{arith}
 use borrow.Author.Tests.{le-ltb}
 use lib.IntN.{natAbs}
 use lib.ListN.{length}
+use Rattle.base_settings.specs.Limits.{templateLimit, inputLimit}
+use Rattle.base_settings.specs.declared.Settings.{Settings}
 use Rattle.readback.proofs.GroupFields.{by-month, by-day, by-week, of-24, of-12, by-second}
 use Rattle.readback.proofs.MomentRead.{moment-read}
 use Rattle.moment_instants.specs.ByTemplate.{timestampOf, dateOf}
 use Rattle.moment_instants.proofs.Plain.{plainParts, instant-is, day-is}
-use Rattle.moment_parts.specs.Parts.{momentOf, partsOf, inputLimit}
+use Rattle.moment_parts.specs.Parts.{momentOf, partsOf, partsRead}
 use Rattle.moment_parts.specs.declared.Answer.{Answer}
 use Rattle.moment_parts.specs.declared.Answer.the-variants.{Moment as Accepted, Refused}
 use Rattle.write_text.specs.Full.{times, isFull}
@@ -32,10 +35,10 @@ use Rattle.write_text.specs.Writer.{writtenTo}
 use Rattle.write_pieces.specs.declared.Moment.{Moment}
 use Rattle.write_text.specs.declared.Written.the-variants.{Length}
 use Rattle.write_pieces.proofs.Moments.{Numbers, numbers}
-use Rattle.readback.specs.ReadBack.{ReadAs, EveryBack}
-use Rattle.readback.proofs.Settings.{ownOf, filledBy, expected}
+use Rattle.readback.specs.ReadBack.{ReadAs, ReadsBack, EveryBack}
+use Rattle.readback.proofs.FieldSettings.{ownOf, filledBy, expected}
 use Rattle.readback.proofs.Groups.{EachFull}
-use Rattle.readback.proofs.ReadText.{full-is, text-is-utf8, text-within, text-is-read, fields-read}
+use Rattle.readback.proofs.ReadText.{full-is, text-is-utf8, text-longer, text-is-read, fields-read}
 
 -- the numbers of a moment in its ranges, as natural numbers
 is-moment : {m : Moment} → Numbers m
@@ -97,26 +100,30 @@ each-read is = (
   ),
 )
 
-module _ (t : List ℕ) (full : isFull t ≡ true) where
+module _ (set : Settings) (apart : ReadsBack set) (t : List ℕ) (full : isFull set t ≡ true) where
+  -- a text that is at most six bytes longer than the template is within the limit of an input
+  within : {n : ℕ} → n ≤ length t + 6 → n ≤ inputLimit set
+  within h = omega (arith, full-is set t full .short)
+
   module _ {y mo d h mi s us : ℕ} (is : IsMoment y mo d h mi s us) where
     abbrev now : Moment
     now = moment y mo d h mi s us
 
     -- the parts answer accepts the text with the seven numbers and no offset
-    text-parts : partsOf t (textOf t now) ≡ Accepted (plainParts y mo d h mi s us)
-    unfolding partsOf
+    text-parts : partsOf set t (textOf t now) ≡ Accepted (plainParts y mo d h mi s us)
+    unfolding partsOf partsRead
     text-parts =
         rw (
-          le-ltb 256 (length t) (full-is t full .short),
-          le-ltb inputLimit (length (textOf t now)) (text-within t full is .1),
-          full-is t full .text,
-          text-is-utf8 t full is,
-          text-is-read t full is .verdict,
+          le-ltb (templateLimit set) (length t) (full-is set t full .short),
+          le-ltb (inputLimit set) (length (textOf t now)) (within (text-longer set t full is)),
+          full-is set t full .text,
+          text-is-utf8 set t full is,
+          text-is-read set t full is .verdict,
         )
-        (fields-read t full is (λ f. momentOf f ≡ Accepted (plainParts y mo d h mi s us)) (each-read is))
+        (fields-read set t full is (λ f. momentOf f ≡ Accepted (plainParts y mo d h mi s us)) (each-read is))
 
     -- and so do the other two answers
-    text-read : ReadAs t (textOf t now) now
+    text-read : ReadAs set t (textOf t now) now
     unfolding timestampOf dateOf
     text-read = record {
       parts = text-parts;
@@ -129,20 +136,20 @@ module _ (t : List ℕ) (full : isFull t ≡ true) where
     n : Numbers m
     n = numbers m is
 
-    read-back : ReadAs t (textOf t m) m
+    read-back : ReadAs set t (textOf t m) m
     read-back = rw (plain m n) (text-read (is-moment n))
 
-    length-within : (length (textOf t m) ≤ length t + 6) × (length (textOf t m) ≤ inputLimit)
-    length-within = rw (plain m n) (text-within t full (is-moment n))
+    longer : length (textOf t m) ≤ length t + 6
+    longer = rw (plain m n) (text-longer set t full (is-moment n))
 
     -- a buffer of that length is enough
-    all-written : (room : ℕ) → length (textOf t m) ≤ room → writtenTo t m room ≡ Length (length (textOf t m))
+    all-written : (room : ℕ) → length (textOf t m) ≤ room → writtenTo set t m room ≡ Length (length (textOf t m))
     unfolding writtenTo
     all-written room h =
         rw (
-          le-ltb 256 (length t) (full-is t full .short),
-          full-is t full .text,
-          full-is t full .known,
+          le-ltb (templateLimit set) (length t) (full-is set t full .short),
+          full-is set t full .text,
+          full-is set t full .known,
           is,
           le-ltb room (length (textOf t m)) h,
         )
@@ -162,15 +169,15 @@ momentIn (Refused why) other = other
 
 -- reading back: two moments with the same text are the same, since each is what the text is read as
 pub every-back : EveryBack
-every-back t m full is = record {
-  written = λ before h. rw (all-written t full m is (length before) h) (refl, refl);
-  longer = length-within t full m is .0;
-  within = length-within t full m is .1;
+every-back set apart t m full is = record {
+  written = λ before h. rw (all-written set apart t full m is (length before) h) (refl, refl);
+  longer = longer set apart t full m is;
+  within = within set apart t full (longer set apart t full m is);
   same = λ n other. (
     λ same-text.
         ap (λ a. momentIn a m)
-        (sym (read-back t full m is .parts) ∙ ap (partsOf t) same-text ∙ read-back t full n other .parts),
+        (sym (read-back set apart t full m is .parts) ∙ ap (partsOf set t) same-text ∙ read-back set apart t full n other .parts),
     λ same-moment. ap (textOf t) same-moment,
   );
-  read = read-back t full m is;
+  read = read-back set apart t full m is;
 }

@@ -1,7 +1,6 @@
 -- Reading back, first half: the text of a moment by a full template, and what reading it sets. Assumes nothing.
 -- `full-is`: what the test of a full template says (`Full`).
--- `text-is-utf8`, `text-within`: the text is UTF-8, at most six bytes longer than the template, and within the limit of
--- an input.
+-- `text-is-utf8`, `text-longer`: the text is UTF-8, and at most six bytes longer than the template.
 -- `text-is-read`: reading it by the template accepts it, and sets exactly what the template's pieces set.
 -- `fields-read`: what holds of what each date group sets with each time group and US holds of the fields that are read.
 use mathlib.Core.Path.{_≡_, refl}
@@ -13,8 +12,9 @@ use borrow.Author.Tests.{eqb-true, leb-true}
 use lib.Dec.{eqb, leb}
 use lib.ListN.{length}
 use Rattle.base_notation.proofs.Cases.{both}
+use Rattle.base_settings.specs.Limits.{templateLimit}
+use Rattle.base_settings.specs.declared.Settings.{Settings}
 use Rattle.base_chars.specs.Utf8.{wellFormed}
-use Rattle.moment_parts.specs.Parts.{templateLimit, inputLimit}
 use Rattle.read_fields.specs.Fields.{noFields}
 use Rattle.read_input.specs.Reader.{readAll}
 use Rattle.read_fields.specs.declared.Fields.{Fields}
@@ -26,7 +26,7 @@ use Rattle.write_pieces.specs.Pieces.{micros, monthName}
 use Rattle.write_text.specs.Text.{nodesText, textOf}
 use Rattle.write_text.specs.Writer.{allWritten, firstUnwritten}
 use Rattle.write_pieces.specs.declared.Moment.{Moment}
-use Rattle.readback.proofs.Settings.{filledBy, expected}
+use Rattle.readback.proofs.FieldSettings.{filledBy, expected}
 use Rattle.readback.proofs.Compatible.{together}
 use Rattle.readback.proofs.Groups.{EachFull, Grouped, grouped, pieces-below, expected-same}
 use Rattle.readback.proofs.Nodes.{good-nodes}
@@ -49,23 +49,23 @@ none-expected : (m : Moment) → expected [] m ≡ noFields
 unfolding expected filledBy times
 none-expected m = refl
 
-pub record Full (t : List ℕ) : Type 0 where
-  pub short : length t ≤ templateLimit
+pub record Full (set : Settings) (t : List ℕ) : Type 0 where
+  pub short : length t ≤ templateLimit set
   pub text : wellFormed t ≡ true
   pub known : firstUnwritten (nodesOf t) ≡ allWritten
   pub full : areFull (pieces (nodesOf t)) ≡ true
 
-pub full-is : (t : List ℕ) → isFull t ≡ true → Full t
+pub full-is : (set : Settings) (t : List ℕ) → isFull set t ≡ true → Full set t
 unfolding isFull
-full-is t e =
-    let short = both (leb (length t) templateLimit) _ e in
+full-is set t e =
+    let short = both (leb (length t) (templateLimit set)) _ e in
     let text = both (wellFormed t) _ (short .1) in
     let known = both (eqb (firstUnwritten (nodesOf t)) allWritten) _ (text .1) in
     record { short = leb-true _ _ (short .0); text = text .0; known = eqb-true _ _ (known .0); full = known .1 }
 
-module _ (t : List ℕ) (is-full : isFull t ≡ true) where
-  checks : Full t
-  checks = full-is t is-full
+module _ (set : Settings) (t : List ℕ) (is-full : isFull set t ≡ true) where
+  checks : Full set t
+  checks = full-is set t is-full
 
   sound : AllSound t (nodesOf t)
   sound = sound-nodes t (nodesOf t) (good-nodes t (checks .text) .0) (checks .known)
@@ -88,13 +88,12 @@ module _ (t : List ℕ) (is-full : isFull t ≡ true) where
     unfolding textOf
     text-is-utf8 = spelled-utf8 t is (nodesOf t) (nodesText t now (nodesOf t)) spelled
 
-    -- it is at most six bytes longer than the template, and so within the limit of an input
-    pub text-within : (length (textOf t now) ≤ length t + 6) × (length (textOf t now) ≤ inputLimit)
+    pub text-longer : length (textOf t now) ≤ length t + 6
     unfolding textOf
-    text-within =
+    text-longer =
         let longer = spelled-length t is (nodesOf t) (nodesText t now (nodesOf t)) spelled in
         let most = leb-true (extra (groups .all)) 6 (goes .1) in
-        omega (arith, longer, most, good-nodes t (checks .text) .1, groups .as-often micros, groups .as-often monthName, checks .short)
+        omega (arith, longer, most, good-nodes t (checks .text) .1, groups .as-often micros, groups .as-often monthName)
 
     -- what the template's pieces set is what its groups set
     by-groups : expected (pieces (nodesOf t)) now ≡ expected (groups .all) now

@@ -27,7 +27,7 @@ use Rattle.write_pieces.specs.Moment.{moment}
 use Rattle.readback.proofs.MomentFacts.{IsMoment}
 use Rattle.write_pieces.specs.Pieces.{pieceOf}
 use Rattle.write_pieces.specs.declared.Moment.{Moment}
-use Rattle.readback.proofs.Settings.{expected}
+use Rattle.readback.proofs.FieldSettings.{expected}
 use Rattle.readback.proofs.Actions.{pattern-step}
 use Rattle.readback.proofs.Ahead.{Ahead, ahead-within, ahead-spaces, ahead-skip, ink-ahead}
 use Rattle.readback.proofs.Compatible.{together, absent, unmixed, stored, fits-next}

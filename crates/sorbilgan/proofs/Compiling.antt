@@ -12,27 +12,29 @@ use lib.ListN.{length}
 use mir.Facts.{toZ-pos}
 use mir.Syntax.{w64}
 use mir.Val.{toZ}
+use Rattle.base_settings.specs.Limits.{templateLimit}
+use Rattle.base_settings.specs.declared.Settings.{Settings}
 use Rattle.base_chars.specs.Utf8.{wellFormed}
 use Rattle.template_nodes.proofs.Encoding.{encoded-length}
 use Rattle.template_nodes.specs.Bytes.{Parsed}
 use Rattle.template_nodes.specs.Template.{nodesOf}
 use Rattle.sorbilgan.specs.Compiled.{CompiledTo, compiledTo}
 
-module _ (t before : List ℕ) where
-  pub long : 256 < length t → CompiledTo t before before (negsuc 0)
+module _ (set : Settings) (t before : List ℕ) where
+  pub long : templateLimit set < length t → CompiledTo set t before before (negsuc 0)
   unfolding compiledTo
-  long h = record { is = rw (lt-ltb 256 (length t) h); buffer = refl }
+  long h = record { is = rw (lt-ltb (templateLimit set) (length t) h); buffer = refl }
 
-  module _ (short : length t ≤ 256) where
-    pub ill-formed : wellFormed t ≡ false → CompiledTo t before before (negsuc 1)
+  module _ (short : length t ≤ templateLimit set) where
+    pub ill-formed : wellFormed t ≡ false → CompiledTo set t before before (negsuc 1)
     unfolding compiledTo
-    ill-formed e = record { is = rw (le-ltb 256 (length t) short, e); buffer = refl }
+    ill-formed e = record { is = rw (le-ltb (templateLimit set) (length t) short, e); buffer = refl }
 
-    pub parsed : wellFormed t ≡ true → {after : List ℕ} {r : ℕ} → Parsed (nodesOf t) before after r → CompiledTo t before after (toZ w64 (6 * r))
+    pub parsed : wellFormed t ≡ true → {after : List ℕ} {r : ℕ} → Parsed (nodesOf t) before after r → CompiledTo set t before after (toZ w64 (6 * r))
     unfolding compiledTo
     parsed e {after} {r} p =
         rw (toZ-pos w64 {n = 6 * r} (omega (arith, p .few)))
         (record {
-          is = rw (le-ltb 256 (length t) short, e, encoded-length (nodesOf t), p .count);
+          is = rw (le-ltb (templateLimit set) (length t) short, e, encoded-length (nodesOf t), p .count);
           buffer = rw (p .count) (p .is);
         })

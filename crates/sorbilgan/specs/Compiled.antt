@@ -5,11 +5,12 @@ use mathlib.Core.List.{List, [], _∷_, _++_}
 use Prim.Native.Nat.{ℕ}
 use lib.Dec.{ltb}
 use lib.IntN.{ℤ, pos, negsuc}
-use lib.ListN.{length, drop}
+use lib.ListN.{length, drop, replicate}
+use Rattle.base_settings.specs.Limits.{cardLimits, limits-compute, pages, templateLimit, withLimits}
+use Rattle.base_settings.specs.declared.Settings.{Settings}
 use Rattle.base_notation.specs.Choice.{if_then_else_}
 use Rattle.base_notation.specs.Text.{utf8}
 use Rattle.base_chars.specs.Utf8.{sequence, wellFormed, wellFormedAfter}
-use Rattle.moment_parts.specs.Parts.{templateLimit}
 use Rattle.template_nodes.specs.Examples.{nodes-compute}
 use Rattle.template_nodes.specs.Bytes.{encoded}
 use Rattle.template_nodes.specs.Template.{action, nodesOf}
@@ -19,9 +20,9 @@ abbrev pub compiled : List ℕ → List ℕ
 compiled t = encoded (nodesOf t)
 
 -- how many they are; -1 for a template over its limit, -2 for one that is not UTF-8
-unfoldable pub compiledTo : List ℕ → ℤ
-compiledTo t =
-    if ltb templateLimit (length t) then negsuc 0
+unfoldable pub compiledTo : Settings → List ℕ → ℤ
+compiledTo set t =
+    if ltb (templateLimit set) (length t) then negsuc 0
     else if not (wellFormed t) then negsuc 1
     else pos (length (compiled t))
 
@@ -31,15 +32,23 @@ nodesAfter (pos n) nodes before = nodes ++ drop n before
 nodesAfter (negsuc n) nodes before = before
 
 -- r is the answer, and `after` the buffer
-pub record CompiledTo (t before after : List ℕ) (r : ℤ) : Type 0 where
-  pub is : r ≡ compiledTo t
+pub record CompiledTo (set : Settings) (t before after : List ℕ) (r : ℤ) : Type 0 where
+  pub is : r ≡ compiledTo set t
   pub buffer : after ≡ nodesAfter r (compiled t) before
 
 -- DD is one node of six bytes, and an empty template has none; 0xff is no UTF-8
 pub worked
     : (compiled (utf8 "DD") ≡ 0 ∷ 0 ∷ 2 ∷ action ∷ 9 ∷ 0 ∷ [])
-    × (compiledTo (utf8 "DD") ≡ pos 6)
-    × (compiledTo [] ≡ pos 0)
-    × (compiledTo (0xff ∷ []) ≡ negsuc 1)
-unfolding compiledTo encoded nodes-compute wellFormedAfter sequence
+    × (compiledTo pages (utf8 "DD") ≡ pos 6)
+    × (compiledTo pages [] ≡ pos 0)
+    × (compiledTo pages (0xff ∷ []) ≡ negsuc 1)
+unfolding compiledTo limits-compute encoded nodes-compute wellFormedAfter sequence
 worked = (refl, refl, refl, refl)
+
+-- 65 bytes are too many for the flash cards, also where they are no UTF-8
+pub limited
+    : (compiledTo (withLimits cardLimits pages) (replicate 64 0xff) ≡ negsuc 1)
+    × (compiledTo (withLimits cardLimits pages) (replicate 65 0xff) ≡ negsuc 0)
+    × (compiledTo pages (replicate 65 0xff) ≡ negsuc 1)
+unfolding compiledTo limits-compute wellFormedAfter sequence
+limited = (refl, refl, refl)

@@ -7,5 +7,7 @@ pub mod Name
 pub mod Writing
 -- the promise that a compiled template answers as the template itself
 pub mod Once
+-- the promise that two callers get equal answers within the limits of both
+pub mod Callers
 -- the version of the functions and records
 pub mod Version

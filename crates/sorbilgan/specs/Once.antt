@@ -4,9 +4,11 @@ use mathlib.Core.Bool.{true}
 use mathlib.Core.List.{List}
 use Prim.Native.Nat.{ℕ, _≤_}
 use lib.ListN.{length}
+use Rattle.base_settings.specs.Limits.{templateLimit}
+use Rattle.base_settings.specs.declared.Settings.{Settings}
 use Rattle.base_chars.specs.Utf8.{wellFormed}
 use Rattle.moment_instants.specs.ByTemplate.{dateOf, dayBy, instantBy, timestampOf}
-use Rattle.moment_parts.specs.Parts.{partsBy, partsOf, templateLimit}
+use Rattle.moment_parts.specs.Parts.{partsBy, partsOf}
 use Rattle.template_nodes.specs.Bytes.{nodesIn}
 use Rattle.write_text.specs.Text.{textOf}
 use Rattle.write_text.specs.Writer.{textIn, writtenIn, writtenTo}
@@ -14,13 +16,13 @@ use Rattle.write_pieces.specs.declared.Moment.{Moment}
 use Rattle.sorbilgan.specs.Compiled.{compiled}
 
 -- the answers to every input, moment and buffer
-pub record SameAnswers (t : List ℕ) : Type 0 where
-  pub parts : (s : List ℕ) → partsBy (nodesIn (compiled t)) t s ≡ partsOf t s
-  pub instant : (s : List ℕ) → instantBy (partsBy (nodesIn (compiled t)) t s) ≡ timestampOf t s
-  pub day : (s : List ℕ) → dayBy (partsBy (nodesIn (compiled t)) t s) ≡ dateOf t s
-  pub written : (m : Moment) (room : ℕ) → writtenIn (compiled t) t m room ≡ writtenTo t m room
+pub record SameAnswers (set : Settings) (t : List ℕ) : Type 0 where
+  pub parts : (s : List ℕ) → partsBy set (nodesIn (compiled t)) t s ≡ partsOf set t s
+  pub instant : (s : List ℕ) → instantBy (partsBy set (nodesIn (compiled t)) t s) ≡ timestampOf set t s
+  pub day : (s : List ℕ) → dayBy (partsBy set (nodesIn (compiled t)) t s) ≡ dateOf set t s
+  pub written : (m : Moment) (room : ℕ) → writtenIn set (compiled t) t m room ≡ writtenTo set t m room
   pub text : (m : Moment) → textIn (compiled t) t m ≡ textOf t m
 
--- by every template that is compiled
+-- by every template that is compiled, for every caller
 abbrev pub CompileOnce : Type 0
-CompileOnce = (t : List ℕ) → length t ≤ templateLimit → wellFormed t ≡ true → SameAnswers t
+CompileOnce = (set : Settings) (t : List ℕ) → length t ≤ templateLimit set → wellFormed t ≡ true → SameAnswers set t

@@ -4,6 +4,7 @@ use mathlib.Core.List.{List, [], _∷_}
 use Prim.Native.Nat.{ℕ}
 use lib.IntN.{ℤ, pos}
 use lib.ListN.{length}
+use Rattle.base_settings.specs.declared.Settings.{Settings}
 use Rattle.write_text.specs.Report.{unwrittenReport}
 use Rattle.write_text.specs.Text.{textOf}
 use Rattle.write_text.specs.Writer.{bufferAfter, textIn, writtenIn, writtenTo}
@@ -24,11 +25,11 @@ pub record RecordedWritten (w : Written) (text before after : List ℕ) (filled 
   pub recorded : Recorded (writtenRecord w) filled r
 
 -- by a template, and by the nodes that the bytes c hold
-abbrev pub RecordedWrite : List ℕ → Moment → List ℕ → List ℕ → List ℤ → ℕ → Type 0
-RecordedWrite t m before = RecordedWritten (writtenTo t m (length before)) (textOf t m) before
+abbrev pub RecordedWrite : Settings → List ℕ → Moment → List ℕ → List ℕ → List ℤ → ℕ → Type 0
+RecordedWrite set t m before = RecordedWritten (writtenTo set t m (length before)) (textOf t m) before
 
-abbrev pub RecordedWriteBy : List ℕ → List ℕ → Moment → List ℕ → List ℕ → List ℤ → ℕ → Type 0
-RecordedWriteBy c t m before = RecordedWritten (writtenIn c t m (length before)) (textIn c t m) before
+abbrev pub RecordedWriteBy : Settings → List ℕ → List ℕ → Moment → List ℕ → List ℕ → List ℤ → ℕ → Type 0
+RecordedWriteBy set c t m before = RecordedWritten (writtenIn set c t m (length before)) (textIn c t m) before
 
 -- ten bytes written, and no room for them
 pub worked

@@ -1,79 +1,77 @@
 // The functions that other languages call. None asks anything of its caller.
 // Reading and writing fill a record of 64-bit numbers and return its first: 0, or the number of the refusal.
+// Each is there twice: with settings, and for the exercise pages, whose settings are 0.
 mod names;
 mod version;
+mod with_settings;
 mod writing;
 
+ghost use Rattle.base_settings.specs.Limits.{pages};
 ghost use Rattle.moment_instants.specs.ByTemplate.{dateOf, dayBy, instantBy, timestampOf};
 ghost use Rattle.moment_parts.specs.Parts.{partsBy, partsOf};
 ghost use Rattle.template_nodes.specs.Bytes.{nodesIn};
 ghost use Rattle.sorbilgan.specs.Compiled.{CompiledTo};
 ghost use Rattle.sorbilgan_records.specs.Records.{Recorded, dayRecord, instantRecord, partsRecord};
-use moment_parts::TEMPLATE_LIMIT;
 pub use names::sorbilgan_pattern;
-use template_nodes::NODE;
 pub use version::sorbilgan_version;
-pub use version::sorbilgan_version_1;
+pub use version::sorbilgan_version_2;
+pub use with_settings::sorbilgan_compile_with;
+pub use with_settings::sorbilgan_date_by_with;
+pub use with_settings::sorbilgan_date_with;
+pub use with_settings::sorbilgan_instant_by_with;
+pub use with_settings::sorbilgan_instant_with;
+pub use with_settings::sorbilgan_parts_by_with;
+pub use with_settings::sorbilgan_parts_with;
 pub use writing::sorbilgan_write;
 pub use writing::sorbilgan_write_by;
+pub use writing::sorbilgan_write_by_with;
+pub use writing::sorbilgan_write_with;
 
-// The parts of the moment that an input s has by a template t.
 #[no_mangle]
 pub extern "C" fn sorbilgan_parts(t: &[u8], s: &[u8], out: &mut [i64; 14]) -> u8
-    ensures { λ r. ⌜ Recorded (partsRecord (partsOf (now (t .entry)) (now (s .entry)))) (now (out .exit)) r ⌝ }
+    ensures { λ r. ⌜ Recorded (partsRecord (partsOf pages (now (t .entry)) (now (s .entry)))) (now (out .exit)) r ⌝ }
 {
-    sorbilgan_records::put_parts(moment_parts::to_timestamp_parts(t, s), out)
+    sorbilgan_parts_with(0, t, s, out)
 }
 
-// The microseconds of that moment since 1970-01-01.
 #[no_mangle]
 pub extern "C" fn sorbilgan_instant(t: &[u8], s: &[u8], out: &mut [i64; 5]) -> u8
-    ensures { λ r. ⌜ Recorded (instantRecord (timestampOf (now (t .entry)) (now (s .entry)))) (now (out .exit)) r ⌝ }
+    ensures { λ r. ⌜ Recorded (instantRecord (timestampOf pages (now (t .entry)) (now (s .entry)))) (now (out .exit)) r ⌝ }
 {
-    sorbilgan_records::put_instant(moment_instants::to_timestamp_text(t, s), out)
+    sorbilgan_instant_with(0, t, s, out)
 }
 
-// Its days since then.
 #[no_mangle]
 pub extern "C" fn sorbilgan_date(t: &[u8], s: &[u8], out: &mut [i64; 5]) -> u8
-    ensures { λ r. ⌜ Recorded (dayRecord (dateOf (now (t .entry)) (now (s .entry)))) (now (out .exit)) r ⌝ }
+    ensures { λ r. ⌜ Recorded (dayRecord (dateOf pages (now (t .entry)) (now (s .entry)))) (now (out .exit)) r ⌝ }
 {
-    sorbilgan_records::put_day(moment_instants::to_date_text(t, s), out)
+    sorbilgan_date_with(0, t, s, out)
 }
 
-// Puts the bytes of a template's nodes into the buffer, and gives how many they are; -1 for a template over its limit,
-// -2 for one that is not UTF-8.
 #[no_mangle]
 pub extern "C" fn sorbilgan_compile(t: &[u8], nodes: &mut [u8; 1536]) -> i64
-    ensures { λ r. ⌜ CompiledTo (now (t .entry)) (now (nodes .entry)) (now (nodes .exit)) r ⌝ }
+    ensures { λ r. ⌜ CompiledTo pages (now (t .entry)) (now (nodes .entry)) (now (nodes .exit)) r ⌝ }
 {
-    if TEMPLATE_LIMIT < t.len() {
-        return -1;
-    }
-    if !base_chars::is_utf8(t) {
-        return -2;
-    }
-    (NODE * template_nodes::parse_format(t, nodes)) as i64
+    sorbilgan_compile_with(0, t, nodes)
 }
 
-// The same three by the nodes of a template t that was compiled. Any bytes are taken for nodes.
 #[no_mangle]
 pub extern "C" fn sorbilgan_parts_by(nodes: &[u8], t: &[u8], s: &[u8], out: &mut [i64; 14]) -> u8
-    ensures { λ r. ⌜ Recorded (partsRecord (partsBy (nodesIn (now (nodes .entry))) (now (t .entry)) (now (s .entry)))) (now (out .exit)) r ⌝ }
+    ensures { λ r. ⌜ Recorded (partsRecord (partsBy pages (nodesIn (now (nodes .entry))) (now (t .entry)) (now (s .entry)))) (now (out .exit)) r ⌝ }
 {
-    sorbilgan_records::put_parts(moment_parts::parts_by(nodes, t, s), out)
+    sorbilgan_parts_by_with(0, nodes, t, s, out)
 }
 
 #[no_mangle]
 pub extern "C" fn sorbilgan_instant_by(nodes: &[u8], t: &[u8], s: &[u8], out: &mut [i64; 5]) -> u8
-    ensures { λ r. ⌜ Recorded (instantRecord (instantBy (partsBy (nodesIn (now (nodes .entry))) (now (t .entry)) (now (s .entry))))) (now (out .exit)) r ⌝ }
+    ensures { λ r. ⌜ Recorded (instantRecord (instantBy (partsBy pages (nodesIn (now (nodes .entry))) (now (t .entry)) (now (s .entry))))) (now (out .exit)) r ⌝ }
 {
-    sorbilgan_records::put_instant(moment_instants::instant_by(nodes, t, s), out)
+    sorbilgan_instant_by_with(0, nodes, t, s, out)
 }
 
 #[no_mangle]
 pub extern "C" fn sorbilgan_date_by(nodes: &[u8], t: &[u8], s: &[u8], out: &mut [i64; 5]) -> u8
-    ensures { λ r. ⌜ Recorded (dayRecord (dayBy (partsBy (nodesIn (now (nodes .entry))) (now (t .entry)) (now (s .entry))))) (now (out .exit)) r ⌝ }
+    ensures { λ r. ⌜ Recorded (dayRecord (dayBy (partsBy pages (nodesIn (now (nodes .entry))) (now (t .entry)) (now (s .entry))))) (now (out .exit)) r ⌝ }
 {
-    sorbilgan_records::put_day(moment_instants::day_by(nodes, t, s), out)
+    sorbilgan_date_by_with(0, nodes, t, s, out)
 }

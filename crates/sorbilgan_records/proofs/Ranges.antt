@@ -6,6 +6,7 @@ use mathlib.Core.List.{List}
 use Prim.Native.Nat.{ℕ, _≤_, zero-le}
 use native.Mathlib.Omega.{arith}
 use lib.IntN.{ℤ, pos, natAbs}
+use Rattle.base_settings.specs.declared.Settings.{Settings}
 use Rattle.moment_time.specs.declared.Offset.{Offset}
 use Rattle.moment_time.specs.declared.Offset.the-variants.{Absent, East}
 use Rattle.moment_parts.specs.Parts.{partsBy, partsOf}
@@ -63,11 +64,11 @@ in-range-recorded f (Moment p) h =
     }
 
 -- by any nodes, and by a template
-pub parts-recorded : (ns : _) (t s : List ℕ) → PartsRecorded (partsBy ns t s)
-parts-recorded ns t s = in-range-recorded (fieldsBy ns t s) (partsBy ns t s) (parts-by-answered ns t s)
+pub parts-recorded : (set : Settings) (ns : _) (t s : List ℕ) → PartsRecorded (partsBy set ns t s)
+parts-recorded set ns t s = in-range-recorded (fieldsBy ns t s) (partsBy set ns t s) (parts-by-answered set ns t s)
 
-pub template-recorded : (t s : List ℕ) → PartsRecorded (partsOf t s)
-template-recorded t s = in-range-recorded (fieldsOf t s) (partsOf t s) (answered t s)
+pub template-recorded : (set : Settings) (t s : List ℕ) → PartsRecorded (partsOf set t s)
+template-recorded set t s = in-range-recorded (fieldsOf t s) (partsOf set t s) (answered set t s)
 
 -- an instant and a day
 instant-in-range : (i : Instant) → InstantAnswered i → InstantRecorded i

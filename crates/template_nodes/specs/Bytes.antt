@@ -26,10 +26,6 @@ nodeFrom c at =
       suffix = byteAt c (at + 5);
     }
 
--- the bytes of the most nodes that a template has
-abbrev pub nodesLimit : ℕ
-nodesLimit = 1536
-
 -- n nodes
 unfoldable pub nodesTo : ℕ → List ℕ → List Node
 nodesTo zero c = []

@@ -10,18 +10,19 @@ use borrow.Author.Tests.{eqb-true, ltb-true, not-false}
 use lib.Dec.{eqb, ltb}
 use lib.ListN.{length}
 use Rattle.base_notation.proofs.Cases.{by-if, neither}
+use Rattle.base_settings.specs.Limits.{templateLimit}
+use Rattle.base_settings.specs.declared.Settings.{Settings}
 use Rattle.base_refusals.specs.Report.{noPattern}
 use Rattle.base_chars.specs.Utf8.{wellFormed}
-use Rattle.moment_parts.specs.Parts.{templateLimit}
 use Rattle.moment_parts.specs.Patterns.{NoneOrIn}
-use Rattle.template_nodes.specs.Bytes.{nodesIn, nodesLimit}
+use Rattle.template_nodes.specs.Bytes.{nodesIn}
 use Rattle.template_nodes.specs.Template.{action, nodesOf}
 use Rattle.template_nodes.specs.declared.Node.{Node}
 use Rattle.write_pieces.specs.Moment.{isMoment}
 use Rattle.write_pieces.specs.declared.Moment.{Moment}
 use Rattle.write_text.specs.Report.{unwrittenReport}
 use Rattle.write_text.specs.Text.{textOf}
-use Rattle.write_text.specs.Writer.{allWritten, firstUnwritten, isWritten, textIn, writtenBy, writtenIn, writtenTo}
+use Rattle.write_text.specs.Writer.{allWritten, firstUnwritten, isWritten, nodesLimit, textIn, writtenBy, writtenIn, writtenTo}
 use Rattle.write_text.specs.declared.Unwritten.{Unwritten}
 use Rattle.write_text.specs.declared.Written.{Written}
 use Rattle.write_text.specs.declared.Written.the-variants.{Length, Refused}
@@ -51,22 +52,22 @@ by-own ns m text room =
     by-if P (ltb (firstUnwritten ns) allWritten) _ _ (λ e. first-own ns (ltb-true _ _ e))
     (λ e. by-if P (not (isMoment m)) _ _ (λ e. inl refl) (λ e. by-if P (ltb room (length text)) _ _ (λ e. inl refl) (λ e. tt)))
 
-module _ (t : List ℕ) (m : Moment) (room : ℕ) where
-  to-own : WrittenNames (NoneOrIn (nodesOf t)) (writtenTo t m room)
+module _ (set : Settings) (t : List ℕ) (m : Moment) (room : ℕ) where
+  to-own : WrittenNames (NoneOrIn (nodesOf t)) (writtenTo set t m room)
   unfolding writtenTo unwrittenReport
   to-own =
       let P = WrittenNames (NoneOrIn (nodesOf t)) in
-      by-if P (ltb templateLimit (length t)) _ _ (λ e. inl refl)
+      by-if P (ltb (templateLimit set) (length t)) _ _ (λ e. inl refl)
       (λ e. by-if P (not (wellFormed t)) _ _ (λ e. inl refl) (λ e. by-own (nodesOf t) m (textOf t m) room))
 
-  in-own : (c : List ℕ) → WrittenNames (NoneOrIn (nodesIn c)) (writtenIn c t m room)
+  in-own : (c : List ℕ) → WrittenNames (NoneOrIn (nodesIn c)) (writtenIn set c t m room)
   unfolding writtenIn unwrittenReport
   in-own c =
-      by-if (WrittenNames (NoneOrIn (nodesIn c))) (ltb nodesLimit (length c)) _ _ (λ e. inl refl)
+      by-if (WrittenNames (NoneOrIn (nodesIn c))) (ltb (nodesLimit set) (length c)) _ _ (λ e. inl refl)
       (λ e. by-own (nodesIn c) m (textIn c t m) room)
 
-  pub written-own : {why : Unwritten} → writtenTo t m room ≡ Refused why → NoneOrIn (nodesOf t) (unwrittenReport why .pattern)
+  pub written-own : {why : Unwritten} → writtenTo set t m room ≡ Refused why → NoneOrIn (nodesOf t) (unwrittenReport why .pattern)
   written-own e = subst (WrittenNames (NoneOrIn (nodesOf t))) e to-own
 
-  pub written-in-own : (c : List ℕ) {why : Unwritten} → writtenIn c t m room ≡ Refused why → NoneOrIn (nodesIn c) (unwrittenReport why .pattern)
+  pub written-in-own : (c : List ℕ) {why : Unwritten} → writtenIn set c t m room ≡ Refused why → NoneOrIn (nodesIn c) (unwrittenReport why .pattern)
   written-in-own c e = subst (WrittenNames (NoneOrIn (nodesIn c))) e (in-own c)

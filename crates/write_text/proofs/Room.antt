@@ -10,14 +10,15 @@ use borrow.Author.Tests.{ltb-false}
 use lib.Dec.{ltb}
 use lib.ListN.{length}
 use Rattle.base_notation.proofs.Cases.{by-if}
+use Rattle.base_settings.specs.Limits.{templateLimit}
+use Rattle.base_settings.specs.declared.Settings.{Settings}
 use Rattle.base_chars.specs.Utf8.{wellFormed}
-use Rattle.moment_parts.specs.Parts.{templateLimit}
 use Rattle.write_pieces.specs.Moment.{isMoment}
 use Rattle.write_pieces.specs.declared.Moment.{Moment}
-use Rattle.template_nodes.specs.Bytes.{nodesIn, nodesLimit}
+use Rattle.template_nodes.specs.Bytes.{nodesIn}
 use Rattle.template_nodes.specs.Template.{nodesOf}
 use Rattle.write_text.specs.Text.{textOf}
-use Rattle.write_text.specs.Writer.{allWritten, firstUnwritten, textIn, writtenBy, writtenIn, writtenTo}
+use Rattle.write_text.specs.Writer.{allWritten, firstUnwritten, nodesLimit, textIn, writtenBy, writtenIn, writtenTo}
 use Rattle.write_text.specs.declared.Unwritten.{Unwritten}
 use Rattle.write_text.specs.declared.Written.{Written}
 use Rattle.write_text.specs.declared.Written.the-variants.{Length, Refused}
@@ -39,15 +40,15 @@ module _ (room : ℕ) where
       (λ e. by-if M (ltb room (length text)) _ _ (λ e. refused text _)
       (λ e n q. let same : length text ≡ n = cc in (sym same, omega (arith, ltb-false room (length text) e)))))
 
-  pub to-measured : (t : List ℕ) (m : Moment) → Measured room (textOf t m) (writtenTo t m room)
+  pub to-measured : (set : Settings) (t : List ℕ) (m : Moment) → Measured room (textOf t m) (writtenTo set t m room)
   unfolding writtenTo
-  to-measured t m =
+  to-measured set t m =
       let text = textOf t m in
-      by-if (Measured room text) (ltb templateLimit (length t)) _ _ (λ e. refused text _)
+      by-if (Measured room text) (ltb (templateLimit set) (length t)) _ _ (λ e. refused text _)
       (λ e. by-if (Measured room text) (not (wellFormed t)) _ _ (λ e. refused text _) (λ e. by-measured (firstUnwritten (nodesOf t)) m text))
 
-  pub in-measured : (c t : List ℕ) (m : Moment) → Measured room (textIn c t m) (writtenIn c t m room)
+  pub in-measured : (set : Settings) (c t : List ℕ) (m : Moment) → Measured room (textIn c t m) (writtenIn set c t m room)
   unfolding writtenIn
-  in-measured c t m =
+  in-measured set c t m =
       let text = textIn c t m in
-      by-if (Measured room text) (ltb nodesLimit (length c)) _ _ (λ e. refused text _) (λ e. by-measured (firstUnwritten (nodesIn c)) m text)
+      by-if (Measured room text) (ltb (nodesLimit set) (length c)) _ _ (λ e. refused text _) (λ e. by-measured (firstUnwritten (nodesIn c)) m text)

@@ -5,12 +5,14 @@ use mathlib.Core.Path.{_≡_, refl}
 use mathlib.Core.Bool.{Bool, true, false, _&&_}
 use mathlib.Core.List.{List, [], _∷_, _++_}
 use Prim.Native.Nat.{ℕ, suc}
+use Prim.Native.Char.{code}
 use lib.Dec.{eqb, leb}
-use lib.ListN.{length}
+use lib.ListN.{length, replicate}
 use Rattle.base_notation.specs.Choice.{if_then_else_}
 use Rattle.base_notation.specs.Text.{utf8}
 use Rattle.base_chars.specs.Utf8.{sequence, wellFormed, wellFormedAfter}
-use Rattle.moment_parts.specs.Parts.{templateLimit}
+use Rattle.base_settings.specs.Limits.{cardLimits, limits-compute, pages, templateLimit, withLimits}
+use Rattle.base_settings.specs.declared.Settings.{Settings}
 use Rattle.template_patterns.specs.Search.{countFrom}
 use Rattle.template_nodes.specs.Examples.{nodes-compute}
 use Rattle.template_nodes.specs.Template.{action, nodesOf}
@@ -63,21 +65,31 @@ anyOf (g ∷ gs) test = if test g then true else anyOf gs test
 unfoldable pub areFull : List ℕ → Bool
 areFull ps = anyOf dateGroups (λ date. anyOf timeGroups (λ time. same ps (date ++ time ++ micros ∷ [])))
 
--- a full template
-unfoldable pub isFull : List ℕ → Bool
-isFull t = leb (length t) templateLimit && (wellFormed t && (eqb (firstUnwritten (nodesOf t)) allWritten && areFull (pieces (nodesOf t))))
+-- a full template, for a caller with settings
+unfoldable pub isFull : Settings → List ℕ → Bool
+isFull set t = leb (length t) (templateLimit set) && (wellFormed t && (eqb (firstUnwritten (nodesOf t)) allWritten && areFull (pieces (nodesOf t))))
 
 -- an ISO date and time is full; without its microseconds it is not; a dropped prefix does not count
 pub worked
-    : (isFull (utf8 "YYYY-MM-DD\"T\"HH24:MI:SS.US") ≡ true) × (isFull (utf8 "YYYY-MM-DD HH24:MI:SS") ≡ false)
-    × (isFull (utf8 "US SSSSS \"ngày IW\" FM,IW ID IYYY") ≡ true) × (isFull (utf8 "FMYYYY-DDD SSSSS US") ≡ false)
-unfolding isFull areFull times pieces firstUnwritten pieceOf nodes-compute wellFormedAfter sequence
+    : (isFull pages (utf8 "YYYY-MM-DD\"T\"HH24:MI:SS.US") ≡ true) × (isFull pages (utf8 "YYYY-MM-DD HH24:MI:SS") ≡ false)
+    × (isFull pages (utf8 "US SSSSS \"ngày IW\" FM,IW ID IYYY") ≡ true) × (isFull pages (utf8 "FMYYYY-DDD SSSSS US") ≡ false)
+unfolding isFull limits-compute areFull times pieces firstUnwritten pieceOf nodes-compute wellFormedAfter sequence
 worked = (refl, refl, refl, refl)
 
 -- so is one with the name of the month, full with FM or short; not with both, nor with a name and MM
 pub names
-    : (isFull (utf8 "DD FMMonth YYYY SSSSS US") ≡ true) × (isFull (utf8 "DDmonYYYY SSSSSUS") ≡ true)
-    × (isFull (utf8 "DD Month YYYY SSSSS US") ≡ false) × (isFull (utf8 "DD Mon FMMONTH YYYY SSSSS US") ≡ false)
-    × (isFull (utf8 "DD Mon MM YYYY SSSSS US") ≡ false)
-unfolding isFull areFull times pieces firstUnwritten pieceOf nodes-compute wellFormedAfter sequence
+    : (isFull pages (utf8 "DD FMMonth YYYY SSSSS US") ≡ true) × (isFull pages (utf8 "DDmonYYYY SSSSSUS") ≡ true)
+    × (isFull pages (utf8 "DD Month YYYY SSSSS US") ≡ false) × (isFull pages (utf8 "DD Mon FMMONTH YYYY SSSSS US") ≡ false)
+    × (isFull pages (utf8 "DD Mon MM YYYY SSSSS US") ≡ false)
+unfolding isFull limits-compute areFull times pieces firstUnwritten pieceOf nodes-compute wellFormedAfter sequence
 names = (refl, refl, refl, refl, refl)
+
+-- the limit is the caller's own: 64 bytes are full for both callers, 65 for the exercise pages alone
+abbrev dashes : ℕ → List ℕ
+dashes n = replicate n (code "-") ++ utf8 "YYYYDDDSSSSSUS"
+
+pub limited
+    : (isFull pages (dashes 50) ≡ true) × (isFull (withLimits cardLimits pages) (dashes 50) ≡ true)
+    × (isFull pages (dashes 51) ≡ true) × (isFull (withLimits cardLimits pages) (dashes 51) ≡ false)
+unfolding isFull limits-compute areFull times pieces firstUnwritten pieceOf nodes-compute wellFormedAfter sequence
+limited = (refl, refl, refl, refl)

@@ -2,14 +2,15 @@
 use mathlib.Core.Path.{_≡_, refl}
 use mathlib.Core.Bool.{Bool, not, _&&_, _||_}
 use mathlib.Core.List.{List, [], _∷_, _++_}
-use Prim.Native.Nat.{ℕ}
+use Prim.Native.Nat.{ℕ, _*_}
 use lib.Dec.{eqb, ltb}
 use lib.ListN.{length, drop}
 use Rattle.base_notation.specs.Choice.{if_then_else_}
+use Rattle.base_settings.specs.Limits.{templateLimit}
+use Rattle.base_settings.specs.declared.Settings.{Settings}
 use Rattle.base_refusals.specs.Report.{noPattern}
 use Rattle.base_chars.specs.Utf8.{wellFormed}
-use Rattle.moment_parts.specs.Parts.{templateLimit}
-use Rattle.template_nodes.specs.Bytes.{nodesIn, nodesLimit}
+use Rattle.template_nodes.specs.Bytes.{nodesIn}
 use Rattle.template_nodes.specs.Template.{action, nodesOf, pattern}
 use Rattle.template_nodes.specs.declared.Node.{Node}
 use Rattle.write_pieces.specs.Moment.{isMoment}
@@ -62,10 +63,10 @@ writtenBy unwritten m text room =
     else if ltb room needed then Refused (NoRoom needed)
     else Length needed
 
--- by a template
-unfoldable pub writtenTo : List ℕ → Moment → ℕ → Written
-writtenTo t m room =
-    if ltb templateLimit (length t) then Refused TooLong
+-- by a template, for a caller with settings
+unfoldable pub writtenTo : Settings → List ℕ → Moment → ℕ → Written
+writtenTo set t m room =
+    if ltb (templateLimit set) (length t) then Refused TooLong
     else if not (wellFormed t) then Refused NotUtf8
     else writtenBy (firstUnwritten (nodesOf t)) m (textOf t m) room
 
@@ -73,10 +74,14 @@ writtenTo t m room =
 abbrev pub textIn : List ℕ → List ℕ → Moment → List ℕ
 textIn c t m = nodesText t m (nodesIn c)
 
--- and the answer; the nodes of a template are no more than 256
-unfoldable pub writtenIn : List ℕ → List ℕ → Moment → ℕ → Written
-writtenIn c t m room =
-    if ltb nodesLimit (length c) then Refused TooLong else writtenBy (firstUnwritten (nodesIn c)) m (textIn c t m) room
+-- the bytes of the most nodes that a template within its limit has: six for each of its bytes
+abbrev pub nodesLimit : Settings → ℕ
+nodesLimit set = 6 * templateLimit set
+
+-- and the answer
+unfoldable pub writtenIn : Settings → List ℕ → List ℕ → Moment → ℕ → Written
+writtenIn set c t m room =
+    if ltb (nodesLimit set) (length c) then Refused TooLong else writtenBy (firstUnwritten (nodesIn c)) m (textIn c t m) room
 
 -- the text, and after it every byte as it was; on refusal the buffer as it was
 abbrev pub bufferAfter : Written → List ℕ → List ℕ → List ℕ
@@ -84,11 +89,11 @@ bufferAfter (Length n) text before = text ++ drop n before
 bufferAfter (Refused why) text before = before
 
 -- r is the answer, and after the buffer
-pub record Wrote (t : List ℕ) (m : Moment) (before after : List ℕ) (r : Written) : Type 0 where
-  pub is : r ≡ writtenTo t m (length before)
+pub record Wrote (set : Settings) (t : List ℕ) (m : Moment) (before after : List ℕ) (r : Written) : Type 0 where
+  pub is : r ≡ writtenTo set t m (length before)
   pub buffer : after ≡ bufferAfter r (textOf t m) before
 
 -- the same by the nodes that the bytes c hold
-pub record WroteBy (c t : List ℕ) (m : Moment) (before after : List ℕ) (r : Written) : Type 0 where
-  pub is : r ≡ writtenIn c t m (length before)
+pub record WroteBy (set : Settings) (c t : List ℕ) (m : Moment) (before after : List ℕ) (r : Written) : Type 0 where
+  pub is : r ≡ writtenIn set c t m (length before)
   pub buffer : after ≡ bufferAfter r (textIn c t m) before

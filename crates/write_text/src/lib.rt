@@ -10,10 +10,10 @@ ghost use Rattle.write_pieces.specs.Output.{Put};
 ghost use Rattle.write_text.specs.Report.{unwrittenReport};
 ghost use Rattle.write_pieces.specs.Tables.{pieceTable};
 ghost use Rattle.write_text.specs.Text.{literalText, nodeText};
-ghost use Rattle.write_text.specs.Writer.{Wrote, WroteBy, firstUnwritten, isWritten, named, textIn};
+ghost use Rattle.write_text.specs.Writer.{Wrote, WroteBy, firstUnwritten, isWritten, named, nodesLimit, textIn};
 use base_refusals::NO_PATTERN;
 use base_refusals::Report;
-use moment_parts::TEMPLATE_LIMIT;
+use base_settings::Settings;
 use template_nodes::FN_ACTION;
 use template_nodes::NODE;
 use template_nodes::NODES;
@@ -171,11 +171,18 @@ fn put_nodes(table: &[u8; 112], c: &[u8], t: &[u8], m: Moment, out: &mut [u8])
     }
 }
 
-// Writes by the nodes that any bytes hold. t is the template that they were made from.
-pub fn write_by(c: &[u8], t: &[u8], m: Moment, out: &mut [u8]) -> Written
-    ensures { λ r. ⌜ WroteBy (now (c .entry)) (now (t .entry)) m (now (out .entry)) (now (out .exit)) r ⌝ }
+// The bytes of the most nodes that a template within its limit has.
+fn nodes_limit(set: Settings) -> usize
+    ensures { λ r. ⌜ r ≡ nodesLimit set ⌝ }
 {
-    if NODES < c.len() {
+    NODE * base_settings::template_limit(set)
+}
+
+// Writes by the nodes that any bytes hold. t is the template that they were made from.
+pub fn write_by(set: Settings, c: &[u8], t: &[u8], m: Moment, out: &mut [u8]) -> Written
+    ensures { λ r. ⌜ WroteBy set (now (c .entry)) (now (t .entry)) m (now (out .entry)) (now (out .exit)) r ⌝ }
+{
+    if nodes_limit(set) < c.len() {
         return Written::Refused(Unwritten::TooLong);
     }
     let table = write_pieces::table();
@@ -197,10 +204,10 @@ pub fn write_by(c: &[u8], t: &[u8], m: Moment, out: &mut [u8]) -> Written
 }
 
 // Writes the text of a moment into the buffer. What follows the text stays; on refusal the whole buffer does.
-pub fn write(t: &[u8], m: Moment, out: &mut [u8]) -> Written
-    ensures { λ r. ⌜ Wrote (now (t .entry)) m (now (out .entry)) (now (out .exit)) r ⌝ }
+pub fn write(set: Settings, t: &[u8], m: Moment, out: &mut [u8]) -> Written
+    ensures { λ r. ⌜ Wrote set (now (t .entry)) m (now (out .entry)) (now (out .exit)) r ⌝ }
 {
-    if TEMPLATE_LIMIT < t.len() {
+    if base_settings::template_limit(set) < t.len() {
         return Written::Refused(Unwritten::TooLong);
     }
     if !base_chars::is_utf8(t) {
@@ -208,5 +215,5 @@ pub fn write(t: &[u8], m: Moment, out: &mut [u8]) -> Written
     }
     let mut nodes = [0u8; NODES];
     let end = NODE * template_nodes::parse_format(t, &mut nodes);
-    write_by(&nodes[..end], t, m, out)
+    write_by(set, &nodes[..end], t, m, out)
 }

@@ -3,12 +3,16 @@
 use super::*;
 use crate::{Parts, TEMPLATE_LIMIT};
 use sorbilgan_sys::NO_PATTERN;
+use std::fmt::Debug;
 
 #[allow(dead_code)]
 #[path = "../../../../compare/src/random.rs"]
 mod random;
 
 use random::{all_bytes, Random};
+
+/// The settings of the exercise pages, and of the flash cards.
+const BOTH: [Settings; 2] = [Settings::new(), Settings::new().cards(true)];
 
 /// Bytes that are often small, as those of a template's nodes are.
 fn nodes(random: &mut Random, most: usize) -> Vec<u8> {
@@ -28,6 +32,15 @@ fn in_range(parts: &Parts) -> bool {
         && parts.offset.is_none_or(|seconds| seconds.abs() <= 57_540)
 }
 
+/// What pages and cards both answer to an input within the limits of both.
+fn by_both<A: Answer + Debug + PartialEq>(
+    reader: &Reader<A>, nodes: &[u8], text: &[u8], input: &[u8],
+) -> Result<A, Refusal> {
+    let [page, card] = BOTH.map(|settings| reader.by_nodes(settings, nodes, text, input));
+    assert_eq!(page, card);
+    page
+}
+
 #[test]
 fn any_nodes_are_read() {
     let mut random = Random::new(1970);
@@ -36,7 +49,7 @@ fn any_nodes_are_read() {
         let nodes = nodes(&mut random, 60);
         let text = random.bytes(b"YMD-\"\xc3\xa0", 40);
         let input = random.bytes(b"0123456789 -+:.AM", 40);
-        match PARTS.by_nodes(&nodes, &text, &input).map(Parts::answered) {
+        match by_both(&PARTS, &nodes, &text, &input).map(Parts::answered) {
             Ok(parts) => {
                 assert!(in_range(&parts), "{parts:?}");
                 accepted += 1;
@@ -46,9 +59,9 @@ fn any_nodes_are_read() {
                 refused += 1;
             }
         }
-        let instant = INSTANT.by_nodes(&nodes, &text, &input).err();
+        let instant = by_both(&INSTANT, &nodes, &text, &input).err();
         assert!(instant.is_none_or(|refusal| refusal.number() <= 17));
-        let day = DATE.by_nodes(&nodes, &text, &input).err();
+        let day = by_both(&DATE, &nodes, &text, &input).err();
         assert!(day.is_none_or(|refusal| refusal.number() <= 16 || refusal.number() == 18));
     }
     assert!(accepted > 1000 && refused > 1000, "{accepted} accepted, {refused} refused");
@@ -62,8 +75,12 @@ fn any_nodes_are_written() {
         let nodes = nodes(&mut random, 30);
         let text = random.bytes(&all_bytes(), TEMPLATE_LIMIT);
         let before = random.bytes(&all_bytes(), 600);
-        let mut buffer = before.clone();
-        match write_by(&nodes, &text, &Moment::midnight(2024, 2, 29), &mut buffer) {
+        let [(page, buffer), card] = BOTH.map(|settings| {
+            let mut buffer = before.clone();
+            (write_by(settings, &nodes, &text, &Moment::midnight(2024, 2, 29), &mut buffer), buffer)
+        });
+        assert_eq!((&page, &buffer), (&card.0, &card.1));
+        match page {
             Ok(length) => {
                 assert_eq!(buffer[length..], before[length..]);
                 accepted += 1;
@@ -80,9 +97,12 @@ fn any_nodes_are_written() {
 #[test]
 fn more_nodes_than_a_template_has() {
     let moment = Moment::midnight(2024, 2, 29);
-    assert_eq!(write_by(&[0; NODES], b"", &moment, &mut []), Ok(0));
-    assert_eq!(write_by(&[0; NODES + 1], b"", &moment, &mut []), Err(Refusal::alone(Cause::TooLong)));
-    assert!(PARTS.by_nodes(&[0; NODES + 1], b"", b"").is_ok());
+    for (settings, most) in BOTH.into_iter().zip([NODES, 384]) {
+        let nodes = vec![0; most + 1];
+        assert_eq!(write_by(settings, &nodes[..most], b"", &moment, &mut []), Ok(0));
+        assert_eq!(write_by(settings, &nodes, b"", &moment, &mut []), Err(Refusal::alone(Cause::TooLong)));
+        assert!(PARTS.by_nodes(settings, &nodes, b"", b"").is_ok());
+    }
 }
 
 /// A pattern past the table is refused without a name, also where one after it is not written.
@@ -90,7 +110,7 @@ fn more_nodes_than_a_template_has() {
 fn no_pattern_is_not_written() {
     let nodes = [0, 0, 1, 1, 200, 0, 1, 0, 3, 1, 14, 0];
     for nodes in [&nodes[..6], &nodes] {
-        let refused = write_by(nodes, b"", &Moment::midnight(2024, 2, 29), &mut []);
+        let refused = write_by(Settings::new(), nodes, b"", &Moment::midnight(2024, 2, 29), &mut []);
         assert_eq!(refused, Err(Refusal::alone(Cause::NotWritten)));
     }
 }

@@ -1,6 +1,6 @@
 //! What the line program answers to a line, asked of the crate.
 
-use sorbilgan::{date, format, instant, read, Moment, Parts, Refusal, Template};
+use sorbilgan::{date, format, instant, read, Moment, Parts, Refusal, Settings, Template};
 use std::fmt::Display;
 use std::path::Path;
 use std::{fs, str};
@@ -25,7 +25,8 @@ pub fn without_return(line: &[u8]) -> &[u8] {
     line.strip_suffix(b"\r").unwrap_or(line)
 }
 
-/// The answer, by a template that is used once; by one that is compiled first it must be the same.
+/// The answer, by a template that is used once; by one that is compiled first it must be the same, and on a flash card
+/// it must be the same within the smaller limits.
 pub fn answer(mode: &str, line: &[u8]) -> String {
     let (template, rest) = cut(if mode == "write" { without_return(line) } else { line });
     let once = match mode {
@@ -35,11 +36,24 @@ pub fn answer(mode: &str, line: &[u8]) -> String {
         "write" => shown(format(template, &moment(rest))),
         _ => panic!("no such mode: {mode}"),
     };
-    match Template::compile(template) {
-        Ok(template) => assert_eq!(compiled(&template, mode, rest), once, "{mode} {template}"),
-        Err(refusal) => assert!(refusal.number() <= 2 && once.ends_with(" - 0 0"), "{refusal}, and once: {once}"),
+    let card = on_card(mode, template, rest, &once);
+    for (settings, wanted) in [(Settings::new(), &once), (Settings::new().cards(true), &card)] {
+        match Template::compile_with(template, settings) {
+            Ok(template) => assert_eq!(&compiled(&template, mode, rest), wanted, "{mode} {template:?}"),
+            Err(refusal) => assert!(refusal.number() <= 2 && wanted.ends_with(" - 0 0"), "{refusal}, not {wanted}"),
+        }
     }
     once
+}
+
+/// The answer on a flash card, by that on an exercise page.
+fn on_card(mode: &str, template: &[u8], rest: &[u8], page: &str) -> String {
+    let text = page.strip_prefix("0 ").filter(|_| mode == "write");
+    match text.map(str::len) {
+        _ if template.len() > 64 || (mode != "write" && rest.len() > 96) => "1 - 0 0".to_string(),
+        Some(length) if length > 96 => format!("21 - {length} 0"),
+        _ => page.to_string(),
+    }
 }
 
 fn compiled(template: &Template, mode: &str, rest: &[u8]) -> String {

@@ -6,12 +6,15 @@
 //! | `n` | template, bytes, input | read and written by nodes of which some bytes are changed |
 //! | `x` | template, another, input | read and written by the nodes of the other template |
 //! | any other | template, input | read by it, here and by the ported module |
+//!
+//! Both callers do this, the exercise pages and the flash cards. Beside the ported module their settings also have the
+//! mode's bits, moved up to 8 and above, where they mean nothing.
 #![no_main]
 
 use exports::agreement::{self, Template};
-use exports::archive::{self, NODES};
+use exports::archive::{self, CARDS, NODE, NODES, Settings};
 use exports::guarded::Guarded;
-use oracle::answers::{Moment, cut, numbers_of};
+use oracle::answers::{Limits, Moment, cut, numbers_of, records};
 use oracle::questions::templates;
 use oracle::random::Random;
 use oracle::{moments, pairs};
@@ -37,6 +40,7 @@ pub extern "C" fn LLVMFuzzerTestOneInput(data: *const u8, size: usize) -> c_int 
     let bytes = unsafe { std::slice::from_raw_parts(data, size) };
     let Some((mode, texts)) = bytes.split_first() else { return 0 };
     let (template, rest) = cut(texts);
+    let bits = u32::from(*mode) << 3;
     GUARDED.with_borrow_mut(|[of_template, of_input, of_nodes, of_text]| {
         let template = of_template.lend(template);
         match mode {
@@ -45,8 +49,8 @@ pub extern "C" fn LLVMFuzzerTestOneInput(data: *const u8, size: usize) -> c_int 
                 let nodes = if *mode == b'n' { changed(template, second) } else { nodes_of(second) };
                 by_any_nodes(of_nodes.lend(&nodes), template, of_input.lend(input), of_text);
             }
-            b'w' => agreed(|| agreement::write(&Template::compiled(template)?, &moment(rest), 512)),
-            _ => agreed(|| agreement::read(&Template::compiled(template)?, of_input.lend(rest))),
+            b'w' => agreed(|| agreement::write(&Template::compiled(template, bits)?, &moment(rest), 512)),
+            _ => agreed(|| agreement::read(&Template::compiled(template, bits)?, of_input.lend(rest))),
         }
     });
     0
@@ -88,14 +92,28 @@ fn changed(template: &[u8], changes: &[u8]) -> Vec<u8> {
 
 /// Whatever the nodes are, the answer is a record, and of the buffer only the text is written.
 fn by_any_nodes(nodes: &[u8], template: &[u8], input: &[u8], of_text: &mut Guarded) {
-    record(|out: &mut archive::Parts| archive::parts_by(nodes, template, input, out));
-    record(|out: &mut archive::Value| archive::instant_by(nodes, template, input, out));
-    record(|out: &mut archive::Value| archive::date_by(nodes, template, input, out));
-    let text = of_text.lend(&vec![FILLER; input.len()]);
-    let [number, .., length] =
-        record(|out: &mut archive::Value| archive::write_by(nodes, template, &moment(input), text, out));
-    assert!(number == 0 || length == 0);
-    assert!(text[length as usize..].iter().all(|byte| *byte == FILLER), "a byte after the text is written");
+    let within = Limits::CARDS.hold(&[], input);
+    both(within, |settings, out: &mut archive::Parts| archive::parts_by_with(settings, nodes, template, input, out));
+    both(within, |settings, out: &mut archive::Value| archive::instant_by_with(settings, nodes, template, input, out));
+    both(within, |settings, out: &mut archive::Value| archive::date_by_with(settings, nodes, template, input, out));
+    let within = nodes.len() <= NODE * Limits::CARDS.template;
+    let mut texts = Vec::new();
+    both(within, |settings, out: &mut archive::Value| {
+        let text = of_text.lend(&vec![FILLER; input.len()]);
+        let number = archive::write_by_with(settings, nodes, template, &moment(input), text, out);
+        let (text, rest) = text.split_at(if number == 0 { out[4] as usize } else { 0 });
+        assert!(rest.iter().all(|byte| *byte == FILLER), "a byte after the text is written");
+        texts.push(text.to_vec());
+        number
+    });
+    assert!(!within || texts[0] == texts[1], "the callers have two texts");
+}
+
+/// The pages' record, and the cards', which is the same where what is lent is within their limits, and else refusal 1.
+fn both<const WORDS: usize>(within: bool, mut export: impl FnMut(Settings, &mut [i64; WORDS]) -> u8) {
+    let pages = record(|out| export(None, out));
+    let cards = record(|out| export(Some(CARDS), out));
+    assert_eq!(cards, records::limited(within, pages));
 }
 
 fn record<const WORDS: usize>(export: impl FnOnce(&mut [i64; WORDS]) -> u8) -> [i64; WORDS] {

@@ -1,17 +1,27 @@
 -- `moment_parts::parts_by` meets its contract: the limit is tested first, as in the definition. Assumes nothing.
+use mathlib.Core.Path.{_∙_}
+use native.Mathlib.Omega.{arith}
 use borrow.Author.Needs.{needs}
-use denote.Ref.{now}
-use Rattle.moment_parts.proofs.Limits.{input-long}
+use Rattle.base_settings.proofs.Most.{input-most}
+use Rattle.moment_parts.proofs.Limits.{input-long, input-within}
 use Rattle.moment_parts.proofs.parts_by.Statement.{statement}
 use Rattle.moment_parts.proofs.parts_by.Tie as tie
 
 -- the input is over its limit
 returns : tie.Need-returns
-returns c = input-long _ _ _ (c .if1 .taken)
+returns c = input-long _ _ _ _ (omega (arith, c .before .input-limit .ensures, c .if1 .taken))
 
--- it is read within its limit
+-- within it an input has at most 512 bytes
+parts-within-requires : tie.Need-parts-within-requires
+parts-within-requires c κs =
+    let args = c .before .before .before .before .before .args in
+    omega (arith, c .before .input-limit .ensures, c .if1 .left, input-most (args .set))
+
+-- the input is read
 returns-2 : tie.Need-returns-2
-returns-2 c = c .parts-within .ensures
+returns-2 c =
+    let within-limit = c .before in
+    c .parts-within .ensures ∙ input-within _ _ _ _ (omega (arith, within-limit .before .input-limit .ensures, within-limit .if1 .left))
 
 pub parts-by-spec : {M : Type 1} → statement M
-parts-by-spec = tie.close (tie.spec returns (λ c κs. search needs) returns-2)
+parts-by-spec = tie.close (tie.spec (λ c κs. search needs) returns parts-within-requires returns-2)

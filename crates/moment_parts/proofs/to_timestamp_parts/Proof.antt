@@ -2,38 +2,64 @@
 -- parsed is the template's nodes. Assumes nothing.
 use mathlib.Core.Path.{_∙_, sym, ap}
 use mathlib.Core.List.{List}
+use Prim.Native.Nat.{_≤_}
+use native.Mathlib.Omega.{arith}
 use borrow.Author.Needs.{needs}
 use borrow.Author.Tests.{not-true, not-false}
 use denote.Ref.{now}
+use lib.ListN.{length}
 use lib.Seq.{length-take-le}
+use Rattle.base_settings.specs.Limits.{templateLimit, inputLimit}
+use Rattle.base_settings.proofs.Most.{template-most, input-most}
 use Rattle.template_nodes.specs.declared.Node.{Node}
 use Rattle.template_nodes.proofs.Encoding.{parsed-nodes, parsed-room}
-use Rattle.moment_parts.specs.Parts.{partsBy}
-use Rattle.moment_parts.proofs.Limits.{long-template, long-input, bad-template, by-nodes}
+use Rattle.moment_parts.specs.Parts.{partsRead}
+use Rattle.moment_parts.proofs.Limits.{long-template, long-input, bad-template, read-by}
 use Rattle.moment_parts.proofs.to_timestamp_parts.Statement.{statement}
 use Rattle.moment_parts.proofs.to_timestamp_parts.Tie as tie
 
+-- the way back from the test of the template's limit to the start
+abbrev start : tie.Else1 → tie.Start
+start c = c .before .before .before .before
+
+-- the template is within its limit, and so is the input
+short : (c : tie.Else1) → length (now (start c .args .t)) ≤ templateLimit (start c .args .set)
+short c = omega (arith, c .before .template-limit .ensures, c .if1 .left)
+
+small : (c : tie.Else2) → length (now (start (c .before .before) .args .s)) ≤ inputLimit (start (c .before .before) .args .set)
+small c = omega (arith, c .before .input-limit .ensures, c .if2 .left)
+
 -- the template is over its limit
 returns : tie.Need-returns
-returns c = let args = c .before .before .before .args in sym (long-template (now (args .t)) (now (args .s)) (c .if1 .taken))
+returns c = sym (long-template _ _ _ (omega (arith, c .before .template-limit .ensures, c .if1 .taken)))
 
 -- the input is over its limit
 returns-2 : tie.Need-returns-2
 returns-2 c =
-    let args = c .before .before .before .before .args in
-    sym (long-input (now (args .t)) (now (args .s)) (c .before .if1 .left) (c .if2 .taken))
+    let after-limit = c .before in
+    sym (long-input _ _ _ (short (after-limit .before)) (omega (arith, after-limit .input-limit .ensures, c .if2 .taken)))
 
 -- the template is not UTF-8
 returns-3 : tie.Need-returns-3
 returns-3 c =
     let within-limits = c .before .before in
-    let args = within-limits .before .before .before .before .args in
-    sym (bad-template (now (args .t)) (now (args .s)) (within-limits .before .if1 .left) (within-limits .if2 .left)
+    sym (bad-template _ _ _ (short (within-limits .before .before)) (small within-limits)
     (sym (c .before .is-utf8 .ensures) ∙ not-true _ (c .if3 .taken)))
+
+-- within their limits a template has at most 256 bytes and an input at most 512
+parse-format-requires : tie.Need-parse-format-requires
+parse-format-requires c κs =
+    let within-limit = c .before .before .before .before .before in
+    (omega (arith, short within-limit, template-most (start within-limit .args .set)), omega arith)
 
 -- the slice of the buffer is as long as the bytes of the nodes
 slice-aggregate-parts-within : tie.Need-slice-aggregate-parts-within
 slice-aggregate-parts-within c = sym (length-take-le _ _ (parsed-room (c .before .before .parse-format .ensures)))
+
+parts-within-requires : tie.Need-parts-within-requires
+parts-within-requires c κs =
+    let within-limits = c .before .before .before .before .before .before in
+    omega (arith, small within-limits, input-most (start (within-limits .before .before) .args .set))
 
 -- the input is read by the template's nodes
 returns-4 : tie.Need-returns-4
@@ -41,24 +67,26 @@ returns-4 c =
     let after-parse = c .before .before .before in
     let after-utf8-test = after-parse .before .before in
     let within-limits = after-utf8-test .before .before in
-    let args = within-limits .before .before .before .before .args in
+    let args = start (within-limits .before .before) .args in
     c .parts-within .ensures
-    ∙ ap (λ (ns : List Node). partsBy ns (now (args .t)) (now (args .s))) (parsed-nodes (after-parse .parse-format .ensures))
-    ∙ by-nodes (now (args .t)) (now (args .s)) (within-limits .before .if1 .left)
+    ∙ ap (λ (ns : List Node). partsRead ns (now (args .t)) (now (args .s))) (parsed-nodes (after-parse .parse-format .ensures))
+    ∙ read-by _ _ _ (short (within-limits .before .before)) (small within-limits)
     (sym (after-utf8-test .before .is-utf8 .ensures) ∙ not-false _ (after-utf8-test .if3 .left))
 
 pub to-timestamp-parts-spec : {M : Type 1} → statement M
 to-timestamp-parts-spec =
     tie.close
     (tie.spec
+    (λ c κs. search needs)
     returns
+    (λ c κs. search needs)
     returns-2
     (λ c κs. search needs)
     returns-3
     (λ c. search needs)
-    (λ c κs. search needs)
+    parse-format-requires
     (λ c. search needs)
     (λ c. search needs)
     slice-aggregate-parts-within
-    (λ c κs. search needs)
+    parts-within-requires
     returns-4)

@@ -1,11 +1,15 @@
 -- `write_text::write_by` meets its contract: each answer is its case of the definition. Assumes nothing.
 use mathlib.Core.Path.{_≡_, _∙_, sym}
 use mathlib.Core.Bool.{true}
+use Prim.Native.Nat.{_≤_}
 use native.Mathlib.Omega.{arith}
 use borrow.Author.Needs.{needs}
 use borrow.Author.Tests.{not-true, not-false}
 use denote.Ref.{now}
+use lib.ListN.{length}
+use Rattle.base_settings.proofs.Most.{template-most}
 use Rattle.write_pieces.specs.Moment.{isMoment}
+use Rattle.write_text.specs.Writer.{nodesLimit}
 use Rattle.write_text.proofs.Answers.{many, not-written, no-moment, no-room, wrote}
 use Rattle.write_text.proofs.write_by.Statement.{statement}
 use Rattle.write_text.proofs.write_by.Tie as tie
@@ -16,7 +20,11 @@ abbrev within-limit : tie.After-first-unwritten → tie.Else1
 within-limit after-search = after-search .before .before .before
 
 abbrev start : tie.After-first-unwritten → tie.Start
-start after-search = within-limit after-search .before .before .before .before
+start after-search = within-limit after-search .before .before .before .before .before
+
+-- the nodes are no more than a template has
+few : (c : tie.Else1) → length (now (c .before .before .before .before .before .args .c)) ≤ nodesLimit (c .before .before .before .before .before .args .set)
+few c = omega (arith, c .before .nodes-limit .ensures, c .if1 .left)
 
 abbrev all-written : tie.After-text-length → tie.Else2
 all-written after-length = after-length .before .before .before .before
@@ -27,14 +35,16 @@ moment c = sym (c .before .is-moment .ensures) ∙ not-false _ (c .if3 .left)
 
 -- there are too many nodes
 returns : tie.Need-returns
-returns c = let args = c .before .before .before .before .args in many (now (args .c)) (now (args .t)) (args .m) (now (args .out)) (c .if1 .taken)
+returns c =
+    let args = c .before .before .before .before .before .args in
+    many (args .set) (now (args .c)) (now (args .t)) (args .m) (now (args .out)) (omega (arith, c .before .nodes-limit .ensures, c .if1 .taken))
 
 -- a pattern is not written
 returns-2 : tie.Need-returns-2
 returns-2 c =
     let after-search = c .before in
     let args = start after-search .args in
-    not-written (now (args .c)) (now (args .t)) (args .m) (now (args .out)) (within-limit after-search .if1 .left)
+    not-written (args .set) (now (args .c)) (now (args .t)) (args .m) (now (args .out)) (few (within-limit after-search))
     _ (after-search .first-unwritten .ensures) (c .if2 .taken)
 
 -- the numbers are no moment
@@ -43,7 +53,7 @@ returns-3 c =
     let at-patterns = c .before .before in
     let after-search = at-patterns .before in
     let args = start after-search .args in
-    no-moment (now (args .c)) (now (args .t)) (args .m) (now (args .out)) (within-limit after-search .if1 .left)
+    no-moment (args .set) (now (args .c)) (now (args .t)) (args .m) (now (args .out)) (few (within-limit after-search))
     _ (after-search .first-unwritten .ensures) (at-patterns .if2 .left)
     (sym (c .before .is-moment .ensures) ∙ not-true _ (c .if3 .taken))
 
@@ -51,7 +61,7 @@ returns-3 c =
 text-length-requires : tie.Need-text-length-requires
 text-length-requires c κs =
     let after-search = c .before .before .before .before in
-    (after-search .before .before .table .ensures, moment (c .before), within-limit after-search .if1 .left)
+    (after-search .before .before .table .ensures, moment (c .before), omega (arith, few (within-limit after-search), template-most (start after-search .args .set)))
 
 -- the buffer is shorter than the text
 returns-4 : tie.Need-returns-4
@@ -60,7 +70,7 @@ returns-4 c =
     let at-patterns = all-written after-length in
     let after-search = at-patterns .before in
     let args = start after-search .args in
-    no-room (now (args .c)) (now (args .t)) (args .m) (now (args .out)) (within-limit after-search .if1 .left)
+    no-room (args .set) (now (args .c)) (now (args .t)) (args .m) (now (args .out)) (few (within-limit after-search))
     _ (after-search .first-unwritten .ensures) (at-patterns .if2 .left)
     (moment (after-length .before .before)) _ (after-length .text-length .ensures .0) (c .if4 .taken)
 
@@ -81,7 +91,7 @@ returns-5 c =
     let at-patterns = all-written after-length in
     let after-search = at-patterns .before in
     let args = start after-search .args in
-    wrote (now (args .c)) (now (args .t)) (args .m) (now (args .out)) (within-limit after-search .if1 .left)
+    wrote (args .set) (now (args .c)) (now (args .t)) (args .m) (now (args .out)) (few (within-limit after-search))
     _ (after-search .first-unwritten .ensures) (at-patterns .if2 .left)
     (moment (after-length .before .before)) _ (after-length .text-length .ensures .0) _ (at-room .if4 .left) (after-put .put-nodes .ensures)
 
@@ -89,6 +99,7 @@ pub write-by-spec : {M : Type 1} → statement M
 write-by-spec =
     tie.close
     (tie.spec
+    (λ c κs. search needs)
     returns
     (λ c κs. search needs)
     (λ c κs. search needs)

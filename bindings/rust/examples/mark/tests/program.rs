@@ -105,7 +105,7 @@ fn options_end_where_two_hyphens_are() {
 #[test]
 fn a_template_that_is_refused() {
     let long = answer(&[&"x".repeat(257)], "2024\n");
-    let wanted = "mark: the template is over 256 bytes, or the input over 512\n";
+    let wanted = "mark: the template is over 256 bytes, or the input over 512 (flash cards: 64 and 96)\n";
     assert_eq!((long.status, long.output(), &*long.errors), (2, "", wanted));
 
     let mut errors = Vec::new();

@@ -1,37 +1,15 @@
--- `sorbilgan::writing::sorbilgan_write` meets its contract: `put_written` records what `write` answers, whose length is
--- within the buffer's and so within 63 bits. Assumes nothing.
-use mathlib.Core.Path.{_∙_, sym}
-use Prim.Native.Nat.{_<_, _^_}
-use native.Mathlib.Omega.{arith}
+-- `sorbilgan::writing::sorbilgan_write` meets its contract: settings of 0 are those of the exercise pages, and the
+-- seven numbers are passed on. Assumes nothing.
 use borrow.Author.Needs.{needs}
-use denote.Ref.{now}
-use lib.ListN.{length}
-use Rattle.write_text.proofs.Room.{to-measured}
 use Rattle.sorbilgan.proofs.Passed.{moment-passed}
 use Rattle.sorbilgan.proofs.writing.sorbilgan_write.Statement.{statement}
 use Rattle.sorbilgan.proofs.writing.sorbilgan_write.Tie as tie
 
--- a buffer's length is within 63 bits
-room : (c : tie.Start) → length (now (c .args .text)) < 2 ^ 63
-room c = omega arith
-
--- so is the length of a text that has room in it
-put-written-requires : tie.Need-put-written-requires
-put-written-requires c κs n e =
-    let after-write = c .before .before .before in
-    let at-start = after-write .before .before .before .before .before in
-    omega (arith, room at-start, to-measured _ _ _ n (sym (after-write .write .ensures .is) ∙ e) .1)
-
 returns : tie.Need-returns
 returns c =
-    let after-write = c .before .before .before .before in
+    let after-write = c .before .before in
     let fits = after-write .before .before .before .before .before .fits in
-    let moment-is =
-    after-write .before .before .seven-numbers .ensures
-    ∙ moment-passed (fits .year) (fits .month) (fits .day) (fits .hour) (fits .minute) (fits .second) (fits .micros) in
-    let wrote = rw moment-is at (after-write .write .ensures) in
-    record { buffer = rw (wrote .is) at (wrote .buffer); recorded = rw (wrote .is) at (c .put-written .ensures) }
+    rw (moment-passed (fits .year) (fits .month) (fits .day) (fits .hour) (fits .minute) (fits .second) (fits .micros)) at (after-write .sorbilgan-write-with .ensures)
 
 pub sorbilgan-write-spec : {M : Type 1} → statement M
-sorbilgan-write-spec =
-    tie.close (tie.spec (λ c κs. search needs) (λ c κs. search needs) put-written-requires (λ c. search needs) returns)
+sorbilgan-write-spec = tie.close (tie.spec (λ c κs. search needs) (λ c. search needs) returns)

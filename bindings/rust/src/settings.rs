@@ -1,0 +1,109 @@
+use crate::{INPUT_LIMIT, TEMPLATE_LIMIT};
+use sorbilgan_sys::CARDS;
+
+/// What a caller sets for its templates: whether they have the limits of the exercise pages or of the flash cards.
+///
+/// [`Template::compile_with`](crate::Template::compile_with) takes them, and all else has the default, that of the
+/// exercise pages. Within the smaller limits both get the same answers:
+///
+/// ```
+/// use sorbilgan::{Cause, Settings, Template};
+///
+/// let page = Template::compile("DD.MM.YYYY")?;
+/// let card = Template::compile_with("DD.MM.YYYY", Settings::new().cards(true))?;
+/// assert_eq!(page.date("29.02.2024"), Ok(19_782));
+/// assert_eq!(card.date("29.02.2024"), Ok(19_782));
+///
+/// let long = format!("{:97}", "29.02.2024");
+/// assert_eq!(page.date(&long), Ok(19_782));
+/// assert_eq!(card.date(&long).unwrap_err().cause(), Cause::TooLong);
+/// # Ok::<(), sorbilgan::Refusal>(())
+/// ```
+///
+/// Later versions may have more settings, so they are made by [`Settings::new`] and the methods that set one of them.
+#[derive(Debug, Clone, Copy, PartialEq, Eq, PartialOrd, Ord, Hash, Default)]
+#[cfg_attr(feature = "serde", derive(serde::Serialize, serde::Deserialize), serde(default))]
+#[non_exhaustive]
+pub struct Settings {
+    cards: bool,
+}
+
+impl Settings {
+    /// The default settings, those of the exercise pages.
+    ///
+    /// ```
+    /// use sorbilgan::{Settings, Template};
+    ///
+    /// assert_eq!(Settings::new(), Settings::default());
+    /// assert_eq!(Template::compile("YYYY")?.settings(), Settings::new());
+    /// # Ok::<(), sorbilgan::Refusal>(())
+    /// ```
+    #[must_use]
+    pub const fn new() -> Settings {
+        Settings { cards: false }
+    }
+
+    /// Sets whether the limits are those of the flash cards: 64 bytes of a template and 96 of an input.
+    ///
+    /// ```
+    /// use sorbilgan::Settings;
+    ///
+    /// const CARDS: Settings = Settings::new().cards(true);
+    /// assert_eq!((CARDS.template_limit(), CARDS.input_limit()), (64, 96));
+    /// assert_eq!(CARDS.cards(false), Settings::new());
+    /// ```
+    #[must_use]
+    pub const fn cards(self, cards: bool) -> Settings {
+        Settings { cards, ..self }
+    }
+
+    /// The most bytes of a template: [`TEMPLATE_LIMIT`], or less.
+    ///
+    /// ```
+    /// use sorbilgan::{Cause, Settings, Template};
+    ///
+    /// let cards = Settings::new().cards(true);
+    /// assert!(Template::compile_with("-".repeat(cards.template_limit()), cards).is_ok());
+    /// let refusal = Template::compile_with("-".repeat(cards.template_limit() + 1), cards).unwrap_err();
+    /// assert_eq!(refusal.cause(), Cause::TooLong);
+    /// ```
+    #[must_use]
+    pub const fn template_limit(self) -> usize {
+        if self.cards {
+            64
+        } else {
+            TEMPLATE_LIMIT
+        }
+    }
+
+    /// The most bytes of an input, and of a text that [`Template::format`](crate::Template::format) gives:
+    /// [`INPUT_LIMIT`], or less.
+    ///
+    /// ```
+    /// use sorbilgan::{Cause, Settings, Template};
+    ///
+    /// let cards = Settings::new().cards(true);
+    /// let template = Template::compile_with("YYYY", cards)?;
+    /// let line = |length| format!("{:length$}", "2024");
+    /// assert!(template.read(line(cards.input_limit())).is_ok());
+    /// assert_eq!(template.read(line(cards.input_limit() + 1)).unwrap_err().cause(), Cause::TooLong);
+    /// # Ok::<(), sorbilgan::Refusal>(())
+    /// ```
+    #[must_use]
+    pub const fn input_limit(self) -> usize {
+        if self.cards {
+            96
+        } else {
+            INPUT_LIMIT
+        }
+    }
+
+    /// The settings as the library takes them.
+    pub(crate) const fn bits(self) -> u32 {
+        if self.cards {
+            CARDS
+        } else {
+            0
+        }
+    }
+}

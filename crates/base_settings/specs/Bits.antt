@@ -1,0 +1,25 @@
+-- Settings as the bits of a number, as other languages give them.
+use mathlib.Core.Path.{_≡_, refl}
+use Prim.Native.Nat.{ℕ}
+use lib.Bits.{bitAnd}
+use lib.Dec.{eqb}
+use Rattle.base_notation.specs.Choice.{if_then_else_}
+use Rattle.base_settings.specs.Limits.{cardLimits, pageLimits, pages, withLimits}
+use Rattle.base_settings.specs.declared.Limits.{Limits}
+use Rattle.base_settings.specs.declared.Settings.{Settings}
+
+-- the bit of the flash cards
+abbrev pub cardsBit : ℕ
+cardsBit = 4
+
+abbrev pub limitsOf : ℕ → Limits
+limitsOf bits = if eqb (bitAnd bits cardsBit) 0 then pageLimits else cardLimits
+
+-- the settings; bits that mean nothing are ignored
+abbrev pub settingsOf : ℕ → Settings
+settingsOf bits = record { limits = limitsOf bits }
+
+-- no bit is the exercise pages, 4 the flash cards; 8 means nothing, by itself and beside 4
+pub worked
+    : (settingsOf 0 ≡ pages) × (settingsOf 4 ≡ withLimits cardLimits pages) × (settingsOf 8 ≡ settingsOf 0) × (settingsOf 12 ≡ settingsOf 4)
+worked = (refl, refl, refl, refl)

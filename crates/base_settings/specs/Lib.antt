@@ -1,0 +1,6 @@
+-- What differs from caller to caller.
+
+-- the limits of a template and of an input, and who has which
+pub mod Limits
+-- settings as the bits of a number
+pub mod Bits
