@@ -4,7 +4,7 @@ use Prim.Native.Nat.{ℕ}
 use lib.Bits.{bitAnd}
 use lib.Dec.{eqb}
 use Rattle.base_notation.specs.Choice.{if_then_else_}
-use Rattle.base_settings.specs.Limits.{cardLimits, pageLimits, pages, withLimits}
+use Rattle.base_settings.specs.Limits.{cardLimits, cards, pageLimits, pages}
 use Rattle.base_settings.specs.declared.Limits.{Limits}
 use Rattle.base_settings.specs.declared.Settings.{Settings}
 
@@ -21,5 +21,5 @@ settingsOf bits = record { limits = limitsOf bits }
 
 -- no bit is the exercise pages, 4 the flash cards; 8 means nothing, by itself and beside 4
 pub worked
-    : (settingsOf 0 ≡ pages) × (settingsOf 4 ≡ withLimits cardLimits pages) × (settingsOf 8 ≡ settingsOf 0) × (settingsOf 12 ≡ settingsOf 4)
+    : (settingsOf 0 ≡ pages) × (settingsOf 4 ≡ cards) × (settingsOf 8 ≡ settingsOf 0) × (settingsOf 12 ≡ settingsOf 4)
 worked = (refl, refl, refl, refl)

@@ -18,9 +18,12 @@ cardLimits = limits 64 96
 abbrev pub withLimits : Limits → Settings → Settings
 withLimits l set = record { limits = l }
 
--- the settings of the exercise pages, and of whoever names none
+-- the settings of the exercise pages, and of whoever names none; those of the flash cards
 abbrev pub pages : Settings
 pages = record { limits = pageLimits }
+
+abbrev pub cards : Settings
+cards = withLimits cardLimits pages
 
 -- the limit of a template, and that of an input: the caller's own, and never more than the greatest
 unfoldable pub templateLimit : Settings → ℕ
@@ -37,7 +40,7 @@ limits-compute = 0
 -- the two callers; limits of 300 and 100 bytes are those of 256 and 100
 pub worked
     : (templateLimit pages ≡ 256) × (inputLimit pages ≡ 512)
-    × (templateLimit (withLimits cardLimits pages) ≡ 64) × (inputLimit (withLimits cardLimits pages) ≡ 96)
+    × (templateLimit cards ≡ 64) × (inputLimit cards ≡ 96)
     × (templateLimit (withLimits (limits 300 100) pages) ≡ 256) × (inputLimit (withLimits (limits 300 100) pages) ≡ 100)
 unfolding limits-compute
 worked = (refl, refl, refl, refl, refl, refl)

@@ -1,16 +1,18 @@
--- Worked examples: the table P1 to P15, proved in one statement. Each answer is as users see it: the numbers of a
--- moment, or a refusal's number, the name of its pattern and its two figures.
+-- Worked examples: the limits, and the table P1 to P15, proved in one statement. In the table each answer is as users
+-- see it: the numbers of a moment, or a refusal's number, the name of its pattern and its two figures.
 use mathlib.Core.Path.{_≡_, refl}
-use mathlib.Core.List.{List}
+use mathlib.Core.List.{List, []}
 use Prim.Native.Nat.{ℕ}
 use Prim.Native.String.{String}
 use lib.IntN.{ℤ, pos}
+use lib.ListN.{replicate}
 use Rattle.moment_date.specs.Dates.{date-computes}
 use Rattle.moment_time.specs.Time.{time-computes}
 use Rattle.read_input.specs.Examples.{reading-computes}
 use Rattle.base_notation.specs.Text.{utf8}
-use Rattle.base_settings.specs.Limits.{limits-compute, pages}
+use Rattle.base_settings.specs.Limits.{cards, limits-compute, pages}
 use Rattle.base_refusals.specs.Report.{reportOf}
+use Rattle.base_refusals.specs.declared.Refusal.the-variants.{NotUtf8, TooLong}
 use Rattle.base_refusals.specs.declared.Report.{Report}
 use Rattle.base_chars.specs.Utf8.{sequence, wellFormedAfter}
 use Rattle.moment_parts.specs.Parts.{checkedMoment, momentOf, partsOf, partsRead}
@@ -77,3 +79,13 @@ Table =
 pub table : Table
 unfolding partsOf partsRead limits-compute momentOf checkedMoment reportOf patternName wellFormedAfter sequence reading-computes time-computes date-computes
 table = (refl, refl, refl, refl, refl, refl, refl, refl, refl, refl, refl, refl, refl, refl, refl, refl, refl, refl)
+
+-- each caller has its own limits, which are tested before UTF-8: 64 and 96 bytes for the flash cards, 256 and 512 for
+-- the exercise pages; 0xff is no UTF-8
+pub limited
+    : (partsOf cards (replicate 64 0xff) [] ≡ Refused NotUtf8) × (partsOf cards (replicate 65 0xff) [] ≡ Refused TooLong)
+    × (partsOf cards [] (replicate 96 0xff) ≡ Refused NotUtf8) × (partsOf cards [] (replicate 97 0xff) ≡ Refused TooLong)
+    × (partsOf pages (replicate 256 0xff) [] ≡ Refused NotUtf8) × (partsOf pages (replicate 257 0xff) [] ≡ Refused TooLong)
+    × (partsOf pages [] (replicate 512 0xff) ≡ Refused NotUtf8) × (partsOf pages [] (replicate 513 0xff) ≡ Refused TooLong)
+unfolding partsOf partsRead limits-compute wellFormedAfter sequence
+limited = (refl, refl, refl, refl, refl, refl, refl, refl)

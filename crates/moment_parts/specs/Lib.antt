@@ -6,5 +6,5 @@ pub mod Parts
 pub mod Ranges
 -- which pattern a refusal names
 pub mod Patterns
--- worked examples: the table P1 to P15
+-- worked examples: the table P1 to P15, and the limits
 pub mod Examples

@@ -18,8 +18,8 @@ pub record Within (set : Settings) (t s : List ℕ) : Type 0 where
   pub template : length t ≤ templateLimit set
   pub input : length s ≤ inputLimit set
 
--- two callers get equal answers to a template and an input: each time, compiled, and by nodes, of which there are any
--- in reading, and no more than a template has in writing
+-- two callers get equal answers to a template and an input: with the template each time, where it is compiled, and by
+-- nodes. Reading takes any nodes, writing no more than a template of either caller has
 pub record EqualAnswers (a b : Settings) (t s : List ℕ) : Type 0 where
   pub parts : partsOf a t s ≡ partsOf b t s
   pub instant : timestampOf a t s ≡ timestampOf b t s

@@ -6,7 +6,7 @@ use Prim.Native.Nat.{ℕ}
 use lib.Dec.{ltb}
 use lib.IntN.{ℤ, pos, negsuc}
 use lib.ListN.{length, drop, replicate}
-use Rattle.base_settings.specs.Limits.{cardLimits, limits-compute, pages, templateLimit, withLimits}
+use Rattle.base_settings.specs.Limits.{cards, limits-compute, pages, templateLimit}
 use Rattle.base_settings.specs.declared.Settings.{Settings}
 use Rattle.base_notation.specs.Choice.{if_then_else_}
 use Rattle.base_notation.specs.Text.{utf8}
@@ -47,8 +47,8 @@ worked = (refl, refl, refl, refl)
 
 -- 65 bytes are too many for the flash cards, also where they are no UTF-8
 pub limited
-    : (compiledTo (withLimits cardLimits pages) (replicate 64 0xff) ≡ negsuc 1)
-    × (compiledTo (withLimits cardLimits pages) (replicate 65 0xff) ≡ negsuc 0)
+    : (compiledTo cards (replicate 64 0xff) ≡ negsuc 1)
+    × (compiledTo cards (replicate 65 0xff) ≡ negsuc 0)
     × (compiledTo pages (replicate 65 0xff) ≡ negsuc 1)
 unfolding compiledTo limits-compute wellFormedAfter sequence
 limited = (refl, refl, refl)

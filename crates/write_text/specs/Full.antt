@@ -11,7 +11,7 @@ use lib.ListN.{length, replicate}
 use Rattle.base_notation.specs.Choice.{if_then_else_}
 use Rattle.base_notation.specs.Text.{utf8}
 use Rattle.base_chars.specs.Utf8.{sequence, wellFormed, wellFormedAfter}
-use Rattle.base_settings.specs.Limits.{cardLimits, limits-compute, pages, templateLimit, withLimits}
+use Rattle.base_settings.specs.Limits.{cards, limits-compute, pages, templateLimit}
 use Rattle.base_settings.specs.declared.Settings.{Settings}
 use Rattle.template_patterns.specs.Search.{countFrom}
 use Rattle.template_nodes.specs.Examples.{nodes-compute}
@@ -89,7 +89,7 @@ abbrev dashes : ℕ → List ℕ
 dashes n = replicate n (code "-") ++ utf8 "YYYYDDDSSSSSUS"
 
 pub limited
-    : (isFull pages (dashes 50) ≡ true) × (isFull (withLimits cardLimits pages) (dashes 50) ≡ true)
-    × (isFull pages (dashes 51) ≡ true) × (isFull (withLimits cardLimits pages) (dashes 51) ≡ false)
+    : (isFull pages (dashes 50) ≡ true) × (isFull cards (dashes 50) ≡ true)
+    × (isFull pages (dashes 51) ≡ true) × (isFull cards (dashes 51) ≡ false)
 unfolding isFull limits-compute areFull times pieces firstUnwritten pieceOf nodes-compute wellFormedAfter sequence
 limited = (refl, refl, refl, refl)

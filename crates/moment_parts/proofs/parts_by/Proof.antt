@@ -9,19 +9,17 @@ use Rattle.moment_parts.proofs.parts_by.Tie as tie
 
 -- the input is over its limit
 returns : tie.Need-returns
-returns c = input-long _ _ _ _ (omega (arith, c .before .input-limit .ensures, c .if1 .taken))
+returns c = input-long _ _ _ _ (omega arith)
 
 -- within it an input has at most 512 bytes
 parts-within-requires : tie.Need-parts-within-requires
 parts-within-requires c κs =
     let args = c .before .before .before .before .before .args in
-    omega (arith, c .before .input-limit .ensures, c .if1 .left, input-most (args .set))
+    omega (arith, input-most (args .set))
 
 -- the input is read
 returns-2 : tie.Need-returns-2
-returns-2 c =
-    let within-limit = c .before in
-    c .parts-within .ensures ∙ input-within _ _ _ _ (omega (arith, within-limit .before .input-limit .ensures, within-limit .if1 .left))
+returns-2 c = c .parts-within .ensures ∙ input-within _ _ _ _ (omega arith)
 
 pub parts-by-spec : {M : Type 1} → statement M
 parts-by-spec = tie.close (tie.spec (λ c κs. search needs) returns parts-within-requires returns-2)

@@ -24,20 +24,18 @@ start c = c .before .before .before .before
 
 -- the template is within its limit, and so is the input
 short : (c : tie.Else1) → length (now (start c .args .t)) ≤ templateLimit (start c .args .set)
-short c = omega (arith, c .before .template-limit .ensures, c .if1 .left)
+short c = omega arith
 
 small : (c : tie.Else2) → length (now (start (c .before .before) .args .s)) ≤ inputLimit (start (c .before .before) .args .set)
-small c = omega (arith, c .before .input-limit .ensures, c .if2 .left)
+small c = omega arith
 
 -- the template is over its limit
 returns : tie.Need-returns
-returns c = sym (long-template _ _ _ (omega (arith, c .before .template-limit .ensures, c .if1 .taken)))
+returns c = sym (long-template _ _ _ (omega arith))
 
 -- the input is over its limit
 returns-2 : tie.Need-returns-2
-returns-2 c =
-    let after-limit = c .before in
-    sym (long-input _ _ _ (short (after-limit .before)) (omega (arith, after-limit .input-limit .ensures, c .if2 .taken)))
+returns-2 c = sym (long-input _ _ _ (short (c .before .before)) (omega arith))
 
 -- the template is not UTF-8
 returns-3 : tie.Need-returns-3

@@ -7,7 +7,7 @@ use Rattle.write_text.proofs.nodes_limit.Statement.{statement}
 use Rattle.write_text.proofs.nodes_limit.Tie as tie
 
 mul-result : tie.Need-mul-result
-mul-result c = omega (arith, c .template-limit .ensures, template-most (c .before .args .set))
+mul-result c = omega (arith, template-most (c .before .args .set))
 
 pub nodes-limit-spec : {M : Type 1} → statement M
 nodes-limit-spec = tie.close (tie.spec (λ c κs. search needs) mul-result (λ c. search needs))

@@ -25,7 +25,7 @@ start c = c .before .before .before .before
 
 -- the template is within its limit
 short : (c : tie.Else1) → length (now (start c .args .t)) ≤ templateLimit (start c .args .set)
-short c = omega (arith, c .before .template-limit .ensures, c .if1 .left)
+short c = omega arith
 
 -- the bytes of its nodes are six for each of its own at the most
 few-bytes : {limit : ℕ} (t : List ℕ) {before after : List ℕ} {r : ℕ} → length t ≤ limit → Parsed (nodesOf t) before after r
@@ -35,7 +35,7 @@ few-bytes t {after = after} {r = r} short p =
 
 -- the template is over its limit
 returns : tie.Need-returns
-returns c = too-long _ _ _ _ (omega (arith, c .before .template-limit .ensures, c .if1 .taken))
+returns c = too-long _ _ _ _ (omega arith)
 
 -- the template is not UTF-8
 returns-2 : tie.Need-returns-2

@@ -24,7 +24,7 @@ start after-search = within-limit after-search .before .before .before .before .
 
 -- the nodes are no more than a template has
 few : (c : tie.Else1) → length (now (c .before .before .before .before .before .args .c)) ≤ nodesLimit (c .before .before .before .before .before .args .set)
-few c = omega (arith, c .before .nodes-limit .ensures, c .if1 .left)
+few c = omega arith
 
 abbrev all-written : tie.After-text-length → tie.Else2
 all-written after-length = after-length .before .before .before .before
@@ -37,7 +37,7 @@ moment c = sym (c .before .is-moment .ensures) ∙ not-false _ (c .if3 .left)
 returns : tie.Need-returns
 returns c =
     let args = c .before .before .before .before .before .args in
-    many (args .set) (now (args .c)) (now (args .t)) (args .m) (now (args .out)) (omega (arith, c .before .nodes-limit .ensures, c .if1 .taken))
+    many (args .set) (now (args .c)) (now (args .t)) (args .m) (now (args .out)) (omega arith)
 
 -- a pattern is not written
 returns-2 : tie.Need-returns-2

@@ -20,11 +20,11 @@ limit c = c .template-limit .ensures ∙ ap templateLimit (c .before .settings-o
 
 -- the template is within it
 short : (c : tie.Else1) → length (now (c .before .before .before .before .args .t)) ≤ templateLimit (settingsOf (c .before .before .before .before .args .settings))
-short c = omega (arith, limit (c .before), c .if1 .left)
+short c = omega (arith, limit (c .before))
 
 -- over the limit: -1
 returns : tie.Need-returns
-returns c = long _ _ _ (omega (arith, limit (c .before), c .if1 .taken))
+returns c = long _ _ _ (omega (arith, limit (c .before)))
 
 -- not UTF-8: -2
 returns-2 : tie.Need-returns-2
