@@ -48,9 +48,9 @@ __attribute__((used)) static uint32_t (*const sorbilgan_linked)(void) = sorbilga
 #define SORBILGAN_CARDS_INPUT_LIMIT 96
 
 /*
- * Settings are a number of bits. The functions whose names end in _with take them; all others have settings 0, those of
- * the exercise pages. SORBILGAN_CARDS sets the limits of the flash cards. Bits without a name are ignored, but a later
- * version may name them, so leave them 0.
+ * Settings are the bits of a number. The functions whose names end in _with take them; all others have settings 0,
+ * those of the exercise pages. SORBILGAN_CARDS sets the limits of the flash cards. Bits without a name are ignored, but
+ * a later version may name them, so leave them 0.
  */
 #define SORBILGAN_CARDS 4u
 
