@@ -1,10 +1,27 @@
-//! Writes the declarations by which the ported module's files are built where they stand, unchanged. `SOURCES` names their folder.
+//! Writes the declarations by which the ported module's files are built where they stand. `SOURCES` names their folder.
+//! Two lines are added to formatting.rs, and nothing else is changed. With `UNMARKED` set the first of them, which
+//! notes what is set, is left out: the speed that is measured is the module's own.
 
 use std::path::PathBuf;
 use std::{env, fs};
 
+/// The end of the module's check of the date, and the beginning of its check of the time.
+const DATE_CHECKED: &str = "        if bad {\n            return Err(overflow());\n        }\n    }\n";
+const TIME_CHECKED: &str = "    if tm.hour < 0\n";
+/// Between them: which of year, month and day are set, the month and the day.
+const NOTE: &str = "    answers::note(fmask, tm.mon, tm.mday);\n";
+
+/// The module with the note in its place.
+fn noting(formatting: &str) -> String {
+    let place = [DATE_CHECKED, TIME_CHECKED].concat();
+    let found = formatting.matches(&place).count();
+    assert!(found == 1, "formatting.rs goes from the date's check to the time's in {found} places, and not in one");
+    formatting.replace(&place, &[DATE_CHECKED, NOTE, TIME_CHECKED].concat())
+}
+
 fn main() {
     println!("cargo:rerun-if-env-changed=SOURCES");
+    println!("cargo:rerun-if-env-changed=UNMARKED");
     let folder = env::var("SOURCES").expect("SOURCES names the folder of the ported module");
     let folder = fs::canonicalize(folder).expect("the folder of the ported module can be read");
     let source = |name: &str| {
@@ -19,7 +36,9 @@ fn main() {
     // The functions of formatting.rs are private, but in reach of a module inside it: a line after its text declares that module.
     let declared = format!("#[path = {:?}]\npub mod answers;\n", here.join("src/answers/mod.rs"));
     let formatting = out.join("formatting.rs");
-    fs::write(&formatting, read(source("formatting")) + "\n" + &declared).unwrap();
+    let ported = read(source("formatting"));
+    let ported = if env::var_os("UNMARKED").is_some() { ported } else { noting(&ported) };
+    fs::write(&formatting, ported + "\n" + &declared).unwrap();
 
     // Of date.rs only its constants: the rest leans on a parser that is not there.
     let date = read(source("date"));

@@ -142,8 +142,8 @@ class Asked:
         """With the template and by its nodes. The text of a full template is read as the moment."""
         lengths = len(self.template), len(typed)
         is_text = self.is_text and is_utf8(typed)
-        for mode, size in MODES.items():
-            owed = accepted(values_due(mode, self.moment), size) if typed == self.text else None
+        for mode in MODES:
+            owed = accepted(values_due(mode, self.moment)) if typed == self.text else None
             given = mode, self.template, typed
             owed = self.ask(self.library.read, given, lengths, is_text, READ_REFUSED[mode], owed)
             if self.nodes is not None:
@@ -159,7 +159,7 @@ class Asked:
         length = len(self.template if text is None else text)
         room = self.random_.choice((512, 512, 512, CARDS.typed, min(length, 512), max(min(length, 512) - 1, 0)))
         if text is not None and length <= room:
-            owed = (*accepted((length,), 5), text + (TEXT_BUFFER - length) * FILLER)
+            owed = (*accepted((length,)), text + (TEXT_BUFFER - length) * FILLER)
         if text is not None and length > len(self.template) + LONGER:
             sys.exit(f"{self.template} has the text {text}, which is longer than it may be")
         given, lengths = (self.moment, room, self.template), (len(self.template),)

@@ -6,7 +6,7 @@ import tempfile
 from pathlib import Path
 
 # for each mode that reads: how many numbers its answer has
-MODES = {"parts": 14, "instant": 5, "date": 5}
+MODES = {"parts": 15, "instant": 5, "date": 5}
 NODES, NODE = 1536, 6
 NO_PATTERN = 112
 # what an answer or a buffer holds before a call, so that a byte too many or too few shows
@@ -28,9 +28,9 @@ def refusal(number, size):
     return (number, NO_PATTERN, *(size - 2) * (0,))
 
 
-def accepted(values, size):
-    """The whole answer that begins with these values; those after them are 0."""
-    return (0, NO_PATTERN, 0, 0, *values, *(size - 4 - len(values)) * (0,))
+def accepted(values):
+    """The whole answer with these values."""
+    return (0, NO_PATTERN, 0, 0, *values)
 
 
 class Buffer:

@@ -14,6 +14,8 @@ EPOCH = datetime(1970, 1, 1)
 HOURS = (0, 1, 11, 12, 13, 23)
 # which of a moment's seven numbers, and what no moment has there
 WRONG = ((0, 0), (0, 10000), (1, 0), (1, 13), (2, 32), (3, 24), (3, -1), (5, 60), (6, 1_000_000))
+# the marks of a date whose year, month and day are set
+WHOLE = 7
 
 
 def digits(moment):
@@ -84,17 +86,18 @@ def write(program, questions):
 
 
 def values_due(mode, moment):
-    """What a moment's text is read as: the seven numbers, the microseconds or the days since 1970-01-01."""
+    """What a moment's text is read as: the microseconds or days since 1970-01-01; or the seven numbers, and after them
+    no precision, no offset and the marks of a whole date."""
     since = datetime(*moment) - EPOCH
     if mode == "instant":
         return (since // timedelta(microseconds=1),)
-    return (since.days,) if mode == "date" else moment
+    return (since.days,) if mode == "date" else (*moment, 0, 0, 0, WHOLE)
 
 
 def read_due(mode, moment):
-    """The same as the line program says it; the parts have no precision and no offset."""
-    rest = " 0 none" if mode == "parts" else ""
-    return f"0 {' '.join(map(str, values_due(mode, moment)))}{rest}".encode()
+    """The same as the line program says it."""
+    values = (*moment, 0, "none", WHOLE) if mode == "parts" else values_due(mode, moment)
+    return f"0 {' '.join(map(str, values))}".encode()
 
 
 def read_back(program, full):

@@ -15,27 +15,28 @@ DAYS = "Sunday Monday Tuesday Wednesday Thursday Friday Saturday".split()
 
 
 def month(k):
-    return 0, k + 1, 7, 0
+    return 0, k + 1, 7, 0, 6
 
 
 def roman_month(k):
-    return 0, 12 - k, 7, 0
+    return 0, 12 - k, 7, 0, 6
 
 
 def weekday(k):
     """The day of the first ISO week of 2024, which begins on Monday, 1 January."""
-    return 2024, 1, k or 7, 0
+    return 2024, 1, k or 7, 0, 7
 
 
 def half_day(k):
-    return 0, 1, 1, 7 + 12 * (k % 2)
+    return 0, 1, 1, 7 + 12 * (k % 2), 0
 
 
 def era(k):
-    return 1 - 2024 if k % 2 else 2024, 1, 1, 0
+    return 1 - 2024 if k % 2 else 2024, 1, 1, 0, 1
 
 
-# for each pattern: its words in formatting.c's order, the template and the text after it, the parts by the word's index
+# For each pattern: its words in formatting.c's order, the template and the text after it; and by the word's index year,
+# month, day, hour, and the marks of what is set: year 1, month 2, day 4.
 LISTS = {
     "Month": (MONTHS, "DD", b"07", month),
     "Mon": ([m[:3] for m in MONTHS], "DD", b"07", month),
@@ -119,8 +120,8 @@ def question(random_):
     k, length = found
     if not re.match(what_follows + rb"(?!\d)", text[at + length :]):
         return None
-    year, month_, day, hour = parts(k)
-    return template, text, f"0 {year} {month_} {day} {hour} 0 0 0 0 none"
+    year, month_, day, hour, marks = parts(k)
+    return template, text, f"0 {year} {month_} {day} {hour} 0 0 0 0 none {marks}"
 
 
 def main():

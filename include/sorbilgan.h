@@ -21,7 +21,7 @@ extern "C" {
 #endif
 
 /* The version of this header. sorbilgan_version() is the library's, for callers that do not include this header. */
-#define SORBILGAN_VERSION 2
+#define SORBILGAN_VERSION 3
 
 uint32_t sorbilgan_version(void);
 
@@ -30,7 +30,7 @@ uint32_t sorbilgan_version(void);
  * includes this header asks for the function. A file that uses only types and constants, and is linked without the
  * library, defines SORBILGAN_NO_LINK_CHECK before it includes this header.
  */
-uint32_t sorbilgan_version_2(void);
+uint32_t sorbilgan_version_3(void);
 
 #if defined(__GNUC__) && !defined(SORBILGAN_NO_LINK_CHECK)
 #ifdef __has_attribute
@@ -38,7 +38,7 @@ uint32_t sorbilgan_version_2(void);
 __attribute__((retain))
 #endif
 #endif
-__attribute__((used)) static uint32_t (*const sorbilgan_linked)(void) = sorbilgan_version_2;
+__attribute__((used)) static uint32_t (*const sorbilgan_linked)(void) = sorbilgan_version_3;
 #endif
 
 /* The limits of a template and of an input, in bytes: first those of the exercise pages, then of the flash cards. */
@@ -49,9 +49,11 @@ __attribute__((used)) static uint32_t (*const sorbilgan_linked)(void) = sorbilga
 
 /*
  * Settings are the bits of a number. The functions whose names end in _with take them; all others have settings 0,
- * those of the exercise pages. SORBILGAN_CARDS sets the limits of the flash cards. Bits without a name are ignored, but
- * a later version may name them, so leave them 0.
+ * those of the exercise pages. SORBILGAN_STRICT refuses a day that its month never has, in exercises without a year;
+ * SORBILGAN_CARDS sets the limits of the flash cards; the two may be combined. Bits without a name are ignored, but a
+ * later version may name them, so leave them 0.
  */
+#define SORBILGAN_STRICT 2u
 #define SORBILGAN_CARDS 4u
 
 /* The room for a compiled template, in bytes, whatever the settings. */
@@ -89,8 +91,17 @@ enum sorbilgan_refusal {
     SORBILGAN_DATE_RANGE = 18,        /* date: outside 32 bits, or at one of their ends */
     SORBILGAN_NOT_WRITTEN = 19,       /* write: not written, not so prefixed or suffixed, or without FM: pattern */
     SORBILGAN_NO_MOMENT = 20,         /* write: no moment of the years 1 to 9999 */
-    SORBILGAN_NO_ROOM = 21            /* write: a text longer than its buffer: the length needed */
+    SORBILGAN_NO_ROOM = 21,           /* write: a text longer than its buffer: the length needed */
+    SORBILGAN_NO_SUCH_DAY = 25        /* strict: month and day without a year, and the month never has that day */
 };
+
+/*
+ * The bits of marks. A part is set by its own pattern or by another: J and IW set all three, DDD month and day, CC the
+ * year. One that is read as 0 is not set. A part that is not set has its default: year 0, month 1, day 1.
+ */
+#define SORBILGAN_YEAR_SET 1
+#define SORBILGAN_MONTH_SET 2
+#define SORBILGAN_DAY_SET 4
 
 /*
  * The parts of a moment. A refusal leaves all after the second figure 0; an accepted text is number 0, without pattern
@@ -111,6 +122,7 @@ struct sorbilgan_parts_answer {
     int64_t precision; /* of FF1 to FF6: 1 to 6, else 0 */
     int64_t zoned;     /* 1 where the text has an offset, else 0 */
     int64_t offset;    /* in seconds east */
+    int64_t marks;     /* which of year, month and day are set: 0 to 7 */
 };
 
 /* A single value: what it counts is said at the functions. A refusal leaves it 0. */
@@ -134,10 +146,10 @@ struct sorbilgan_moment {
 };
 
 #if defined(__cplusplus) && __cplusplus >= 201103L
-static_assert(sizeof(struct sorbilgan_parts_answer) == 14 * sizeof(int64_t), "the answer is 14 numbers");
+static_assert(sizeof(struct sorbilgan_parts_answer) == 15 * sizeof(int64_t), "the answer is 15 numbers");
 static_assert(sizeof(struct sorbilgan_value_answer) == 5 * sizeof(int64_t), "the answer is 5 numbers");
 #elif defined(__STDC_VERSION__) && __STDC_VERSION__ >= 201112L
-_Static_assert(sizeof(struct sorbilgan_parts_answer) == 14 * sizeof(int64_t), "the answer is 14 numbers");
+_Static_assert(sizeof(struct sorbilgan_parts_answer) == 15 * sizeof(int64_t), "the answer is 15 numbers");
 _Static_assert(sizeof(struct sorbilgan_value_answer) == 5 * sizeof(int64_t), "the answer is 5 numbers");
 #endif
 
@@ -201,6 +213,10 @@ uint8_t sorbilgan_write_by(const uint8_t *nodes, size_t nodes_length, const char
  * an input over 96 is refused with 1 (sorbilgan_compile_with: -1), and writing refuses more than 384 bytes of nodes
  * with 1. Nothing else differs: within these limits the answers are equal, and so are the nodes that a template is
  * compiled to. The room for nodes stays SORBILGAN_NODES, and that for a text is the caller's own.
+ *
+ * With SORBILGAN_STRICT reading refuses with 25 where month and day are set, the year is not, and the month has that
+ * day in no year: 30 February, but not 29. This is tested after the ranges of month and day, and before those of time
+ * and offset. Nothing else differs, and writing and compiling ignore it.
  */
 uint8_t sorbilgan_parts_with(uint32_t settings, const char *template_text, size_t template_length, const char *input,
                              size_t input_length, struct sorbilgan_parts_answer *answer);
@@ -253,7 +269,7 @@ size_t sorbilgan_pattern(uint8_t pattern, char name[SORBILGAN_NAME]);
 #define SORBILGAN_INT32(number) ((int32_t)(number))
 #endif
 
-/* The moment of an accepted answer, without its offset and precision. */
+/* The moment of an accepted answer, without its offset, precision and marks. */
 SORBILGAN_INLINE struct sorbilgan_moment sorbilgan_moment_of(const struct sorbilgan_parts_answer *parts) {
     struct sorbilgan_moment moment;
 

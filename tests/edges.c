@@ -1,7 +1,7 @@
 /*
  * What include/sorbilgan.h says beside the answers themselves: versions, NULL, the ends of the limits, nodes that no
- * template was compiled to, the fields of answers, names with a final 0, moments as a struct, settings. tests/installed
- * builds and runs this, as C and as C++.
+ * template was compiled to, the fields of answers, marks, names with a final 0, moments as a struct, settings.
+ * tests/installed builds and runs this, as C and as C++.
  */
 #include <stdio.h>
 #include <string.h>
@@ -30,7 +30,7 @@ static void versions(void) {
 /* An empty text may be NULL, in each place and in all of them. */
 static void empty_readings(void) {
     CHECK(sorbilgan_parts(NULL, 0, NULL, 0, &parts) == SORBILGAN_OK);
-    CHECK(parts.year == 0 && parts.month == 1 && parts.day == 1);
+    CHECK(parts.year == 0 && parts.month == 1 && parts.day == 1 && parts.marks == 0);
     CHECK(sorbilgan_parts("DD", 2, NULL, 0, &parts) == SORBILGAN_OK && parts.day == 1);
     CHECK(sorbilgan_parts(NULL, 0, "5", 1, &parts) == SORBILGAN_OK && parts.day == 1);
     CHECK(sorbilgan_instant("YYYY", 4, NULL, 0, &value) == SORBILGAN_OK);
@@ -97,10 +97,78 @@ static void fields(void) {
     CHECK(parts.year == 2024 && parts.month == 2 && parts.day == 29);
     CHECK(parts.hour == 21 && parts.minute == 5 && parts.second == 7 && parts.micros == 9);
     CHECK(parts.precision == 3 && parts.zoned == 1 && parts.offset == -19800);
+    CHECK(parts.marks == (SORBILGAN_YEAR_SET | SORBILGAN_MONTH_SET | SORBILGAN_DAY_SET));
 
     CHECK(sorbilgan_date("YYYYMMDD", 8, "20242", 5, &value) == SORBILGAN_SHORT);
     CHECK(value.number == SORBILGAN_SHORT && value.pattern == 33 && value.value == 0);
     CHECK(value.first_figure == 2 && value.second_figure == 1);
+}
+
+/* The marks of an accepted line, with and without the strict setting; -1 where they differ or the line is refused. */
+static int64_t marks_of(const char *text, const char *input) {
+    const size_t t = strlen(text);
+    const size_t s = strlen(input);
+    struct sorbilgan_parts_answer strict;
+
+    if (sorbilgan_parts(text, t, input, s, &parts) != SORBILGAN_OK
+        || sorbilgan_parts_with(SORBILGAN_STRICT, text, t, input, s, &strict) != SORBILGAN_OK
+        || memcmp(&parts, &strict, sizeof parts) != 0) {
+        return -1;
+    }
+    return parts.marks;
+}
+
+/* A part is set by its own pattern or by another, and not where it is read as 0. */
+static void marks(void) {
+    const int64_t all = SORBILGAN_YEAR_SET | SORBILGAN_MONTH_SET | SORBILGAN_DAY_SET;
+
+    CHECK(marks_of("YYYY", "2024") == SORBILGAN_YEAR_SET);
+    CHECK(marks_of("MM", "1") == SORBILGAN_MONTH_SET);
+    CHECK(marks_of("DD", "1") == SORBILGAN_DAY_SET);
+    CHECK(marks_of("Month", "January") == SORBILGAN_MONTH_SET);
+    CHECK(marks_of("CC", "21") == SORBILGAN_YEAR_SET);
+    CHECK(marks_of("W", "1") == SORBILGAN_DAY_SET);
+    CHECK(marks_of("YYYY BC", "1 BC") == SORBILGAN_YEAR_SET && parts.year == 0);
+    CHECK(marks_of("J", "2460370") == all);
+    CHECK(marks_of("IYYY-IW", "2024-09") == all);
+    CHECK(marks_of("YYYY-DDD", "2024-001") == all);
+    CHECK(marks_of("YYYY-MM-DD", "2024-1") == (SORBILGAN_YEAR_SET | SORBILGAN_MONTH_SET));
+    CHECK(marks_of("YYYY-MM-DD", "0000-02-29") == (SORBILGAN_MONTH_SET | SORBILGAN_DAY_SET));
+    CHECK(marks_of("YYYY-MM-DD", "2024-00-31") == (SORBILGAN_YEAR_SET | SORBILGAN_DAY_SET));
+    CHECK(marks_of("YYYY-MM-DD", "0000-00-00") == 0);
+    CHECK(marks_of("DD.MM HH24:MI", "29.02 21:05") == (SORBILGAN_MONTH_SET | SORBILGAN_DAY_SET));
+    CHECK(marks_of("Day HH24:MI:SS.US TZH", "Monday 21:05:07.5 +07") == 0);
+}
+
+/* The refusals of a line, without the strict setting and with it. */
+static int refused_by(const char *text, const char *input, uint8_t lenient, uint8_t strict) {
+    const size_t t = strlen(text);
+    const size_t s = strlen(input);
+
+    return sorbilgan_parts(text, t, input, s, &parts) == lenient
+           && sorbilgan_parts_with(SORBILGAN_STRICT, text, t, input, s, &parts) == strict;
+}
+
+/*
+ * Which refusal comes first: those of reading, of a fraction outside 32 bits, of the ranges of month and day, then 25,
+ * then those of time and offset.
+ */
+static void strict_in_its_place(void) {
+    CHECK(refused_by("DD.MM HH24:MI", "30.02 21:05", SORBILGAN_OK, SORBILGAN_NO_SUCH_DAY));
+    CHECK(parts.number == SORBILGAN_NO_SUCH_DAY && parts.pattern == SORBILGAN_NO_PATTERN);
+    CHECK(parts.first_figure == 0 && parts.second_figure == 0 && parts.marks == 0);
+    CHECK(parts.month == 0 && parts.day == 0 && parts.hour == 0);
+    CHECK(refused_by("DD.MM YYYY", "30.02 2024", SORBILGAN_FIELD_OVERFLOW, SORBILGAN_FIELD_OVERFLOW));
+    CHECK(refused_by("DD.MM x YYYY", "30.02 x y", SORBILGAN_NOT_INTEGER, SORBILGAN_NOT_INTEGER));
+    CHECK(refused_by("DD.MM HH12", "30.02 13", SORBILGAN_HOUR_OF_TWELVE, SORBILGAN_HOUR_OF_TWELVE));
+    CHECK(refused_by("DD.MM MS", "30.02 9999999", SORBILGAN_FIELD_OVERFLOW, SORBILGAN_FIELD_OVERFLOW));
+    CHECK(refused_by("DD.MM MS", "30.02 9999", SORBILGAN_FIELD_OVERFLOW, SORBILGAN_NO_SUCH_DAY));
+    CHECK(refused_by("DD.MM", "32.02", SORBILGAN_FIELD_OVERFLOW, SORBILGAN_FIELD_OVERFLOW));
+    CHECK(refused_by("DD.MM", "31.13", SORBILGAN_FIELD_OVERFLOW, SORBILGAN_FIELD_OVERFLOW));
+    CHECK(refused_by("DD.MM HH24", "30.02 24", SORBILGAN_FIELD_OVERFLOW, SORBILGAN_NO_SUCH_DAY));
+    CHECK(refused_by("DD.MM OF", "30.02 +16", SORBILGAN_OFFSET_RANGE, SORBILGAN_NO_SUCH_DAY));
+    CHECK(refused_by("DD.MM HH24", "29.02 24", SORBILGAN_FIELD_OVERFLOW, SORBILGAN_FIELD_OVERFLOW));
+    CHECK(parts.month == 0 && parts.day == 0 && parts.marks == 0);
 }
 
 /* Every name is a string, and nothing after its room is touched. */
@@ -140,8 +208,8 @@ static void moments(void) {
     CHECK(sorbilgan_write_moment("DD", 2, &moment, text, sizeof text, &value) == SORBILGAN_NO_MOMENT);
 }
 
-/* The exercise pages and the flash cards, each without the bits that have no name and with all of them. */
-#define UNNAMED (~SORBILGAN_CARDS)
+/* The exercise pages and the flash cards, each without the bits that have no name, with all of them, and strict. */
+#define UNNAMED (~(SORBILGAN_CARDS | SORBILGAN_STRICT))
 
 struct caller {
     uint32_t settings;
@@ -150,7 +218,12 @@ struct caller {
 };
 
 static const struct caller callers[] = {
-    {0, 256, 512}, {UNNAMED, 256, 512}, {SORBILGAN_CARDS, 64, 96}, {SORBILGAN_CARDS | UNNAMED, 64, 96}};
+    {0, 256, 512},
+    {UNNAMED, 256, 512},
+    {SORBILGAN_STRICT, 256, 512},
+    {SORBILGAN_CARDS, 64, 96},
+    {SORBILGAN_CARDS | UNNAMED, 64, 96},
+    {SORBILGAN_CARDS | SORBILGAN_STRICT, 64, 96}};
 
 static void empty_texts_with(uint32_t settings) {
     CHECK(sorbilgan_parts_with(settings, NULL, 0, NULL, 0, &parts) == SORBILGAN_OK);
@@ -254,6 +327,10 @@ static void settings_of_both(void) {
         same_readings(callers[i].settings, "YYYY-MM-DD HH24:MI:SS.FF3 TZH:TZM", "2024-02-29 21:05:07.000009 -05:30");
         same_readings(callers[i].settings, "YYYYMMDD", "20242");
         same_readings(callers[i].settings, "YYYY", "294248");
+        same_readings(callers[i].settings, "MM-DD", "02-29");
+        if ((callers[i].settings & SORBILGAN_STRICT) == 0) {
+            same_readings(callers[i].settings, "MM-DD", "02-30");
+        }
         same_texts(callers[i].settings, "YYYY-MM-DD HH24:MI:SS.US");
         same_texts(callers[i].settings, "DD Month YYYY");
         same_texts(callers[i].settings, "USUSUSUSUSUSUS");
@@ -267,6 +344,8 @@ int main(void) {
     empty_writings();
     over_the_limits();
     fields();
+    marks();
+    strict_in_its_place();
     names();
     moments();
     settings_of_both();

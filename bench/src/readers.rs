@@ -36,7 +36,7 @@ fn library(input: &Input) -> Vec<Peer<'_>> {
     let mut nodes = [0; NODES];
     let length = archive::compile(template, &mut nodes) as usize;
     let parts = |line: &Line| {
-        let mut out = [0; 14];
+        let mut out = [0; 15];
         archive::parts(template, line.text.as_bytes(), &mut out);
         out
     };
@@ -46,7 +46,7 @@ fn library(input: &Input) -> Vec<Peer<'_>> {
         out
     };
     let parts_by = move |line: &Line| {
-        let mut out = [0; 14];
+        let mut out = [0; 15];
         archive::parts_by(&nodes[..length], template, line.text.as_bytes(), &mut out);
         out
     };

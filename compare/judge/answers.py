@@ -70,12 +70,12 @@ class Refused:
 
 
 def ours(line):
-    """The answer that a line of the program gives."""
+    """The answer that a line of the program gives; of the marks the server knows nothing."""
     refused = re.fullmatch(rb"([1-9][0-9]*) (\S+) (-?[0-9]+) (-?[0-9]+)", line)
     if refused:
         number, pattern, *figures = refused.groups()
         return Refused(int(number), pattern.decode(errors="replace"), tuple(map(int, figures)))
-    accepted = re.fullmatch(rb"0" + rb" (-?[0-9]+)" * 8 + rb" (none|-?[0-9]+)", line)
+    accepted = re.fullmatch(rb"0" + rb" (-?[0-9]+)" * 8 + rb" (none|-?[0-9]+) [0-7]", line)
     if not accepted:
         return Refused(f"by no answer: {line}")
     *numbers, offset = accepted.groups()

@@ -1,6 +1,8 @@
 //! Known answers: they show that the stand-ins serve and that errors are told apart.
 
-use crate::formatting::answers::{answer, back, cut, date, instant, line, parts, patterns, without_return, written};
+use crate::formatting::answers::{
+    answer, back, cut, date, instant, line, parts, patterns, records, without_return, written,
+};
 use crate::random::Random;
 use crate::{hex, known, moments};
 use std::collections::{HashMap, HashSet};
@@ -13,6 +15,24 @@ fn shown(text: &[u8]) -> String {
 fn known_parts() {
     for (text, expected) in known::lines() {
         assert_eq!(line(&text, parts), expected, "{}", shown(&text));
+    }
+}
+
+/// The strict switch makes 25 of these and leaves the others as they are, whatever is asked for.
+#[test]
+fn known_refusals_when_strict() {
+    let begins = |text: &[u8], record: &[i64]| assert_eq!(record[..4], [25, 112, 0, 0], "{}", shown(text));
+    for (text, _, refused) in known::marks::lines() {
+        let (template, input) = cut(&text);
+        let (parts, instant, date) =
+            (records::parts(template, input), records::instant(template, input), records::date(template, input));
+        if refused {
+            begins(&text, &parts.on);
+            begins(&text, &instant.on);
+            begins(&text, &date.on);
+        } else {
+            assert_eq!((parts.on, instant.on, date.on), (parts.off, instant.off, date.off), "{}", shown(&text));
+        }
     }
 }
 
@@ -42,7 +62,7 @@ fn read_back() {
         let text = line(without_return(&asked), written);
         let (template, _) = cut(&asked);
         let text = text[2..].as_bytes();
-        assert_eq!(parts(template, text), format!("0 {moment} 0 none"), "{}", shown(&asked));
+        assert_eq!(parts(template, text), format!("0 {moment} 0 none 7"), "{}", shown(&asked));
         assert_eq!(instant(template, text), format!("0 {micros}"), "{}", shown(&asked));
         assert_eq!(date(template, text), format!("0 {days}"), "{}", shown(&asked));
         count += 1;

@@ -1,19 +1,20 @@
 //! Lines of which the answer is known: the stored lists begin with them, and tests compare the module's answers.
 
+pub mod marks;
 pub mod moments;
 pub mod readings;
 
 /// A template, an input, and the answer.
 type Known = (&'static str, &'static str, &'static str);
 
-const NOTHING: &str = "0 0 1 1 0 0 0 0 0 none";
+const NOTHING: &str = "0 0 1 1 0 0 0 0 0 none 0";
 const TOO_LONG: &str = "1 - 0 0";
 const NOT_UTF8: &str = "2 - 0 0";
 
 /// The lines by which the program is introduced.
 const FIRST: &[Known] = &[
-    ("YYYY-MM-DD", "2024-02-29", "0 2024 2 29 0 0 0 0 0 none"),
-    ("MM-DD", "02-30", "0 0 2 30 0 0 0 0 0 none"),
+    ("YYYY-MM-DD", "2024-02-29", "0 2024 2 29 0 0 0 0 0 none 7"),
+    ("MM-DD", "02-30", "0 0 2 30 0 0 0 0 0 none 6"),
     ("YYYY-MM-DD", "2023-02-29", "15 - 0 0"),
 ];
 
@@ -21,51 +22,51 @@ const FIRST: &[Known] = &[
 const PROVED: &[Known] = &[
     ("", "abc", NOTHING),
     ("YYYY", "", NOTHING),
-    ("MM-DD", "02-30", "0 0 2 30 0 0 0 0 0 none"),
+    ("MM-DD", "02-30", "0 0 2 30 0 0 0 0 0 none 6"),
     ("YYYY-MM-DD", "2023-02-29", "15 - 0 0"),
     ("Day Dy", "Monday Mon", "4 Dy 0 0"),
     ("Day Dy", "Monday Tue", NOTHING),
     ("HH12", "0", "13 - 0 0"),
     ("HH12 PM", "12 AM", NOTHING),
-    ("YY", "69", "0 2069 1 1 0 0 0 0 0 none"),
-    ("YY", "70", "0 1970 1 1 0 0 0 0 0 none"),
-    ("MS", "5", "0 0 1 1 0 0 0 500000 0 none"),
-    ("IYYY-IW-ID", "2020-53-5", "0 2021 1 1 0 0 0 0 0 none"),
-    ("OF", "+15:59", "0 0 1 1 0 0 0 0 0 57540"),
+    ("YY", "69", "0 2069 1 1 0 0 0 0 0 none 1"),
+    ("YY", "70", "0 1970 1 1 0 0 0 0 0 none 1"),
+    ("MS", "5", "0 0 1 1 0 0 0 500000 0 none 0"),
+    ("IYYY-IW-ID", "2020-53-5", "0 2021 1 1 0 0 0 0 0 none 7"),
+    ("OF", "+15:59", "0 0 1 1 0 0 0 0 0 57540 0"),
     ("OF", "+16", "16 - 0 0"),
-    ("CC YY", "21 00", "0 2100 1 1 0 0 0 0 0 none"),
+    ("CC YY", "21 00", "0 2100 1 1 0 0 0 0 0 none 1"),
     ("YYYY DDD", "-1 5", "14 - 0 0"),
-    ("\"ngày\"DD", "ngày05", "0 0 1 5 0 0 0 0 0 none"),
+    ("\"ngày\"DD", "ngày05", "0 0 1 5 0 0 0 0 0 none 4"),
     ("\"ngày\"DD", "nga\u{300}y05", "7 DD 0 0"),
 ];
 
 /// Both sides of an edge.
 const EDGES: &[Known] = &[
-    ("YYYY", "2147483647", "0 2147483647 1 1 0 0 0 0 0 none"),
+    ("YYYY", "2147483647", "0 2147483647 1 1 0 0 0 0 0 none 1"),
     ("YYYY", "2147483648", "8 YYYY 0 0"),
-    ("YYYY", "-2147483648", "0 -2147483647 1 1 0 0 0 0 0 none"),
+    ("YYYY", "-2147483648", "0 -2147483647 1 1 0 0 0 0 0 none 1"),
     ("YYYY", "-2147483649", "8 YYYY 0 0"),
-    ("SS", "59", "0 0 1 1 0 0 59 0 0 none"),
+    ("SS", "59", "0 0 1 1 0 0 59 0 0 none 0"),
     ("SS", "60", "15 - 0 0"),
-    ("SSSSS", "86399", "0 0 1 1 23 59 59 0 0 none"),
+    ("SSSSS", "86399", "0 0 1 1 23 59 59 0 0 none 0"),
     ("SSSSS", "86400", "15 - 0 0"),
     ("HH12", "12", NOTHING),
     ("HH12", "13", "13 - 13 0"),
-    ("YYYY DDD", "2024 366", "0 2024 12 31 0 0 0 0 0 none"),
+    ("YYYY DDD", "2024 366", "0 2024 12 31 0 0 0 0 0 none 7"),
     ("YYYY DDD", "2023 366", "15 - 0 0"),
-    ("US", "999999", "0 0 1 1 0 0 0 999999 0 none"),
+    ("US", "999999", "0 0 1 1 0 0 0 999999 0 none 0"),
     ("US", "1000000", "15 - 0 0"),
-    ("FF1", "7", "0 0 1 1 0 0 0 700000 1 none"),
-    ("FF6", "7", "0 0 1 1 0 0 0 700000 6 none"),
-    ("OF", "-15:59", "0 0 1 1 0 0 0 0 0 -57540"),
-    ("OF", "-00", "0 0 1 1 0 0 0 0 0 0"),
-    ("TZM", "59", "0 0 1 1 0 0 0 0 0 3540"),
+    ("FF1", "7", "0 0 1 1 0 0 0 700000 1 none 0"),
+    ("FF6", "7", "0 0 1 1 0 0 0 700000 6 none 0"),
+    ("OF", "-15:59", "0 0 1 1 0 0 0 0 0 -57540 0"),
+    ("OF", "-00", "0 0 1 1 0 0 0 0 0 0 0"),
+    ("TZM", "59", "0 0 1 1 0 0 0 0 0 3540 0"),
     ("TZM", "60", "16 - 0 0"),
-    ("J", "1", "0 -4713 11 25 0 0 0 0 0 none"),
-    ("J", "2460370", "0 2024 2 29 0 0 0 0 0 none"),
-    ("Y,YYY", "2147483,647", "0 2147483647 1 1 0 0 0 0 0 none"),
+    ("J", "1", "0 -4713 11 25 0 0 0 0 0 none 7"),
+    ("J", "2460370", "0 2024 2 29 0 0 0 0 0 none 7"),
+    ("Y,YYY", "2147483,647", "0 2147483647 1 1 0 0 0 0 0 none 1"),
     ("Y,YYY", "2147483,648", "11 Y,YYY 0 0"),
-    ("Y,YYY", "4294967298,024", "0 2024 1 1 0 0 0 0 0 none"),
+    ("Y,YYY", "4294967298,024", "0 2024 1 1 0 0 0 0 0 none 1"),
 ];
 
 /// Refusals 3 to 16; 1 and 2 are of lines that are too long or not UTF-8.
@@ -179,9 +180,9 @@ const REFUSED: &[Known] = &[
 
 /// PostgreSQL 15 answers these otherwise: docs/DIFFERENCES.md.
 const OTHERWISE: &[Known] = &[
-    ("OF", "1", "0 0 1 1 0 0 0 0 0 3600"),
-    ("TZ", "1", "0 0 1 1 0 0 0 0 0 3600"),
-    ("J", "-1", "0 -4713 11 23 0 0 0 0 0 none"),
+    ("OF", "1", "0 0 1 1 0 0 0 0 0 3600 0"),
+    ("TZ", "1", "0 0 1 1 0 0 0 0 0 3600 0"),
+    ("J", "-1", "0 -4713 11 23 0 0 0 0 0 none 7"),
     ("Y,YYY", "4294968,0", "11 Y,YYY 0 0"),
     ("CC", "42949674", "15 - 0 0"),
     ("Y CC", "1 42949674", "15 - 0 0"),
@@ -193,23 +194,23 @@ const OTHERWISE: &[Known] = &[
 
 /// Vietnamese, its letters composed and apart: a literal passes one character of the input, whichever it is.
 const VIETNAMESE: &[Known] = &[
-    ("\"ngày \"DD\" tháng \"MM\" năm \"YYYY", "ngày 05 tháng 09 năm 2024", "0 2024 9 5 0 0 0 0 0 none"),
+    ("\"ngày \"DD\" tháng \"MM\" năm \"YYYY", "ngày 05 tháng 09 năm 2024", "0 2024 9 5 0 0 0 0 0 none 7"),
     (
         "\"nga\u{300}y \"DD\" tha\u{301}ng \"MM\" na\u{306}m \"YYYY",
         "nga\u{300}y 05 tha\u{301}ng 09 na\u{306}m 2024",
-        "0 2024 9 5 0 0 0 0 0 none",
+        "0 2024 9 5 0 0 0 0 0 none 7",
     ),
-    ("\"ngày \"DD\" tháng \"MM", "nga\u{300}y 05 tha\u{301}ng 09", "0 0 9 5 0 0 0 0 0 none"),
+    ("\"ngày \"DD\" tháng \"MM", "nga\u{300}y 05 tha\u{301}ng 09", "0 0 9 5 0 0 0 0 0 none 6"),
     ("\"ngày\" DD \"tháng\"MM", "ngày 05 tha\u{301}ng09", "7 MM 0 0"),
-    ("\"nga\u{300}y\"DD", "ngày15", "0 0 1 5 0 0 0 0 0 none"),
+    ("\"nga\u{300}y\"DD", "ngày15", "0 0 1 5 0 0 0 0 0 none 4"),
     ("\"thứ\" D", "thứ 2", NOTHING),
-    ("\"thu\u{31b}\u{301}\" D DD", "thư\u{301} 2 15", "0 0 1 15 0 0 0 0 0 none"),
+    ("\"thu\u{31b}\u{301}\" D DD", "thư\u{301} 2 15", "0 0 1 15 0 0 0 0 0 none 4"),
     ("\"thứ\"DD", "thu\u{31b}\u{301}15", "7 DD 0 0"),
-    ("HH24\" giờ \"MI\" phút \"SS\" giây\"", "07 giờ 08 phút 09 giây", "0 0 1 1 7 8 9 0 0 none"),
+    ("HH24\" giờ \"MI\" phút \"SS\" giây\"", "07 giờ 08 phút 09 giây", "0 0 1 1 7 8 9 0 0 none 0"),
     ("ngày DD", "ngày 05", "7 y 0 0"),
-    ("năm YYYY", "năm 2024", "0 2024 1 1 0 0 0 0 0 none"),
-    ("DDtháng MM", "05tháng 09", "0 0 9 5 0 0 0 0 0 none"),
-    ("FXDDth MM", "05ứ\u{301}x09", "0 0 9 5 0 0 0 0 0 none"),
+    ("năm YYYY", "năm 2024", "0 2024 1 1 0 0 0 0 0 none 1"),
+    ("DDtháng MM", "05tháng 09", "0 0 9 5 0 0 0 0 0 none 6"),
+    ("FXDDth MM", "05ứ\u{301}x09", "0 0 9 5 0 0 0 0 0 none 6"),
     ("Month", "tháng", "9 Month 0 0"),
 ];
 
@@ -220,18 +221,18 @@ const WHOLE: &[(&[u8], &str)] = &[
     (b"\t", NOTHING),
     (b"\tabc", NOTHING),
     (b"YYYY\t", NOTHING),
-    (b"YYYY\t2024\t05", "0 2024 1 1 0 0 0 0 0 none"),
-    (b"YYYY MM\t2024\t05", "0 2024 5 1 0 0 0 0 0 none"),
-    (b"YYYY MM\t\t2024 05", "0 2024 5 1 0 0 0 0 0 none"),
-    (b"YYYY\t2024\r", "0 2024 1 1 0 0 0 0 0 none"),
-    (b"Mon DD\tFeb\r", "0 0 2 1 0 0 0 0 0 none"),
+    (b"YYYY\t2024\t05", "0 2024 1 1 0 0 0 0 0 none 1"),
+    (b"YYYY MM\t2024\t05", "0 2024 5 1 0 0 0 0 0 none 3"),
+    (b"YYYY MM\t\t2024 05", "0 2024 5 1 0 0 0 0 0 none 3"),
+    (b"YYYY\t2024\r", "0 2024 1 1 0 0 0 0 0 none 1"),
+    (b"Mon DD\tFeb\r", "0 0 2 1 0 0 0 0 0 none 2"),
     (b"\r", NOTHING),
-    (b"YYYY\r\t2024\r", "0 2024 1 1 0 0 0 0 0 none"),
-    (b"DD\t\x0b\x0c5", "0 0 1 5 0 0 0 0 0 none"),
+    (b"YYYY\r\t2024\r", "0 2024 1 1 0 0 0 0 0 none 1"),
+    (b"DD\t\x0b\x0c5", "0 0 1 5 0 0 0 0 0 none 4"),
     (b"DD\t\x1f5", "7 DD 0 0"),
-    (b"YYYY\t2024\0", "0 2024 1 1 0 0 0 0 0 none"),
-    (b"\0YYYY\t\x002024", "0 2024 1 1 0 0 0 0 0 none"),
-    (b"YYYY\0MM\t2024x05", "0 2024 5 1 0 0 0 0 0 none"),
+    (b"YYYY\t2024\0", "0 2024 1 1 0 0 0 0 0 none 1"),
+    (b"\0YYYY\t\x002024", "0 2024 1 1 0 0 0 0 0 none 1"),
+    (b"YYYY\0MM\t2024x05", "0 2024 5 1 0 0 0 0 0 none 3"),
     (b"DD\t\0", "7 DD 0 0"),
     (b"\xc3\t", NOT_UTF8),
     (b"\xc3\t\xa0", NOT_UTF8),
@@ -250,7 +251,7 @@ fn long() -> Vec<(Vec<u8>, &'static str)> {
         let input = [" ".repeat(input.saturating_sub(4)).as_str(), "2024"].concat();
         [template, input].join("\t").into_bytes()
     };
-    let read = "0 2024 1 1 0 0 0 0 0 none";
+    let read = "0 2024 1 1 0 0 0 0 0 none 1";
     vec![
         (pair(256, 4), read),
         (pair(257, 4), TOO_LONG),
@@ -277,5 +278,6 @@ pub fn lines() -> Vec<(Vec<u8>, &'static str)> {
     let pairs = [FIRST, PROVED, EDGES, REFUSED, OTHERWISE, VIETNAMESE].concat();
     let joined = pairs.into_iter().map(|(template, input, answer)| ([template, input].join("\t").into(), answer));
     let whole = WHOLE.iter().map(|&(line, answer)| (line.to_vec(), answer));
-    joined.chain(whole).chain(long()).collect()
+    let marked = marks::lines().into_iter().map(|(line, answer, _)| (line, answer));
+    joined.chain(whole).chain(long()).chain(marked).collect()
 }

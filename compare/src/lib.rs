@@ -1,5 +1,6 @@
 //! The ported module, answering the questions that the port answers.
 
+pub mod birthdays;
 #[cfg(test)]
 mod cases;
 pub mod hex;

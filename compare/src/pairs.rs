@@ -176,7 +176,7 @@ fn offset(random: &mut Random) -> String {
 }
 
 /// Changes, adds or removes a character, or now and then a byte, or cuts the input short.
-fn spoil(random: &mut Random, input: &mut Vec<u8>) {
+pub fn spoil(random: &mut Random, input: &mut Vec<u8>) {
     let at = random.below(input.len() + 1);
     let starts = |input: &[u8], at: usize| input.get(at).is_none_or(|byte| byte & 0xc0 != 0x80);
     if !starts(input, at) && !random.once_in(10) {

@@ -17,6 +17,23 @@ fn moments_and_parts() {
     assert_eq!(from_str::<Parts>(&shown.to_string()).unwrap(), parts);
 }
 
+/// Parts that an older version has serialized have no marks.
+#[test]
+fn marks_of_parts() {
+    let parts = read("MM-DD", "02-29").unwrap();
+    let mut shown = to_value(parts).unwrap();
+    let marks = ["year_set", "month_set", "day_set"];
+    assert_eq!(marks.map(|mark| shown[mark].clone()), [json!(false), json!(true), json!(true)]);
+    assert_eq!(from_str::<Parts>(&shown.to_string()).unwrap(), parts);
+
+    for mark in marks {
+        shown.as_object_mut().unwrap().remove(mark);
+    }
+    let older = from_str::<Parts>(&shown.to_string()).unwrap();
+    assert_eq!((older.year_set, older.month_set, older.day_set), (false, false, false));
+    assert_eq!((older.month, older.day), (2, 29));
+}
+
 #[test]
 fn templates_as_their_text() {
     let template = Template::compile(r#""ngày "DD"#).unwrap();
@@ -31,8 +48,10 @@ fn templates_as_their_text() {
 #[test]
 fn settings() {
     let cards = Settings::new().cards(true);
-    assert_eq!(to_value(cards).unwrap(), json!({"cards": true}));
+    assert_eq!(to_value(cards).unwrap(), json!({"cards": true, "strict": false}));
     assert_eq!(from_str::<Settings>(r#"{"cards": true}"#).unwrap(), cards);
+    let both = cards.strict(true);
+    assert_eq!(from_str::<Settings>(&to_value(both).unwrap().to_string()).unwrap(), both);
     assert_eq!(from_str::<Settings>("{}").unwrap(), Settings::new());
 
     let template = Template::compile_with("DD", cards).unwrap();

@@ -18,6 +18,9 @@ mod version;
 
 pub use version::VERSION;
 
+/// The bit of the settings that refuses a day that its month never has, in exercises without a year.
+pub const STRICT: u32 = 2;
+
 /// The bit of the settings that sets the limits of the flash cards. Bits without a name are ignored.
 pub const CARDS: u32 = 4;
 
@@ -29,6 +32,15 @@ pub const NAME: usize = 6;
 
 /// An answer's pattern where it names none; one that is named is below it.
 pub const NO_PATTERN: u8 = 112;
+
+/// The bit of the marks for a year that is set; month and day have their own.
+pub const YEAR_SET: i64 = 1;
+
+/// The bit of the marks for a month that is set.
+pub const MONTH_SET: i64 = 2;
+
+/// The bit of the marks for a day that is set.
+pub const DAY_SET: i64 = 4;
 
 /// What every answer begins with: number 0 where nothing is refused, else the refusal's.
 #[repr(C)]
@@ -56,6 +68,7 @@ pub struct PartsAnswer {
     pub precision: i64,
     pub zoned: i64,
     pub offset: i64,
+    pub marks: i64,
 }
 
 /// A single value. A refusal leaves it 0.
@@ -66,12 +79,12 @@ pub struct ValueAnswer {
     pub value: i64,
 }
 
-const _: () = assert!(size_of::<PartsAnswer>() == 14 * size_of::<i64>());
+const _: () = assert!(size_of::<PartsAnswer>() == 15 * size_of::<i64>());
 const _: () = assert!(size_of::<ValueAnswer>() == 5 * size_of::<i64>());
 
 unsafe extern "C" {
     pub safe fn sorbilgan_version() -> u32;
-    pub safe fn sorbilgan_version_2() -> u32;
+    pub safe fn sorbilgan_version_3() -> u32;
     pub fn sorbilgan_parts(
         template: *const u8, template_length: usize, input: *const u8, input_length: usize, answer: *mut PartsAnswer,
     ) -> u8;
@@ -144,4 +157,4 @@ unsafe extern "C" {
 
 /// Asks the linker for this version's library, whatever else is called.
 #[used]
-static LINKED: extern "C" fn() -> u32 = sorbilgan_version_2;
+static LINKED: extern "C" fn() -> u32 = sorbilgan_version_3;

@@ -28,6 +28,7 @@ use std::fmt;
 ///     Cause::NotInteger | Cause::OutOfRange | Cause::NoWord | Cause::NotTwoNumbers | Cause::YearOutOfRange => (),
 ///     Cause::ZoneLetter | Cause::HourOfTwelve | Cause::NoYear | Cause::FieldOverflow | Cause::OffsetRange => (),
 ///     Cause::InstantRange | Cause::DateRange | Cause::NotWritten | Cause::NoMoment | Cause::NoRoom => (),
+///     Cause::NoSuchDay => (),
 /// }
 /// ```
 #[derive(Debug, Clone, Copy, PartialEq, Eq, PartialOrd, Ord, Hash)]
@@ -77,16 +78,19 @@ pub enum Cause {
     NoMoment = 20,
     /// The text is longer than its buffer: the length needed.
     NoRoom = 21,
+    /// With [`Settings::strict`](crate::Settings::strict): there are month and day without a year, and the month never
+    /// has that day.
+    NoSuchDay = 25,
 }
 
 impl Cause {
-    /// Every cause, by number. Later versions may have more.
+    /// Every cause, in the order of the numbers, which have gaps. Later versions may have more.
     ///
     /// ```
     /// use sorbilgan::Cause;
     ///
     /// assert_eq!(Cause::ALL[0], Cause::TooLong);
-    /// assert!(Cause::ALL.iter().map(|cause| cause.number()).eq(1..=21));
+    /// assert!(Cause::ALL.iter().map(|cause| cause.number()).eq((1..=21).chain([25])));
     /// ```
     pub const ALL: &'static [Cause] = &[
         Cause::TooLong,
@@ -110,6 +114,7 @@ impl Cause {
         Cause::NotWritten,
         Cause::NoMoment,
         Cause::NoRoom,
+        Cause::NoSuchDay,
     ];
 
     /// The number by which the cause is known, from 1.
@@ -152,6 +157,7 @@ impl fmt::Display for Cause {
             Cause::NotWritten => "write: a pattern that is not written",
             Cause::NoMoment => "write: no moment of the years 1 to 9999",
             Cause::NoRoom => "write: a text longer than its buffer",
+            Cause::NoSuchDay => "strict: month and day without a year, and the month never has that day",
         })
     }
 }
@@ -169,13 +175,14 @@ impl From<Cause> for u8 {
 /// use sorbilgan::Cause;
 ///
 /// assert_eq!(Cause::try_from(15), Ok(Cause::FieldOverflow));
+/// assert_eq!(Cause::try_from(25), Ok(Cause::NoSuchDay));
 /// assert_eq!(Cause::try_from(0).unwrap_err().to_string(), "no refusal has the number 0");
 /// ```
 impl TryFrom<u8> for Cause {
     type Error = TryFromNumberError;
 
     fn try_from(number: u8) -> Result<Cause, TryFromNumberError> {
-        let cause = usize::from(number).checked_sub(1).and_then(|index| Cause::ALL.get(index));
+        let cause = Cause::ALL.iter().find(|cause| cause.number() == number);
         cause.copied().ok_or(TryFromNumberError(number))
     }
 }

@@ -39,7 +39,8 @@
 //! used once.
 //!
 //! A template for a flash card is compiled with [`Settings`], which give it smaller limits; within them its answers are
-//! the same.
+//! the same. One for an exercise without a year, such as a birthday, is compiled with [`Settings::strict`], which
+//! refuses 30 February.
 //!
 //! Where a template or an input is asked for, text and bytes are both taken: a learner's line need not be UTF-8 to be
 //! answered.
@@ -98,7 +99,7 @@ pub use template::Template;
 /// The version of the library, as `sorbilgan_version()` answers in C.
 ///
 /// ```
-/// assert_eq!(sorbilgan::VERSION, 2);
+/// assert_eq!(sorbilgan::VERSION, 3);
 /// ```
 pub const VERSION: u32 = sorbilgan_sys::VERSION;
 

@@ -52,7 +52,8 @@ impl Moment {
 }
 
 /// The moment of what was read, where nothing is lost: without an offset, and with a precision (`FF1` to `FF6`) only
-/// where the microseconds have no more digits. Whether its numbers are a moment is left to the writer.
+/// where the microseconds have no more digits. A part that was not set has its default. Whether its numbers are a
+/// moment is left to the writer.
 ///
 /// ```
 /// use sorbilgan::{format, read, Moment};
@@ -69,7 +70,7 @@ impl TryFrom<Parts> for Moment {
     type Error = TryFromPartsError;
 
     fn try_from(parts: Parts) -> Result<Moment, TryFromPartsError> {
-        let Parts { year, month, day, hour, minute, second, micros, precision, offset } = parts;
+        let Parts { year, month, day, hour, minute, second, micros, precision, offset, .. } = parts;
         let whole = precision == 0 || micros % 10_i32.pow(6 - precision.clamp(0, 6) as u32) == 0;
         if !whole || offset.is_some() {
             return Err(TryFromPartsError(()));

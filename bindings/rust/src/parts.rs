@@ -1,11 +1,25 @@
 use crate::Moment;
-use sorbilgan_sys::PartsAnswer;
+use sorbilgan_sys::{PartsAnswer, DAY_SET, MONTH_SET, YEAR_SET};
 
 /// What is read: the parts of a moment.
 ///
 /// A part that the template does not name, or names and finds to be 0, has the value that it would have at the start
 /// of year 0: month and day 1, all others 0. The ranges are proved: month 1 to 12, day 1 to 31, hour 0 to 23, minute
-/// and second 0 to 59, microseconds 0 to 999,999; and where year, month and day are all read, the month has that day.
+/// and second 0 to 59, microseconds 0 to 999,999; and where year, month and day are all set, the month has that day.
+///
+/// Year, month and day have marks, which tell what was read from a default. A part is set by its own pattern or by
+/// another: `J` and `IW` set all three, `DDD` month and day, `CC` the year. One that is read as 0 is not set.
+///
+/// ```
+/// use sorbilgan::read;
+///
+/// let parts = read("YYYY-MM-DD", "2024-01")?;
+/// assert_eq!((parts.year, parts.month, parts.day), (2024, 1, 1));
+/// assert!(parts.year_set && parts.month_set && !parts.day_set);
+///
+/// assert!(!read("YYYY-MM-DD", "0000-02-30")?.year_set);
+/// # Ok::<(), sorbilgan::Refusal>(())
+/// ```
 ///
 /// Later versions may have more parts, so it is made by reading or from a [`Moment`], and taken apart with `..`:
 ///
@@ -13,7 +27,9 @@ use sorbilgan_sys::PartsAnswer;
 /// use sorbilgan::{Moment, Parts};
 ///
 /// let parts = Parts::from(Moment::midnight(2024, 2, 29));
-/// let Parts { year, month, day, hour, minute, second, micros, precision, offset } = parts;
+/// let Parts {
+///     year, month, day, hour, minute, second, micros, precision, offset, year_set, month_set, day_set
+/// } = parts;
 /// ```
 ///
 /// ```
@@ -49,6 +65,15 @@ pub struct Parts {
     pub precision: i32,
     /// The offset in seconds east, where there is one.
     pub offset: Option<i32>,
+    /// Whether the year is set; if not, it is 0.
+    #[cfg_attr(feature = "serde", serde(default))]
+    pub year_set: bool,
+    /// Whether the month is set; if not, it is 1.
+    #[cfg_attr(feature = "serde", serde(default))]
+    pub month_set: bool,
+    /// Whether the day is set; if not, it is 1.
+    #[cfg_attr(feature = "serde", serde(default))]
+    pub day_set: bool,
 }
 
 impl Parts {
@@ -64,21 +89,27 @@ impl Parts {
             micros: raw.micros as i32,
             precision: raw.precision as i32,
             offset: (raw.zoned != 0).then_some(raw.offset as i32),
+            year_set: raw.marks & YEAR_SET != 0,
+            month_set: raw.marks & MONTH_SET != 0,
+            day_set: raw.marks & DAY_SET != 0,
         }
     }
 }
 
-/// The parts as which a moment is read back: without offset and precision.
+/// The parts as which a moment is read back: without offset and precision, and with year, month and day set.
 ///
 /// ```
 /// use sorbilgan::{Moment, Parts};
 ///
 /// let parts = Parts::from(Moment::midnight(2024, 2, 29));
 /// assert_eq!((parts.year, parts.precision, parts.offset), (2024, 0, None));
+/// assert!(parts.year_set && parts.month_set && parts.day_set);
 /// ```
 impl From<Moment> for Parts {
     fn from(moment: Moment) -> Parts {
         let Moment { year, month, day, hour, minute, second, micros } = moment;
-        Parts { year, month, day, hour, minute, second, micros, precision: 0, offset: None }
+        let [year_set, month_set, day_set] = [true; 3];
+        let (precision, offset) = (0, None);
+        Parts { year, month, day, hour, minute, second, micros, precision, offset, year_set, month_set, day_set }
     }
 }

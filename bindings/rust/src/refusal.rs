@@ -43,7 +43,7 @@ impl Refusal {
         Refusal { cause, pattern: None, figures: [0, 0] }
     }
 
-    /// The number of the cause, from 1 to 21.
+    /// The number of the cause.
     ///
     /// ```
     /// assert_eq!(sorbilgan::read("YYYY-MM-DD", "2023-02-29").unwrap_err().number(), 15);
@@ -121,6 +121,7 @@ impl fmt::Display for Refusal {
             }
             Cause::NoMoment => write!(f, "no moment of the years 1 to 9999"),
             Cause::NoRoom => write!(f, "the text needs {first} bytes"),
+            Cause::NoSuchDay => write!(f, "a day that its month never has"),
         }
     }
 }

@@ -1,10 +1,11 @@
 use crate::{INPUT_LIMIT, TEMPLATE_LIMIT};
-use sorbilgan_sys::CARDS;
+use sorbilgan_sys::{CARDS, STRICT};
 
-/// What a caller sets for its templates: whether they have the limits of the exercise pages or of the flash cards.
+/// What a caller sets for its templates: whether they have the limits of the exercise pages or of the flash cards, and
+/// whether they are strict, for exercises without a year.
 ///
 /// [`Template::compile_with`](crate::Template::compile_with) takes them, and all else has the default, that of the
-/// exercise pages. Within the smaller limits both get the same answers:
+/// exercise pages, not strict. Within the smaller limits pages and cards get the same answers:
 ///
 /// ```
 /// use sorbilgan::{Cause, Settings, Template};
@@ -20,16 +21,33 @@ use sorbilgan_sys::CARDS;
 /// # Ok::<(), sorbilgan::Refusal>(())
 /// ```
 ///
+/// By default a month's length is tested only where year, month and day are all set. A strict template also refuses a
+/// day that its month never has:
+///
+/// ```
+/// use sorbilgan::{Cause, Settings, Template};
+///
+/// let lenient = Template::compile("DD.MM")?;
+/// let strict = Template::compile_with("DD.MM", Settings::new().strict(true))?;
+/// assert_eq!(lenient.read("30.02")?.day, 30);
+/// assert_eq!(strict.read("30.02").unwrap_err().cause(), Cause::NoSuchDay);
+///
+/// assert_eq!(lenient.read("29.02")?.day, 29);
+/// assert_eq!(strict.read("29.02")?.day, 29);
+/// # Ok::<(), sorbilgan::Refusal>(())
+/// ```
+///
 /// Later versions may have more settings, so they are made by [`Settings::new`] and the methods that set one of them.
 #[derive(Debug, Clone, Copy, PartialEq, Eq, PartialOrd, Ord, Hash, Default)]
 #[cfg_attr(feature = "serde", derive(serde::Serialize, serde::Deserialize), serde(default))]
 #[non_exhaustive]
 pub struct Settings {
     cards: bool,
+    strict: bool,
 }
 
 impl Settings {
-    /// The default settings, those of the exercise pages.
+    /// The default settings, those of the exercise pages, not strict.
     ///
     /// ```
     /// use sorbilgan::{Settings, Template};
@@ -40,7 +58,7 @@ impl Settings {
     /// ```
     #[must_use]
     pub const fn new() -> Settings {
-        Settings { cards: false }
+        Settings { cards: false, strict: false }
     }
 
     /// Sets whether the limits are those of the flash cards: 64 bytes of a template and 96 of an input.
@@ -55,6 +73,27 @@ impl Settings {
     #[must_use]
     pub const fn cards(self, cards: bool) -> Settings {
         Settings { cards, ..self }
+    }
+
+    /// Sets whether reading is strict: where month and day are set and the year is not, a day that its month never has
+    /// is refused with [`Cause::NoSuchDay`](crate::Cause::NoSuchDay). The 29th of February is accepted. Nothing else
+    /// differs, and nothing in writing.
+    ///
+    /// ```
+    /// use sorbilgan::{Cause, Settings, Template};
+    ///
+    /// const STRICT: Settings = Settings::new().strict(true);
+    /// assert_eq!(STRICT.strict(false), Settings::new());
+    ///
+    /// let card = Template::compile_with("DD.MM", STRICT.cards(true))?;
+    /// assert!(card.read("29.02").is_ok());
+    /// assert_eq!(card.read("31.04").unwrap_err().cause(), Cause::NoSuchDay);
+    /// assert_eq!(card.read(" ".repeat(97)).unwrap_err().cause(), Cause::TooLong);
+    /// # Ok::<(), sorbilgan::Refusal>(())
+    /// ```
+    #[must_use]
+    pub const fn strict(self, strict: bool) -> Settings {
+        Settings { strict, ..self }
     }
 
     /// The most bytes of a template: [`TEMPLATE_LIMIT`], or less.
@@ -100,10 +139,8 @@ impl Settings {
 
     /// The settings as the library takes them.
     pub(crate) const fn bits(self) -> u32 {
-        if self.cards {
-            CARDS
-        } else {
-            0
-        }
+        let cards = if self.cards { CARDS } else { 0 };
+        let strict = if self.strict { STRICT } else { 0 };
+        cards | strict
     }
 }

@@ -112,7 +112,7 @@ impl Template {
     ///
     /// # Errors
     ///
-    /// The causes 1 to 16.
+    /// The causes 1 to 16; with [`Settings::strict`] also 25.
     ///
     /// ```
     /// use sorbilgan::{Cause, Template};
@@ -132,7 +132,7 @@ impl Template {
     ///
     /// # Errors
     ///
-    /// The causes 1 to 17.
+    /// The causes 1 to 17; with [`Settings::strict`] also 25.
     ///
     /// ```
     /// use sorbilgan::{system_time, Template};
@@ -152,7 +152,7 @@ impl Template {
     ///
     /// # Errors
     ///
-    /// The causes 1 to 16, and 18.
+    /// The causes 1 to 16, and 18; with [`Settings::strict`] also 25.
     ///
     /// ```
     /// use sorbilgan::Template;

@@ -1,13 +1,16 @@
-//! The functions that take settings, called as `sorbilgan-sys` declares them. Without the bit of the flash cards each
-//! answers as the one without settings does; bits without a name change nothing.
+//! The functions that take settings, called as `sorbilgan-sys` declares them. Without the bits of the flash cards and
+//! of strict reading each answers as the one without settings does; bits without a name change nothing.
 
 use sorbilgan_sys::*;
 
-const UNNAMED: u32 = !CARDS;
+const UNNAMED: u32 = !(CARDS | STRICT);
 
-/// Each settings with what they have to answer: those of the exercise pages, then those of the flash cards.
-fn by_settings<T: Clone>(page: T, card: T) -> [(u32, T); 4] {
-    [(0, page.clone()), (UNNAMED, page), (CARDS, card.clone()), (CARDS | UNNAMED, card)]
+/// Each settings with what they have to answer: those of the exercise pages, then those of the flash cards. The strict
+/// bit changes nothing where there is a year, nor in writing and compiling.
+fn by_settings<T: Clone>(page: T, card: T) -> Vec<(u32, T)> {
+    let pages = [0, UNNAMED, STRICT].map(|set| (set, page.clone()));
+    let cards = [0, UNNAMED, STRICT].map(|set| (CARDS | set, card.clone()));
+    [pages, cards].concat()
 }
 
 fn asked<A: Default>(ask: impl FnOnce(*mut A) -> u8) -> A {
@@ -53,6 +56,36 @@ macro_rules! reading {
 reading!(parts: sorbilgan_parts, sorbilgan_parts_by, sorbilgan_parts_with, sorbilgan_parts_by_with);
 reading!(instants: sorbilgan_instant, sorbilgan_instant_by, sorbilgan_instant_with, sorbilgan_instant_by_with);
 reading!(dates: sorbilgan_date, sorbilgan_date_by, sorbilgan_date_with, sorbilgan_date_by_with);
+
+/// The two functions that take settings refuse a day that its month never has by the strict bit alone.
+macro_rules! strict {
+    ($name:ident: $plain:ident, $with:ident, $by_with:ident) => {
+        #[test]
+        fn $name() {
+            let (t, t_length) = (b"DD.MM".as_ptr(), 5);
+            let (c_length, nodes) = compiled(|nodes| unsafe { sorbilgan_compile(t, t_length, nodes) });
+            let (c, c_length) = (nodes.as_ptr(), c_length as usize);
+            for (line, number) in [("29.02", 0), ("30.02", 25)] {
+                let s = line.as_ptr();
+                let lenient = asked(|answer| unsafe { $plain(t, t_length, s, 5, answer) });
+                assert_eq!(lenient.report.number, 0);
+                let mut strict = if number == 0 { lenient } else { Default::default() };
+                strict.report = Report { number, ..lenient.report };
+                for (bit, wanted) in [(0, lenient), (STRICT, strict)] {
+                    for set in [0, UNNAMED, CARDS].map(|other| bit | other) {
+                        assert_eq!(asked(|answer| unsafe { $with(set, t, t_length, s, 5, answer) }), wanted);
+                        let by = asked(|answer| unsafe { $by_with(set, c, c_length, t, t_length, s, 5, answer) });
+                        assert_eq!(by, wanted);
+                    }
+                }
+            }
+        }
+    };
+}
+
+strict!(strict_parts: sorbilgan_parts, sorbilgan_parts_with, sorbilgan_parts_by_with);
+strict!(strict_instants: sorbilgan_instant, sorbilgan_instant_with, sorbilgan_instant_by_with);
+strict!(strict_dates: sorbilgan_date, sorbilgan_date_with, sorbilgan_date_by_with);
 
 #[test]
 fn nodes() {

@@ -2,7 +2,9 @@
 //! `rust-sys/src/lib.rs` declares, which other tests call.
 
 use sorbilgan::{Cause, Settings, INPUT_LIMIT, TEMPLATE_LIMIT, VERSION};
-use sorbilgan_sys::{sorbilgan_version, sorbilgan_version_2, CARDS, NAME, NODES, NO_PATTERN};
+use sorbilgan_sys::{
+    sorbilgan_version, sorbilgan_version_3, CARDS, DAY_SET, MONTH_SET, NAME, NODES, NO_PATTERN, STRICT, YEAR_SET,
+};
 use std::collections::BTreeMap;
 
 const HEADER: &str = include_str!("../../../include/sorbilgan.h");
@@ -37,10 +39,14 @@ fn the_same_sizes() {
         ("INPUT_LIMIT", INPUT_LIMIT),
         ("CARDS_TEMPLATE_LIMIT", cards.template_limit()),
         ("CARDS_INPUT_LIMIT", cards.input_limit()),
+        ("STRICT", STRICT as usize),
         ("CARDS", CARDS as usize),
         ("NODES", NODES),
         ("NO_PATTERN", NO_PATTERN.into()),
         ("NAME", NAME),
+        ("YEAR_SET", YEAR_SET as usize),
+        ("MONTH_SET", MONTH_SET as usize),
+        ("DAY_SET", DAY_SET as usize),
     ];
     assert_eq!(found, wanted);
 }
@@ -48,9 +54,9 @@ fn the_same_sizes() {
 /// A new cause is a new version: a crate without it must not link.
 #[test]
 fn the_same_version() {
-    assert_eq!([sorbilgan_version(), sorbilgan_version_2()], [VERSION; 2]);
+    assert_eq!([sorbilgan_version(), sorbilgan_version_3()], [VERSION; 2]);
     assert!(HEADER.contains(&format!("= sorbilgan_version_{VERSION};")));
-    assert_eq!((VERSION, Cause::ALL.len()), (2, 21));
+    assert_eq!((VERSION, Cause::ALL.len()), (3, 22));
 }
 
 /// The fields of a struct in C or Rust, between its first line and the next brace.
@@ -64,7 +70,7 @@ fn the_same_fields() {
     let in_c = |line: &str| Some(line.trim().strip_prefix("int64_t ")?.split(';').next()?.to_string());
     let in_rust = |line: &str| Some(line.trim().strip_prefix("pub ")?.split(':').next()?.to_string());
     let report = fields(DECLARATIONS, "pub struct Report {", in_rust);
-    for (c, rust, count) in [("parts_answer", "PartsAnswer", 14), ("value_answer", "ValueAnswer", 5)] {
+    for (c, rust, count) in [("parts_answer", "PartsAnswer", 15), ("value_answer", "ValueAnswer", 5)] {
         let found = fields(HEADER, &format!("struct sorbilgan_{c} {{"), in_c);
         let own = fields(DECLARATIONS, &format!("pub struct {rust} {{"), in_rust);
         assert_eq!(own[0], "report");

@@ -43,7 +43,7 @@ fn what_is_accepted() {
         }
         count += 1;
     }
-    assert_eq!(count, 9);
+    assert_eq!(count, 10);
 }
 
 /// Its number, and the words that the cause has too.

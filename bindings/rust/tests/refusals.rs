@@ -1,6 +1,6 @@
 //! Each cause once, with its number, pattern, figures and sentence.
 
-use sorbilgan::{date, instant, read, write, Cause, Moment, Refusal, Template};
+use sorbilgan::{date, instant, read, write, Cause, Moment, Refusal, Settings, Template};
 use std::error::Error;
 
 const LEAP_DAY: Moment = Moment::midnight(2024, 2, 29);
@@ -11,6 +11,10 @@ fn written(template: &str, moment: Moment) -> Result<(), Refusal> {
 
 fn parts(template: &str, input: &str) -> Result<(), Refusal> {
     read(template, input).map(drop)
+}
+
+fn strictly(template: &str, input: &str) -> Result<(), Refusal> {
+    Template::compile_with(template, Settings::new().strict(true))?.read(input).map(drop)
 }
 
 #[test]
@@ -48,7 +52,9 @@ fn every_cause() {
         ),
         (written("YYYY", no_leap_day), none, "no moment of the years 1 to 9999"),
         (written("YYYY-MM-DD", LEAP_DAY), (None, [10, 0]), "the text needs 10 bytes"),
+        (strictly("DD.MM", "30.02"), none, "a day that its month never has"),
     ];
+    assert_eq!(cases.len(), Cause::ALL.len());
     for ((answer, (pattern, figures), sentence), cause) in cases.into_iter().zip(Cause::ALL.iter().copied()) {
         let refusal = answer.expect_err(sentence);
         assert_eq!((refusal.cause(), refusal.number()), (cause, cause.number()));

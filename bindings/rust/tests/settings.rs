@@ -1,10 +1,11 @@
-//! The exercise pages and the flash cards, each at its own limits.
+//! The exercise pages and the flash cards, each at its own limits; and what a strict template refuses, and when.
 
-use sorbilgan::{Cause, Moment, Parts, Refusal, Settings, Template, INPUT_LIMIT, TEMPLATE_LIMIT};
+use sorbilgan::{format, Cause, Moment, Parts, Refusal, Settings, Template, INPUT_LIMIT, TEMPLATE_LIMIT};
 use std::collections::HashSet;
 
 const PAGES: Settings = Settings::new();
 const CARDS: Settings = PAGES.cards(true);
+const STRICT: Settings = PAGES.strict(true);
 const LEAP_DAY: Moment = Moment::midnight(2024, 2, 29);
 
 fn template(text: &str, settings: Settings) -> Template {
@@ -21,7 +22,18 @@ fn assert_too_long<T>(answer: Result<T, Refusal>) {
 fn limits_of_both() {
     assert_eq!((PAGES.template_limit(), PAGES.input_limit()), (TEMPLATE_LIMIT, INPUT_LIMIT));
     assert_eq!((CARDS.template_limit(), CARDS.input_limit()), (64, 96));
+    assert_eq!((STRICT.template_limit(), STRICT.input_limit()), (TEMPLATE_LIMIT, INPUT_LIMIT));
     assert_eq!(Settings::default(), PAGES);
+}
+
+/// Each setting changes alone, whichever is set first.
+#[test]
+fn settings_together() {
+    assert_eq!(CARDS.strict(true), STRICT.cards(true));
+    assert_eq!((CARDS.strict(true).cards(false), CARDS.strict(true).strict(false)), (STRICT, CARDS));
+    assert_eq!(HashSet::from([PAGES, CARDS, STRICT, CARDS.strict(true)]).len(), 4);
+    let both = CARDS.strict(true);
+    assert_eq!((both.template_limit(), both.input_limit()), (64, 96));
 }
 
 /// The limit is tested before the bytes are.
@@ -93,6 +105,72 @@ fn templates_by_their_settings() {
     assert_eq!(HashSet::from([page.clone(), card.clone(), template("YYYY", CARDS)]).len(), 2);
     let longer = [PAGES, CARDS].map(|settings| template("YYYY-MM", settings));
     assert!(longer.iter().all(|longer| page < *longer && card < *longer));
-    assert_eq!(format!("{card} {card:?}"), r#"YYYY Template("YYYY", Settings { cards: true })"#);
+    assert_eq!(format!("{card} {card:?}"), r#"YYYY Template("YYYY", Settings { cards: true, strict: false })"#);
     assert_eq!("YYYY".parse(), Ok(page));
+    assert_ne!(template("YYYY", STRICT), template("YYYY", PAGES));
+}
+
+/// The cause of a refusal, or none where the line is accepted; the same for parts, instants and dates.
+fn refused(text: &str, line: &str, settings: Settings) -> Option<Cause> {
+    let template = template(text, settings);
+    let causes = [template.read(line).err(), template.instant(line).err(), template.date(line).err()];
+    let causes = causes.map(|refusal| {
+        let refusal = refusal?;
+        assert_eq!((refusal.pattern(), refusal.figures()), (None, [0, 0]), "{text}: {line}");
+        Some(refusal.cause())
+    });
+    assert!(causes.iter().all(|cause| *cause == causes[0]), "{text}: {line}: {causes:?}");
+    causes[0]
+}
+
+/// 25 comes after a fraction outside 32 bits and the ranges of month and day, and before those of time and offset.
+#[test]
+fn strict_in_its_place() {
+    use Cause::{FieldOverflow, NoSuchDay, OffsetRange};
+    for (text, line, lenient, strict) in [
+        ("DD.MM", "29.02", None, None),
+        ("DD.MM", "30.02", None, Some(NoSuchDay)),
+        ("DD.MM", "31.02", None, Some(NoSuchDay)),
+        ("DD Month", "31 November", None, Some(NoSuchDay)),
+        ("DD.MM.YYYY", "30.02.0000", None, Some(NoSuchDay)),
+        ("DD.MM.YYYY", "30.02.2024", Some(FieldOverflow), Some(FieldOverflow)),
+        ("DD.MM", "30", None, None),
+        ("DD.MM", "32.02", Some(FieldOverflow), Some(FieldOverflow)),
+        ("DD.MM", "30.13", Some(FieldOverflow), Some(FieldOverflow)),
+        ("DD.MM MS", "30.02 9999999", Some(FieldOverflow), Some(FieldOverflow)),
+        ("DD.MM MS", "30.02 9999", Some(FieldOverflow), Some(NoSuchDay)),
+        ("DD.MM HH24", "30.02 24", Some(FieldOverflow), Some(NoSuchDay)),
+        ("DD.MM HH24", "29.02 24", Some(FieldOverflow), Some(FieldOverflow)),
+        ("DD.MM OF", "30.02 +16", Some(OffsetRange), Some(NoSuchDay)),
+        ("DD.MM OF", "29.02 +16", Some(OffsetRange), Some(OffsetRange)),
+    ] {
+        for (settings, wanted) in [(PAGES, lenient), (CARDS, lenient), (STRICT, strict), (STRICT.cards(true), strict)] {
+            assert_eq!(refused(text, line, settings), wanted, "{text}: {line} with {settings:?}");
+        }
+    }
+}
+
+/// A refusal of reading comes first: of the limits, of a pattern, of the 12-hour clock.
+#[test]
+fn strict_after_reading() {
+    for (text, line, number) in [
+        ("DD.MM", format!("{:513}", "30.02"), 1),
+        ("DD.MM YYYY", "30.02 x".to_string(), 7),
+        ("DD.MM HH12", "30.02 13".to_string(), 13),
+    ] {
+        for settings in [PAGES, STRICT] {
+            assert_eq!(template(text, settings).read(&line).unwrap_err().number(), number, "{text} with {settings:?}");
+        }
+    }
+}
+
+/// A strict template writes what others write, and reads it back.
+#[test]
+fn strict_templates_write() {
+    let full = "DD.MM.YYYY HH24:MI:SS.US";
+    let text = template(full, STRICT).format(&LEAP_DAY).unwrap();
+    assert_eq!(Ok(&text), format(full, &LEAP_DAY).as_ref());
+    assert_eq!(template(full, STRICT).read(text), Ok(Parts::from(LEAP_DAY)));
+    let no_moment = template("DD.MM", STRICT).format(&Moment { day: 30, ..LEAP_DAY }).unwrap_err();
+    assert_eq!(no_moment.cause(), Cause::NoMoment);
 }

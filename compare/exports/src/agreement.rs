@@ -1,6 +1,6 @@
 //! Whether the exports answer as the ported module does.
 
-use crate::archive::{self, CARDS, NAME, NODE, NODES, Settings};
+use crate::archive::{self, CARDS, NAME, NODE, NODES, STRICT, Settings};
 use oracle::answers::{Limits, Moment, records};
 use oracle::hex;
 use std::fmt::{self, Debug, Display};
@@ -13,6 +13,8 @@ const FILLER: u8 = 0xa5;
 const MORE: [u8; NODES + 1] = [0; NODES + 1];
 /// The most bytes that the text of a full template has more than the template.
 const LONGER: usize = 6;
+/// The marks of a date that is set as a whole.
+const WHOLE: i64 = 7;
 
 pub struct Difference {
     export: &'static str,
@@ -30,20 +32,28 @@ impl Display for Difference {
 
 pub type Agreement<T> = Result<T, Difference>;
 
-/// Who calls: its limits, and the settings that give it these.
+/// Who calls: its limits, whether it is strict, and the settings that say so.
 struct Caller {
     limits: Limits,
+    strict: bool,
     settings: Settings,
 }
 
 /// The exercise pages as they always called.
-const PAGES: Caller = Caller { limits: Limits::PAGES, settings: None };
+const PAGES: Caller = Caller { limits: Limits::PAGES, strict: false, settings: None };
 
 impl Caller {
-    /// The exercise pages without settings and with them, and the flash cards. The bits besides mean nothing.
-    fn all(bits: u32) -> [Caller; 3] {
-        let pages = Caller { settings: Some(bits), ..PAGES };
-        [PAGES, pages, Caller { limits: Limits::CARDS, settings: Some(bits | CARDS) }]
+    /// The exercise pages without settings; pages and flash cards with them, lenient and strict. The bits besides mean
+    /// nothing.
+    fn all(bits: u32) -> [Caller; 5] {
+        let with = |limits, strict, settings: u32| Caller { limits, strict, settings: Some(bits | settings) };
+        [
+            PAGES,
+            with(Limits::PAGES, false, 0),
+            with(Limits::PAGES, true, STRICT),
+            with(Limits::CARDS, false, CARDS),
+            with(Limits::CARDS, true, STRICT | CARDS),
+        ]
     }
 
     fn same<T: PartialEq + Debug>(&self, export: &'static str, wanted: T, found: T) -> Agreement<()> {
@@ -64,6 +74,15 @@ impl Caller {
         self.same(export, (wanted[0], wanted), (number.into(), found))
     }
 
+    /// The same of what is read, with the strict switch or without.
+    fn read<const WORDS: usize>(
+        &self, export: &'static str, within: bool, wanted: &records::Switched<WORDS>,
+        call: impl FnOnce(Settings, &mut [i64; WORDS]) -> u8,
+    ) -> Agreement<()> {
+        let wanted = if self.strict { wanted.on } else { wanted.off };
+        self.answered(export, within, wanted, |out| call(self.settings, out))
+    }
+
     /// The same of a record and a buffer, which stays as it was where a limit is passed.
     fn written(
         &self, export: &'static str, within: bool, (wanted, text): (archive::Value, &[u8]),
@@ -81,7 +100,7 @@ pub struct Template<'a> {
     text: &'a [u8],
     nodes: Option<archive::Nodes>,
     length: usize,
-    callers: [Caller; 3],
+    callers: [Caller; 5],
 }
 
 impl Template<'_> {
@@ -106,28 +125,29 @@ impl Template<'_> {
     }
 }
 
-/// What is read by a template from an input: the numbers of the three answers. By a compiled template only the input
-/// can be too long.
-pub fn read(template: &Template, input: &[u8]) -> Agreement<[i64; 3]> {
+/// The numbers of the three answers that read: those of the pages, and those of the strict pages.
+pub type Numbers = [[i64; 3]; 2];
+
+/// What is read by a template from an input. By a compiled template only the input can be too long.
+pub fn read(template: &Template, input: &[u8]) -> Agreement<Numbers> {
     let text = template.text;
     let parts = records::parts(text, input);
     let instant = records::instant(text, input);
     let date = records::date(text, input);
     for caller in &template.callers {
-        let settings = caller.settings;
         let within = caller.limits.hold(text, input);
-        caller.answered("parts", within, parts, |out| archive::parts_with(settings, text, input, out))?;
-        caller.answered("instant", within, instant, |out| archive::instant_with(settings, text, input, out))?;
-        caller.answered("date", within, date, |out| archive::date_with(settings, text, input, out))?;
+        caller.read("parts", within, &parts, |with, out| archive::parts_with(with, text, input, out))?;
+        caller.read("instant", within, &instant, |with, out| archive::instant_with(with, text, input, out))?;
+        caller.read("date", within, &date, |with, out| archive::date_with(with, text, input, out))?;
         let Some(nodes) = template.nodes() else { continue };
         let within = caller.limits.hold(&[], input);
-        caller.answered("parts_by", within, parts, |out| archive::parts_by_with(settings, nodes, text, input, out))?;
-        caller.answered("instant_by", within, instant, |out| {
-            archive::instant_by_with(settings, nodes, text, input, out)
+        caller.read("parts_by", within, &parts, |with, out| archive::parts_by_with(with, nodes, text, input, out))?;
+        caller.read("instant_by", within, &instant, |with, out| {
+            archive::instant_by_with(with, nodes, text, input, out)
         })?;
-        caller.answered("date_by", within, date, |out| archive::date_by_with(settings, nodes, text, input, out))?;
+        caller.read("date_by", within, &date, |with, out| archive::date_by_with(with, nodes, text, input, out))?;
     }
-    Ok([parts[0], instant[0], date[0]])
+    Ok([[parts.off[0], instant.off[0], date.off[0]], [parts.on[0], instant.on[0], date.on[0]]])
 }
 
 /// What is written by a template for a moment, into a buffer of `room` bytes: the number and the text. After the
@@ -154,14 +174,15 @@ pub fn write(template: &Template, moment: &Moment, room: usize) -> Agreement<(i6
     Ok((record[0], text))
 }
 
-/// The text that a full template writes is read as its moment by each caller that takes the template.
+/// The text that a full template writes is read as its moment, all of its date set, by each caller that takes the
+/// template.
 pub fn read_back(template: &Template, moment: &Moment, text: &str) -> Agreement<()> {
     PAGES.same("write", text.len().min(template.text.len() + LONGER), text.len())?;
     for caller in template.callers.iter().filter(|caller| caller.limits.hold(template.text, &[])) {
-        let mut found = [UNSET; 14];
+        let mut found = [UNSET; 15];
         archive::parts_with(caller.settings, template.text, text.as_bytes(), &mut found);
         let numbers: Vec<i64> = moment.iter().map(|number| i64::from(*number)).collect();
-        caller.same("parts", (0, &numbers[..]), (found[0], &found[4..11]))?;
+        caller.same("parts", (0, &numbers[..], WHOLE), (found[0], &found[4..11], found[14]))?;
     }
     Ok(())
 }

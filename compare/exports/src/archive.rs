@@ -3,12 +3,12 @@
 
 use oracle::answers::Moment;
 use sorbilgan_sys as sys;
-pub use sorbilgan_sys::{CARDS, NAME, NODES};
+pub use sorbilgan_sys::{CARDS, NAME, NODES, STRICT};
 
 /// The bytes of a node.
 pub const NODE: usize = 6;
 
-pub type Parts = [i64; 14];
+pub type Parts = [i64; 15];
 pub type Value = [i64; 5];
 pub type Nodes = [u8; NODES];
 pub type Name = [u8; NAME];

@@ -2,7 +2,7 @@
 
 use oracle::answers::{Limits, Moment, cut, numbers_of, records};
 use oracle::random::{Random, all_bytes};
-use oracle::{moments, pairs, questions::templates, readings};
+use oracle::{birthdays, moments, pairs, questions::templates, readings};
 
 #[derive(Default)]
 pub struct Batch {
@@ -23,10 +23,10 @@ const IDLE: u32 = !7;
 const FILLERS: [&str; 8] = [" ", "-", "x", "0", "à", "\u{301}", "ứ", "𝄞"];
 
 impl Batch {
-    /// Mostly one input or moment; now and then many, which are nearly half of all.
+    /// Mostly one input or moment; now and then many, which are more than a third of all.
     pub fn new(random: &mut Random) -> Batch {
         let bits = if random.once_in(2) { 0 } else { random.next() as u32 & IDLE };
-        let batch = match random.below(54) {
+        let batch = match random.below(72) {
             0..=23 => Batch::read(pairs::line(random)),
             24..=31 => Batch::read(readings::line(random)),
             32..=37 => Batch::read(damaged(random)),
@@ -43,6 +43,7 @@ impl Batch {
             40 => Batch { tight: true, ..Batch::written(moments::line(random)) },
             41..=47 => Batch::written(moments::line(random)),
             48..=51 => Batch::read(near_limits(random)),
+            52..=69 => Batch::read(birthdays::line(random)),
             _ => {
                 let batch = Batch::written(moments::line(random));
                 Batch { template: near_template(random, batch.template), tight: random.once_in(8), ..batch }
@@ -70,7 +71,7 @@ impl Batch {
 
 /// A line of which the template or the input has pieces and bytes put in or taken out anywhere.
 fn damaged(random: &mut Random) -> Vec<u8> {
-    let mut line = pairs::line(random);
+    let mut line = if random.once_in(3) { birthdays::line(random) } else { pairs::line(random) };
     for _ in 0..=random.below(3) {
         let at = random.below(line.len() + 1);
         let end = at + random.below(line.len() - at + 1).min(random.below(6));
@@ -87,12 +88,14 @@ fn damaged(random: &mut Random) -> Vec<u8> {
 
 /// A line of which the template, the input or both are about as long as the flash cards' limits.
 fn near_limits(random: &mut Random) -> Vec<u8> {
-    let mut template = pairs::template(random);
+    let birthday = random.once_in(3).then(|| birthdays::line(random));
+    let birthday = birthday.as_deref().map(cut);
+    let mut template = birthday.map_or_else(|| pairs::template(random), |(template, _)| template.to_vec());
     let which = random.below(3);
     if which != 0 {
         template = near_template(random, template);
     }
-    let mut input = pairs::input(random, &template);
+    let mut input = birthday.map_or_else(|| pairs::input(random, &template), |(_, input)| input.to_vec());
     if which != 1 {
         let length = near(random, Limits::CARDS.input);
         input = resized(random, input, length);

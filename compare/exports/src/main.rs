@@ -18,11 +18,15 @@ const ROOM: usize = 512;
 /// Of the differences so many are printed.
 const SHOWN: usize = 20;
 
-const ANSWERS: [&str; 4] = ["parts", "instants", "days", "texts"];
+/// The answers of pages, in the order of `agreement::Numbers`, and after them the texts.
+const ANSWERS: [&str; 7] = ["parts", "instants", "days", "strict parts", "strict instants", "strict days", "texts"];
+const TEXTS: usize = 6;
 /// One more than the last number of a refusal.
-const NUMBERS: usize = 22;
+const NUMBERS: usize = 26;
 
-/// What is counted of the two callers, of lengths at the flash cards' limits, and of texts by full templates.
+/// What is counted of the strict switch, of pages and cards, of lengths at the cards' limits, and of texts by full
+/// templates.
+const SWITCH: [&str; 2] = ["inputs read equally when strict", "refused with 25 instead"];
 const CALLERS: [&str; 4] = [
     "inputs within the smaller limits read equally",
     "refused with 1 by the cards alone",
@@ -36,7 +40,8 @@ const BACK: [&str; 2] = ["texts of full templates", "by the cards too"];
 #[derive(Default)]
 struct Tally {
     pairs: u64,
-    numbers: [[u64; NUMBERS]; 4],
+    numbers: [[u64; NUMBERS]; ANSWERS.len()],
+    switch: [u64; SWITCH.len()],
     callers: [u64; CALLERS.len()],
     lengths: [u64; LENGTHS.len()],
     back: [u64; BACK.len()],
@@ -66,6 +71,7 @@ impl Tally {
     fn join(&mut self, other: Tally) {
         self.pairs += other.pairs;
         self.numbers.iter_mut().zip(other.numbers).for_each(|(counts, more)| add(counts, more));
+        add(&mut self.switch, other.switch);
         add(&mut self.callers, other.callers);
         add(&mut self.lengths, other.lengths);
         add(&mut self.back, other.back);
@@ -80,7 +86,8 @@ impl Tally {
             let counts: Vec<String> = counts.map(|(number, count)| format!("{count} of {number}")).collect();
             println!("{answer}: {}", counts.join(", "));
         }
-        let counted: [(_, &[u64], &[&str]); 3] = [
+        let counted: [(_, &[u64], &[&str]); 4] = [
+            ("strict switch", &self.switch, &SWITCH),
             ("callers", &self.callers, &CALLERS),
             ("lengths", &self.lengths, &LENGTHS),
             ("read back", &self.back, &BACK),
@@ -119,8 +126,11 @@ fn caught<T>(case: Case, tally: &mut Tally, check: impl FnOnce() -> Agreement<T>
 fn read(template: &[u8], compiled: &Template, input: &[u8], tally: &mut Tally) {
     let case = Case::Reading { template, input };
     if let Some(numbers) = caught(case, tally, || agreement::read(compiled, input)) {
-        numbers.iter().zip(&mut tally.numbers).for_each(|(number, counts)| counts[*number as usize] += 1);
-        tally.answered(template, Some(input), numbers[0]);
+        let [lenient, strict] = numbers;
+        let counted = numbers.as_flattened().iter().zip(&mut tally.numbers);
+        counted.for_each(|(number, counts)| counts[*number as usize] += 1);
+        add(&mut tally.switch, [lenient == strict, lenient != strict].map(u64::from));
+        tally.answered(template, Some(input), lenient[0]);
     }
 }
 
@@ -130,7 +140,7 @@ fn write(template: &[u8], compiled: &Template, moment: &Moment, room: usize, tal
     let Some((number, text)) = caught(case, tally, || agreement::write(compiled, moment, room)) else {
         return String::new();
     };
-    tally.numbers[3][number as usize] += 1;
+    tally.numbers[TEXTS][number as usize] += 1;
     tally.answered(template, None, number);
     if number == 0 {
         read(template, compiled, text.as_bytes(), tally);

@@ -6,12 +6,14 @@ use std::fmt::Debug;
 use std::str::FromStr;
 
 mod fields;
+mod marks;
 pub mod measured;
 mod reading;
 pub mod records;
 mod writing;
 
 pub use fields::fields;
+pub use marks::{LONGEST, note};
 pub use reading::{Limits, cut, date, instant, line, parts, without_return};
 #[cfg(test)]
 pub use writing::patterns;

@@ -1,6 +1,7 @@
 //! The numbered answers to a template and an input: what the module reads, or a refusal told from the text of its
 //! error.
 
+use super::marks::{Noted, noted};
 use super::*;
 use std::fmt;
 
@@ -46,25 +47,27 @@ pub fn cut(line: &[u8]) -> (&[u8], &[u8]) {
 /// What was asked for, or why there is none.
 pub type Answer<T> = std::result::Result<T, Refusal>;
 
-/// 0, then year, month, day, hour, minute, second, microseconds, precision, offset or `none`; or a refusal.
+/// 0, then year, month, day, hour, minute, second, microseconds, precision, offset or `none`, marks; or a refusal.
 pub fn parts(template: &[u8], input: &[u8]) -> String {
-    shown(read(template, input, to_timestamp_parts), |parts| {
+    let reading = read(template, input, to_timestamp_parts);
+    let marks = reading.marks();
+    shown(reading.answer, |parts| {
         let TimestampParts { tm, fsec, fprec, tz_east } = parts;
         let date = format!("{} {} {}", tm.year, tm.mon, tm.mday);
         let time = format!("{} {} {} {fsec}", tm.hour, tm.min, tm.sec);
         let offset = tz_east.map_or("none".to_string(), |east| east.to_string());
-        format!("{date} {time} {fprec} {offset}")
+        format!("{date} {time} {fprec} {offset} {marks}")
     })
 }
 
 /// 0, then microseconds since 1970-01-01, a text without an offset read as UTC; or a refusal.
 pub fn instant(template: &[u8], input: &[u8]) -> String {
-    shown(read(template, input, to_instant), |micros| micros.to_string())
+    shown(read(template, input, to_instant).answer, |micros| micros.to_string())
 }
 
 /// 0, then days since 1970-01-01; or a refusal.
 pub fn date(template: &[u8], input: &[u8]) -> String {
-    shown(read(template, input, to_date_text), |days| days.to_string())
+    shown(read(template, input, to_date_text).answer, |days| days.to_string())
 }
 
 pub fn to_instant(input: &str, template: &str) -> Result<i64> {
@@ -75,14 +78,33 @@ pub fn shown<T>(answer: Answer<T>, accepted: impl Fn(T) -> String) -> String {
     answer.map_or_else(|refusal| refusal.to_string(), |value| format!("0 {}", accepted(value)))
 }
 
-pub fn read<T>(template: &[u8], input: &[u8], by: impl Fn(&str, &str) -> Result<T>) -> Answer<T> {
+/// What is read with the strict switch off, and what the module noted of its date.
+pub struct Reading<T> {
+    pub answer: Answer<T>,
+    noted: Option<Noted>,
+}
+
+impl<T> Reading<T> {
+    pub fn marks(&self) -> u8 {
+        self.noted.map_or(0, |noted| noted.marks)
+    }
+
+    /// Whether the switch refuses it, whatever comes after the check of the date.
+    pub fn is_never(&self) -> bool {
+        self.noted.is_some_and(|noted| noted.is_never())
+    }
+}
+
+pub fn read<T>(template: &[u8], input: &[u8], by: impl Fn(&str, &str) -> Result<T>) -> Reading<T> {
+    let refused = |number| Reading { answer: Err(Refusal::plain(number)), noted: None };
     if !Limits::PAGES.hold(template, input) {
-        return Err(Refusal::plain(1));
+        return refused(1);
     }
     let (Ok(template), Ok(input)) = (std::str::from_utf8(template), std::str::from_utf8(input)) else {
-        return Err(Refusal::plain(2));
+        return refused(2);
     };
-    by(input, template).map_err(|error| refusal(&error, template, input))
+    let (read, noted) = noted(|| by(input, template));
+    Reading { answer: read.map_err(|error| refusal(&error, template, input)), noted }
 }
 
 /// A refusal: its number, the pattern as the template spells it, two figures.

@@ -1,6 +1,6 @@
 //! The same answers as records of 64-bit words, as the library's exports fill them.
 
-use super::reading::{Answer, Limits, Refusal, read, to_instant};
+use super::reading::{Answer, Limits, Reading, Refusal, read, to_instant};
 use super::writing::{Moment, attempt};
 use super::*;
 
@@ -27,20 +27,33 @@ pub fn limited<const WORDS: usize>(within: bool, answer: [i64; WORDS]) -> [i64; 
     if within { answer } else { record(Err(Refusal::plain(1))) }
 }
 
-/// The values are the nine parts, with a flag before the offset.
-pub fn parts(template: &[u8], input: &[u8]) -> [i64; 14] {
-    record(read(template, input, to_timestamp_parts).map(|TimestampParts { tm, fsec, fprec, tz_east }| {
+/// The answers with the strict switch off and on. With it there is refusal 25 where it is due, and else the same.
+#[derive(Clone, Copy)]
+pub struct Switched<const WORDS: usize> {
+    pub off: [i64; WORDS],
+    pub on: [i64; WORDS],
+}
+
+fn switched<T, const WORDS: usize>(reading: Reading<T>, values: impl FnOnce(T, u8) -> Vec<i64>) -> Switched<WORDS> {
+    let (marks, is_never) = (reading.marks(), reading.is_never());
+    let off = record(reading.answer.map(|read| values(read, marks)));
+    Switched { off, on: if is_never { record(Err(Refusal::plain(25))) } else { off } }
+}
+
+/// The values are the nine parts, with a flag before the offset, and the marks.
+pub fn parts(template: &[u8], input: &[u8]) -> Switched<15> {
+    switched(read(template, input, to_timestamp_parts), |TimestampParts { tm, fsec, fprec, tz_east }, marks| {
         let numbers = [tm.year, tm.mon, tm.mday, tm.hour, tm.min, tm.sec, fsec, fprec, tz_east.is_some().into()];
-        numbers.into_iter().map(i64::from).chain([tz_east.unwrap_or(0)]).collect()
-    }))
+        numbers.into_iter().map(i64::from).chain([tz_east.unwrap_or(0), marks.into()]).collect()
+    })
 }
 
-pub fn instant(template: &[u8], input: &[u8]) -> [i64; 5] {
-    record(read(template, input, to_instant).map(|micros| vec![micros]))
+pub fn instant(template: &[u8], input: &[u8]) -> Switched<5> {
+    switched(read(template, input, to_instant), |micros, _| vec![micros])
 }
 
-pub fn date(template: &[u8], input: &[u8]) -> [i64; 5] {
-    record(read(template, input, to_date_text).map(|days| vec![days.into()]))
+pub fn date(template: &[u8], input: &[u8]) -> Switched<5> {
+    switched(read(template, input, to_date_text), |days, _| vec![days.into()])
 }
 
 /// The value is the length of the text, which comes with it: empty where the answer is a refusal.

@@ -2,5 +2,7 @@
 
 -- the limits of a template and of an input, and who has which
 pub mod Limits
+-- the strict switch
+pub mod Strict
 -- settings as the bits of a number
 pub mod Bits

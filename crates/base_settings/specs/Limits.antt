@@ -1,5 +1,6 @@
 -- The limits of a template and of an input, in bytes, by the settings of a caller.
 use mathlib.Core.Path.{_≡_, refl}
+use mathlib.Core.Bool.{false}
 use Prim.Native.Nat.{ℕ, min}
 use Rattle.base_settings.specs.declared.Limits.{Limits}
 use Rattle.base_settings.specs.declared.Settings.{Settings}
@@ -16,11 +17,11 @@ cardLimits = limits 64 96
 
 -- settings with other limits
 abbrev pub withLimits : Limits → Settings → Settings
-withLimits l set = record { limits = l }
+withLimits l set = record { limits = l; strict = set .strict }
 
 -- the settings of the exercise pages, and of whoever names none; those of the flash cards
 abbrev pub pages : Settings
-pages = record { limits = pageLimits }
+pages = record { limits = pageLimits; strict = false }
 
 abbrev pub cards : Settings
 cards = withLimits cardLimits pages

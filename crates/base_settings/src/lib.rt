@@ -1,7 +1,8 @@
-// What differs from caller to caller: the limits of a template and of an input.
+// What differs from caller to caller: the limits of a template and of an input, and whether days are refused that no
+// month has.
 ghost use mathlib.Core.Path.{_≡_};
 ghost use Prim.Native.Nat.{min};
-ghost use Rattle.base_settings.specs.Bits.{limitsOf, settingsOf};
+ghost use Rattle.base_settings.specs.Bits.{limitsOf, settingsOf, strictOf};
 ghost use Rattle.base_settings.specs.Limits.{inputLimit, pages, templateLimit};
 
 // The longest template and the longest input, in bytes.
@@ -10,8 +11,10 @@ pub struct Limits {
     pub input: usize,
 }
 
+// The strict switch: without a year, a day that its month never has is refused.
 pub struct Settings {
     pub limits: Limits,
+    pub strict: bool,
 }
 
 // The limits of the exercise pages, which are the greatest that there are, and those of the flash cards.
@@ -23,7 +26,9 @@ pub const CARD_TEMPLATE: usize = 64;
 
 pub const CARD_INPUT: usize = 96;
 
-// The bit of the flash cards, where settings are a number.
+// The bits of the strict switch and of the flash cards, where settings are a number.
+pub const STRICT: u32 = 2;
+
 pub const CARDS: u32 = 4;
 
 fn limits_of(bits: u32) -> Limits
@@ -41,12 +46,19 @@ fn limits_of(bits: u32) -> Limits
     }
 }
 
+fn strict_of(bits: u32) -> bool
+    ensures { λ r. ⌜ r ≡ strictOf bits ⌝ }
+{
+    bits & STRICT != 0
+}
+
 // The settings that are a number's bits. Bits that mean nothing are ignored.
 pub fn settings_of(bits: u32) -> Settings
     ensures { λ r. ⌜ r ≡ settingsOf bits ⌝ }
 {
     let limits = limits_of(bits);
-    Settings { limits }
+    let strict = strict_of(bits);
+    Settings { limits, strict }
 }
 
 // The settings of the exercise pages, and of whoever names none.

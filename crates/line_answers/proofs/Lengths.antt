@@ -1,5 +1,5 @@
 -- The text of a moment in parts, and how long answers are: no item but a text is longer than 20 bytes. Assumes nothing.
--- `moment-is`: the text of a moment is 0, its date, its time, its precision and its offset.
+-- `moment-is`: the text of a moment is 0, its date, its time, its precision, its offset and its marks.
 -- `int-length`: a number of 32 bits has at most 20 bytes in decimal.
 -- `value-short`, `moment-short`, `report-short`: so an instant or a day, a moment and a report have at most 514.
 use mathlib.Core.Path.{_≡_, _∙_, refl, ap}
@@ -36,15 +36,18 @@ dateNumbers p = p .year ∷ p .month ∷ p .day ∷ []
 abbrev pub timeNumbers : Parts → List ℤ
 timeNumbers p = p .hour ∷ p .minute ∷ p .second ∷ p .micros ∷ []
 
-pub moment-is : (p : Parts) → momentText p ≡ accepted (numbers (dateNumbers p) ++ (numbers (timeNumbers p) ++ (item (decimal (p .precision)) ++ item (offsetText (p .offset)))))
+abbrev pub lastItems : Parts → List ℕ
+lastItems p = item (offsetText (p .offset)) ++ item (decimal (pos (p .marks)))
+
+pub moment-is : (p : Parts) → momentText p ≡ accepted (numbers (dateNumbers p) ++ (numbers (timeNumbers p) ++ (item (decimal (p .precision)) ++ lastItems p)))
 unfolding momentText
 moment-is p =
     let date = dateNumbers p in
     let time = timeNumbers p in
-    let offset = item (offsetText (p .offset)) in
-    ap (λ (l : List ℕ). accepted (l ++ offset)) (numbers-append date (time ++ p .precision ∷ []) ∙ ap (λ (l : List ℕ). numbers date ++ l) (numbers-append time (p .precision ∷ [])))
-    ∙ ap (λ (l : List ℕ). accepted l) (append-assoc (numbers date) _ offset ∙ ap (λ (l : List ℕ). numbers date ++ l) (append-assoc (numbers time) _ offset))
-    ∙ ap (λ (l : List ℕ). accepted (numbers date ++ (numbers time ++ (item l ++ offset)))) (append-nil (decimal (p .precision)))
+    let last = lastItems p in
+    ap (λ (l : List ℕ). accepted (l ++ last)) (numbers-append date (time ++ p .precision ∷ []) ∙ ap (λ (l : List ℕ). numbers date ++ l) (numbers-append time (p .precision ∷ [])))
+    ∙ ap (λ (l : List ℕ). accepted l) (append-assoc (numbers date) _ last ∙ ap (λ (l : List ℕ). numbers date ++ l) (append-assoc (numbers time) _ last))
+    ∙ ap (λ (l : List ℕ). accepted (numbers date ++ (numbers time ++ (item l ++ last)))) (append-nil (decimal (p .precision)))
 
 -- a number of 32 bits
 pub int-length : (z : ℤ) → SFits w32 z → length (decimal z) ≤ 20
@@ -53,9 +56,9 @@ int-length z f = decimal-length z (sfits-widen {w = w32} {w′ = w64} tt f)
 pub value-short : (z : ℤ) → SFits w64 z → length (accepted (item (decimal z))) ≤ 514
 value-short z f = omega (arith, decimal-length z f)
 
-pub moment-short : (p : Parts) → Ranged p → length (offsetText (p .offset)) ≤ 20 → length (momentText p) ≤ 514
+pub moment-short : (p : Parts) → Ranged p → Fits w8 (p .marks) → length (offsetText (p .offset)) ≤ 20 → length (momentText p) ≤ 514
 unfolding momentText
-moment-short p f o =
+moment-short p f m o =
     let year = int-length (p .year) (f .year) in
     let month = int-length (p .month) (f .month) in
     let day = int-length (p .day) (f .day) in
@@ -64,6 +67,7 @@ moment-short p f o =
     let second = int-length (p .second) (f .second) in
     let micros = int-length (p .micros) (f .micros) in
     let precision = int-length (p .precision) (f .precision) in
+    let marks = decimal-length (pos (p .marks)) (omega arith) in
     simp length-append (omega arith)
 
 -- a pattern's name

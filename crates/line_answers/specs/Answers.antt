@@ -5,9 +5,9 @@ use Prim.Native.Nat.{ℕ}
 use Prim.Native.Char.{code}
 use lib.IntN.{pos, negsuc}
 use Rattle.base_notation.specs.Text.{utf8}
-use Rattle.base_refusals.specs.Report.{reportOf}
 use Rattle.moment_time.specs.declared.Offset.{Offset}
 use Rattle.moment_time.specs.declared.Offset.the-variants.{Absent, East}
+use Rattle.moment_parts.specs.Report.{unreadReport}
 use Rattle.moment_parts.specs.declared.Answer.{Answer}
 use Rattle.moment_parts.specs.declared.Answer.the-variants.{Moment, Refused}
 use Rattle.moment_parts.specs.declared.Parts.{Parts}
@@ -35,17 +35,17 @@ abbrev pub offsetText : Offset → List ℕ
 offsetText Absent = utf8 "none"
 offsetText (East seconds) = decimal seconds
 
--- year, month, day, hour, minute, second, microseconds, precision, offset
+-- year, month, day, hour, minute, second, microseconds, precision, offset; last the marks, as one number from 0 to 7
 unfoldable pub momentText : Parts → List ℕ
 momentText p =
     accepted (
     numbers (p .year ∷ p .month ∷ p .day ∷ p .hour ∷ p .minute ∷ p .second ∷ p .micros ∷ p .precision ∷ [])
-    ++ item (offsetText (p .offset)))
+    ++ (item (offsetText (p .offset)) ++ item (decimal (pos (p .marks)))))
 
 -- the parts of a moment, its instant or its day, or why there is none
 unfoldable pub partsAnswer : Answer → List ℕ
 partsAnswer (Moment p) = momentText p
-partsAnswer (Refused why) = reportText (reportOf why)
+partsAnswer (Refused why) = reportText (unreadReport why)
 
 unfoldable pub instantAnswer : Instant → List ℕ
 instantAnswer (Micros micros) = accepted (item (decimal micros))
@@ -62,8 +62,8 @@ textAnswer text (NoText why) = reportText (unwrittenReport why)
 
 -- half a second past midnight of a day before the year 1, an hour east
 pub moments
-    : (momentText (parts (negsuc 43) 3 15 500000 3 (East (pos 3600))) ≡ utf8 "0 -44 3 15 0 0 0 500000 3 3600")
-    × (momentText (parts (pos 2024) 2 29 0 0 Absent) ≡ utf8 "0 2024 2 29 0 0 0 0 0 none")
+    : (momentText (parts (negsuc 43) 3 15 500000 3 (East (pos 3600))) ≡ utf8 "0 -44 3 15 0 0 0 500000 3 3600 7")
+    × (momentText (parts (pos 2024) 2 29 0 0 Absent) ≡ utf8 "0 2024 2 29 0 0 0 0 0 none 7")
 unfolding momentText digits significant
 moments = (refl, refl)
 

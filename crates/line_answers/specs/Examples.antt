@@ -12,6 +12,7 @@ use Rattle.calendar_gregorian.specs.Civil.{civil-computes}
 use Rattle.read_input.specs.Examples.{reading-computes}
 use Rattle.moment_date.specs.Dates.{date-computes}
 use Rattle.moment_time.specs.Time.{time-computes}
+use Rattle.moment_parts.specs.Report.{unreadReport}
 use Rattle.moment_parts.specs.Parts.{checkedMoment, momentOf as partsMoment, partsOf, partsRead}
 use Rattle.moment_instants.specs.ByTemplate.{dateOf, timestampOf}
 use Rattle.moment_instants.specs.Instant.{dayOf, instantOf, lessOffset, roundedTo, secondsOf, wallOf}
@@ -35,22 +36,22 @@ use Rattle.line_answers.specs.declared.Mode.the-variants.{Parts, Instant
 
 -- unfolds all that the answer to a line is computed by, for worked examples
 unfoldable pub line-computes : ℕ
-unfolding answerLine wholeAnswer pairAnswer counted withoutReturn leading reportText patternName digits significant reportOf partsOf partsRead limits-compute partsMoment checkedMoment wellFormedAfter sequence reading-computes time-computes date-computes
+unfolding answerLine wholeAnswer pairAnswer counted withoutReturn leading reportText patternName digits significant unreadReport reportOf partsOf partsRead limits-compute partsMoment checkedMoment wellFormedAfter sequence reading-computes time-computes date-computes
 line-computes = 0
 
 -- the parts of a moment: February 29 of 2024, a day without a year, and one that 2023 has not
 pub parts
-    : (answerLine Parts (utf8 "YYYY-MM-DD\t2024-02-29") ≡ utf8 "0 2024 2 29 0 0 0 0 0 none")
-    × (answerLine Parts (utf8 "MM-DD\t02-30") ≡ utf8 "0 0 2 30 0 0 0 0 0 none")
+    : (answerLine Parts (utf8 "YYYY-MM-DD\t2024-02-29") ≡ utf8 "0 2024 2 29 0 0 0 0 0 none 7")
+    × (answerLine Parts (utf8 "MM-DD\t02-30") ≡ utf8 "0 0 2 30 0 0 0 0 0 none 6")
     × (answerLine Parts (utf8 "YYYY-MM-DD\t2023-02-29") ≡ utf8 "15 - 0 0")
 unfolding line-computes partsAnswer momentText
 parts = (refl, refl, refl)
 
 -- the same in Vietnamese; what follows a number is ignored at the template's end
 pub vietnamese
-    : (answerLine Parts (utf8 "\"ngày \"DD\" tháng \"MM\" năm \"YYYY\tngày 29 tháng 02 năm 2024") ≡ utf8 "0 2024 2 29 0 0 0 0 0 none")
-    × (answerLine Parts (utf8 "\"ngày \"DD\" tháng \"MM\tngày 30 tháng 02") ≡ utf8 "0 0 2 30 0 0 0 0 0 none")
-    × (answerLine Parts (utf8 "\"ngày\"DD\tngày 3x") ≡ utf8 "0 0 1 3 0 0 0 0 0 none")
+    : (answerLine Parts (utf8 "\"ngày \"DD\" tháng \"MM\" năm \"YYYY\tngày 29 tháng 02 năm 2024") ≡ utf8 "0 2024 2 29 0 0 0 0 0 none 7")
+    × (answerLine Parts (utf8 "\"ngày \"DD\" tháng \"MM\tngày 30 tháng 02") ≡ utf8 "0 0 2 30 0 0 0 0 0 none 6")
+    × (answerLine Parts (utf8 "\"ngày\"DD\tngày 3x") ≡ utf8 "0 0 1 3 0 0 0 0 0 none 4")
 unfolding line-computes partsAnswer momentText
 vietnamese = (refl, refl, refl)
 

@@ -17,7 +17,7 @@ pub fn parts(t: &[u8], s: &[u8], out: &mut [u8], at: usize) -> usize
 {
     match moment_parts::to_timestamp_parts(base_settings::pages(), t, s) {
         Answer::Moment(p) => put_moment(p, out, at),
-        Answer::Refused(why) => put_report(base_refusals::report_of(why), out, at),
+        Answer::Refused(why) => put_report(moment_parts::report_of(why), out, at),
     }
 }
 

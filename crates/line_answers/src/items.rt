@@ -82,8 +82,9 @@ pub fn put_moment(p: Parts, out: &mut [u8], at: usize) -> usize
     let date = put_date(p.year, p.month, p.day, out, number);
     let time = put_time(p.hour, p.minute, p.second, p.micros, out, date);
     let precision = put_int(p.precision, out, time);
-    let offset = p.offset;
-    put_offset(offset, out, precision)
+    let east = p.offset;
+    let offset = put_offset(east, out, precision);
+    put_number(p.marks as i64, out, offset)
 }
 
 // A pattern by its name, which fills its row up to a space, or `-` for none.

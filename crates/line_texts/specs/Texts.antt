@@ -62,6 +62,6 @@ pub record AnswersLines (mode : Mode) (long : Bool) (text before₀ after : List
   pub some : longest ≤ length before₀ → r .from ≡ 0 → NoneLeft text
 
 -- a line of which the beginning was left off, a line, and one that does not end in the text
-pub worked : answersTo Parts true (utf8 "MM\nDD\t5\nDD") ≡ utf8 "1 - 0 0\n0 0 1 5 0 0 0 0 0 none\n"
+pub worked : answersTo Parts true (utf8 "MM\nDD\t5\nDD") ≡ utf8 "1 - 0 0\n0 0 1 5 0 0 0 0 0 none 4\n"
 unfolding answersAfter tooLongAnswer line-computes partsAnswer momentText
 worked = refl

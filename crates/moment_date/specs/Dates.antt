@@ -159,9 +159,13 @@ dayInMonth r = not (eqb (r .set) allBits && ltZ (pos (lengthOf (isLeap (natAbs (
 unfoldable pub dateInRange : Days → Bool
 dateInRange r = partInRange (r .set) monthBit (r .month) (pos 12) && (partInRange (r .set) dayBit (r .day) (pos 31) && dayInMonth r)
 
+-- month and day are set, the year is not, and the month never has the day: not even in a leap year
+unfoldable pub noSuchDay : ℕ → ℤ → ℤ → Bool
+noSuchDay set m n = eqb set (bitOr monthBit dayBit) && ltZ (pos (lengthOf true m)) n
+
 -- unfolds all that a date is computed by, for worked examples
 unfoldable pub date-computes : ℕ
-unfolding begun withJulian firstOfWeek withWeek withMonthWeek fromDayOfYear withDayOfYear datedOf dateInRange year-computes daysBefore endedBefore monthOfDay shifted withSkipped dayFromMarch j2date fromMarch date2j j2day weekOne isoweek2j
+unfolding begun withJulian firstOfWeek withWeek withMonthWeek fromDayOfYear withDayOfYear datedOf dateInRange noSuchDay year-computes daysBefore endedBefore monthOfDay shifted withSkipped dayFromMarch j2date fromMarch date2j j2day weekOne isoweek2j
 date-computes = 0
 
 -- without a year February has 30 days; 2023 with its month and day set, and day 60 of it
@@ -171,3 +175,11 @@ pub worked
     × (fromDayOfYear (days (pos 2023) (pos 1) (pos 1) 1 (pos 0) (pos 60)) ≡ days (pos 2023) (pos 3) (pos 1) 7 (pos 0) (pos 60))
 unfolding date-computes
 worked = (refl, refl, refl)
+
+-- February 30 and April 31 are never there, February 29 and March 31 are; with a year, or without a month, it is not asked
+pub never
+    : (noSuchDay 6 (pos 2) (pos 30) ≡ true) × (noSuchDay 6 (pos 4) (pos 31) ≡ true)
+    × (noSuchDay 6 (pos 2) (pos 29) ≡ false) × (noSuchDay 6 (pos 3) (pos 31) ≡ false)
+    × (noSuchDay 7 (pos 2) (pos 30) ≡ false) × (noSuchDay 4 (pos 2) (pos 30) ≡ false)
+unfolding noSuchDay
+never = (refl, refl, refl, refl, refl, refl)

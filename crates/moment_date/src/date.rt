@@ -1,7 +1,8 @@
 // The date, from the year and the fields that were read, and which of year, month and day are set.
 ghost use mathlib.Core.Path.{_≡_};
+ghost use mathlib.Core.Bool.{_&&_};
 ghost use Rattle.calendar_julian.specs.ToDate.{j2date};
-ghost use Rattle.moment_date.specs.Dates.{yearMask, whole, begun, withJulian, dayOfWeek, firstOfWeek, withWeek, withMonthWeek, withDay, withMonth, aboveOne, fromDayOfYear, fromDayOfIsoYear, countsDayOfYear, lacksYear, withDayOfYear, datedOf, partInRange, dayInMonth, dateInRange};
+ghost use Rattle.moment_date.specs.Dates.{yearMask, whole, begun, withJulian, dayOfWeek, firstOfWeek, withWeek, withMonthWeek, withDay, withMonth, aboveOne, fromDayOfYear, fromDayOfIsoYear, countsDayOfYear, lacksYear, withDayOfYear, datedOf, partInRange, dayInMonth, dateInRange, noSuchDay};
 use super::Dated;
 use super::Days;
 use base_refusals::Refusal;
@@ -283,4 +284,18 @@ pub fn date_in_range(r: Days) -> bool
         return false;
     }
     day_in_month(r)
+}
+
+// Under the strict switch: month and day are set, the year is not, and the month never has the day. In a leap year each
+// month has its most days.
+pub fn no_such_day(strict: bool, set: u8, month: i32, day: i32) -> bool
+    ensures { λ b. ⌜ b ≡ (strict && noSuchDay set month day) ⌝ }
+{
+    if !strict {
+        return false;
+    }
+    if set != M_MONTH | M_DAY {
+        return false;
+    }
+    day > month_length(true, month)
 }

@@ -6,6 +6,7 @@ pub use date::begun;
 pub use date::date_in_range;
 pub use date::dated_of;
 pub use date::from_day_of_year;
+pub use date::no_such_day;
 pub use date::with_day;
 pub use date::with_day_of_year;
 pub use date::with_julian;

@@ -1,5 +1,5 @@
 -- The instant and the day of a date and time of the years 1 to 9999 are the calendar's. Assumes nothing.
--- `plainParts`: the parts of a date and time with no offset and no precision.
+-- `plainParts`: the parts of a date and time with no offset, no precision and all three marks.
 -- `day-is`: their day is the calendar's, counted from 1970-01-01.
 -- `instant-is`: their instant is the calendar's microseconds since then.
 use mathlib.Core.Path.{_≡_, refl, _∙_, ap, sym}
@@ -15,6 +15,7 @@ use Rattle.calendar_gregorian.specs.Civil.{daysFromCivil}
 use Rattle.calendar_gregorian.specs.Gregorian.{Valid, dayNumber, dayNumberℤ}
 use Rattle.calendar_gregorian.proofs.Dates.{first-to-last}
 use Rattle.calendar_gregorian.proofs.DaysFrom.{civil}
+use Rattle.moment_date.specs.Dates.{allBits}
 use Rattle.moment_time.specs.declared.Offset.the-variants.{Absent}
 use Rattle.moment_parts.specs.declared.Parts.{Parts}
 use Rattle.moment_instants.specs.Instant.{within, secondsOf, wallOf, lessOffset, roundedTo, instantOf, dayOf}
@@ -24,7 +25,7 @@ use Rattle.moment_instants.specs.declared.epoch.Instant.the-variants.{Mi
 use Rattle.moment_instants.proofs.Range.{between}
 use Rattle.moment_instants.proofs.Seconds.{times-mag}
 
--- the parts of a date and time with no offset and no precision
+-- the parts of a date and time with no offset, no precision and all three marks
 abbrev pub plainParts : ℕ → ℕ → ℕ → ℕ → ℕ → ℕ → ℕ → Parts
 plainParts y m d h mi s us = record {
   year = pos y;
@@ -36,6 +37,7 @@ plainParts y m d h mi s us = record {
   micros = pos us;
   precision = pos 0;
   offset = Absent;
+  marks = allBits;
 }
 
 -- -n times k, and -n + t below 0

@@ -10,9 +10,10 @@ use Rattle.moment_instants.specs.declared.epoch.Day.the-variants.{Refuse
 use Rattle.moment_instants.specs.declared.epoch.Instant.{Instant}
 use Rattle.moment_instants.specs.declared.epoch.Instant.the-variants.{Refused as NoInstant}
 use Rattle.moment_instants.specs.declared.epoch.Undated.the-variants.{Unread}
-use Rattle.moment_parts.specs.Parts.{partsOf}
+use Rattle.moment_parts.specs.Parts.{partsOf, refusedBy}
 use Rattle.moment_parts.specs.declared.Answer.{Answer}
 use Rattle.moment_parts.specs.declared.Answer.the-variants.{Moment, Refused}
+use Rattle.moment_parts.specs.declared.Unread.the-variants.{By, NoSuchDay}
 
 -- the instant and the day of an answer
 abbrev pub instantBy : Answer → Instant
@@ -32,5 +33,5 @@ dateOf set t s = dayBy (partsOf set t s)
 
 -- what is not read has neither, for the same cause
 pub worked
-    : (instantBy (Refused FieldOverflow) ≡ NoInstant (Unread FieldOverflow)) × (dayBy (Refused FieldOverflow) ≡ NoDay (Unread FieldOverflow))
+    : (instantBy (refusedBy FieldOverflow) ≡ NoInstant (Unread (By FieldOverflow))) × (dayBy (Refused NoSuchDay) ≡ NoDay (Unread NoSuchDay))
 worked = (refl, refl)

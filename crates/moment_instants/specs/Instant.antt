@@ -7,6 +7,7 @@ use lib.IntN.{ℤ, pos, negsuc, natAbs, negℤ, _+ℤ_, _-ℤ_, _*ℤ_}
 use lib.Signed.{ltZ, mag}
 use Rattle.calendar_gregorian.specs.Civil.{civil-computes, daysFromCivil}
 use Rattle.base_notation.specs.Choice.{if_then_else_}
+use Rattle.moment_date.specs.Dates.{allBits}
 use Rattle.moment_time.specs.declared.Offset.{Offset}
 use Rattle.moment_time.specs.declared.Offset.the-variants.{Absent, East}
 use Rattle.moment_parts.specs.declared.Parts.{Parts}
@@ -84,10 +85,10 @@ dayOf p =
     let n = daysFromCivil (p .year) (p .month) (p .day) in
     if ltZ (negsuc 2147483647) n && ltZ n (pos 2147483647) then Number n else NoDay DateRange
 
--- parts at midnight
+-- parts at midnight, with all three marks
 abbrev pub parts : ℤ → ℕ → ℕ → ℕ → ℕ → Offset → Parts
 parts y m d us precision offset =
-    record { year = y; month = pos m; day = pos d; hour = pos 0; minute = pos 0; second = pos 0; micros = pos us; precision = pos precision; offset = offset }
+    record { year = y; month = pos m; day = pos d; hour = pos 0; minute = pos 0; second = pos 0; micros = pos us; precision = pos precision; offset = offset; marks = allBits }
 
 -- January 1 of 2000, one hour east of UTC; half a second rounded away from 2000 on both sides
 pub worked

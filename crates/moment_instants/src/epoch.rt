@@ -5,15 +5,15 @@ ghost use lib.IntN.{pos, natAbs, _+ℤ_, _*ℤ_};
 ghost use Rattle.calendar_gregorian.specs.Civil.{daysFromCivil};
 ghost use Rattle.moment_instants.specs.Instant.{within, secondsOf, wallOf, lessOffset, rounded, away, roundedTo, instantOf, dayOf};
 ghost use Rattle.moment_instants.specs.Report.{undatedReport};
-use base_refusals::Refusal;
 use base_refusals::Report;
 use calendar_gregorian::days_from_civil;
 use moment_parts::Parts;
+use moment_parts::Unread;
 use moment_time::Offset;
 
 // Why there is no instant, or no day.
 pub enum Undated {
-    Unread(Refusal),
+    Unread(Unread),
     // Outside 64 bits, or at one of their ends.
     InstantRange,
     // Outside 32 bits, or at one of their ends.
@@ -193,7 +193,7 @@ pub fn report_of(why: Undated) -> Report
     ensures { λ r. ⌜ r ≡ undatedReport why ⌝ }
 {
     match why {
-        Undated::Unread(refusal) => base_refusals::report_of(refusal),
+        Undated::Unread(why) => moment_parts::report_of(why),
         Undated::InstantRange => base_refusals::alone(17),
         Undated::DateRange => base_refusals::alone(18),
     }

@@ -6,3 +6,5 @@ pub mod Ranges
 pub mod Limits
 -- a refusal names no pattern, or one of the template's
 pub mod Patterns
+-- what the strict switch changes
+pub mod Strict

@@ -7,7 +7,7 @@
 -- `input-bad`: an input that is not UTF-8 is refused. `input-good`: to any other the answer is what the fields read by
 -- the nodes make.
 use mathlib.Core.Path.{_≡_}
-use mathlib.Core.Bool.{true, false}
+use mathlib.Core.Bool.{Bool, true, false}
 use mathlib.Core.List.{List}
 use Prim.Native.Nat.{ℕ, _<_, _≤_}
 use borrow.Author.Tests.{lt-ltb, le-ltb}
@@ -20,26 +20,25 @@ use Rattle.read_input.specs.Reader.{readAll}
 use Rattle.read_fields.specs.declared.Reading.{Reading}
 use Rattle.template_nodes.specs.Template.{nodesOf}
 use Rattle.template_nodes.specs.declared.Node.{Node}
-use Rattle.moment_parts.specs.Parts.{partsBy, partsOf, partsRead, thenFields}
-use Rattle.moment_parts.specs.declared.Answer.the-variants.{Refused}
+use Rattle.moment_parts.specs.Parts.{partsBy, partsOf, partsRead, refusedBy, thenFields}
 
 -- by a template
 module _ (set : Settings) (t s : List ℕ) where
-  pub long-template : templateLimit set < length t → partsOf set t s ≡ Refused TooLong
+  pub long-template : templateLimit set < length t → partsOf set t s ≡ refusedBy TooLong
   unfolding partsOf
   long-template h = rw (lt-ltb (templateLimit set) (length t) h)
 
   module _ (short : length t ≤ templateLimit set) where
-    pub long-input : inputLimit set < length s → partsOf set t s ≡ Refused TooLong
+    pub long-input : inputLimit set < length s → partsOf set t s ≡ refusedBy TooLong
     unfolding partsOf
     long-input h = rw (le-ltb (templateLimit set) (length t) short, lt-ltb (inputLimit set) (length s) h)
 
     module _ (small : length s ≤ inputLimit set) where
-      pub bad-template : wellFormed t ≡ false → partsOf set t s ≡ Refused NotUtf8
+      pub bad-template : wellFormed t ≡ false → partsOf set t s ≡ refusedBy NotUtf8
       unfolding partsOf
       bad-template e = rw (le-ltb (templateLimit set) (length t) short, le-ltb (inputLimit set) (length s) small, e)
 
-      pub read-by : wellFormed t ≡ true → partsRead (nodesOf t) t s ≡ partsOf set t s
+      pub read-by : wellFormed t ≡ true → partsRead (set .strict) (nodesOf t) t s ≡ partsOf set t s
       unfolding partsOf
       read-by e = rw (le-ltb (templateLimit set) (length t) short, le-ltb (inputLimit set) (length s) small, e)
 
@@ -50,18 +49,19 @@ module _ (set : Settings) (t s : List ℕ) where
 
 -- by any nodes
 module _ (ns : List Node) (t s : List ℕ) where
-  pub input-long : (set : Settings) → inputLimit set < length s → Refused TooLong ≡ partsBy set ns t s
+  pub input-long : (set : Settings) → inputLimit set < length s → refusedBy TooLong ≡ partsBy set ns t s
   unfolding partsBy
   input-long set h = rw (lt-ltb (inputLimit set) (length s) h)
 
-  pub input-within : (set : Settings) → length s ≤ inputLimit set → partsRead ns t s ≡ partsBy set ns t s
+  pub input-within : (set : Settings) → length s ≤ inputLimit set → partsRead (set .strict) ns t s ≡ partsBy set ns t s
   unfolding partsBy
   input-within set h = rw (le-ltb (inputLimit set) (length s) h)
 
-  pub input-bad : wellFormed s ≡ false → Refused NotUtf8 ≡ partsRead ns t s
+  pub input-bad : (strict : Bool) → wellFormed s ≡ false → refusedBy NotUtf8 ≡ partsRead strict ns t s
   unfolding partsRead
-  input-bad e = rw e
+  input-bad strict e = rw e
 
-  pub input-good : wellFormed s ≡ true → (r : Reading) → r ≡ readAll t s ns → thenFields (r .verdict) (r .fields) ≡ partsRead ns t s
+  pub input-good : (strict : Bool) → wellFormed s ≡ true → (r : Reading) → r ≡ readAll t s ns
+      → thenFields strict (r .verdict) (r .fields) ≡ partsRead strict ns t s
   unfolding partsRead
-  input-good e r q = rw (e, q)
+  input-good strict e r q = rw (e, q)

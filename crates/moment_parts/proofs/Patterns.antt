@@ -2,7 +2,7 @@
 -- `named-own`: so it is by any nodes, whatever the template and the input are.
 -- `named-in-template`: so it is by a template, with its own nodes.
 use mathlib.Core.Path.{refl}
-use mathlib.Core.Bool.{not, _||_}
+use mathlib.Core.Bool.{Bool, not, _&&_, _||_}
 use mathlib.Core.List.{List, [], _∷_}
 use mathlib.Core.Logic.{inl, inr}
 use Prim.Native.Nat.{ℕ}
@@ -22,7 +22,7 @@ use Rattle.read_input.specs.Reader.{readAll}
 use Rattle.read_input.proofs.Own.{Each, read-own}
 use Rattle.template_nodes.specs.Template.{nodesOf}
 use Rattle.template_nodes.specs.declared.Node.{Node}
-use Rattle.moment_date.specs.Dates.{datedOf, dateInRange}
+use Rattle.moment_date.specs.Dates.{datedOf, dateInRange, noSuchDay}
 use Rattle.moment_date.specs.declared.Dated.{Dated}
 use Rattle.moment_date.specs.declared.Dated.the-variants.{Date, Refused as NoDate}
 use Rattle.moment_date.specs.declared.Days.{Days}
@@ -36,6 +36,7 @@ use Rattle.moment_time.specs.declared.Zoned.the-variants.{At, Refused as NoZone
 use Rattle.moment_time.proofs.Unnamed.{ZonedNames, clock-unnamed, micros-unnamed, offset-unnamed}
 use Rattle.moment_parts.specs.Parts.{withOffset, checkedMoment, thenMoment, thenMicros, thenDate, momentOf, thenFields, partsRead, partsBy, partsOf}
 use Rattle.moment_parts.specs.Patterns.{PatternIn, NoneOrIn, NamesOwn}
+use Rattle.moment_parts.specs.Report.{unreadReport}
 
 module _ (ns : List Node) where
   -- no pattern is named
@@ -43,34 +44,41 @@ module _ (ns : List Node) where
   none = inl refl
 
   -- what follows the fields, each step on what the one before left
-  module _ (f : Fields) where
+  module _ (strict : Bool) (f : Fields) where
     offset-own : (r : Days) (hour us : ℤ) (z : Zoned) → ZonedNames (NoneOrIn ns) z → NamesOwn ns (withOffset f r hour us z)
+    unfolding unreadReport
     offset-own r hour us (NoZone why) named = named
     offset-own r hour us (At offset) named = tt
 
-    checked-own : (r : Days) (hour us : ℤ) → NamesOwn ns (checkedMoment f r hour us)
-    unfolding checkedMoment reportOf
+    checked-own : (r : Days) (hour us : ℤ) → NamesOwn ns (checkedMoment strict f r hour us)
+    unfolding checkedMoment unreadReport reportOf
     checked-own r hour us =
-        by-if (NamesOwn ns) (not (dateInRange r) || not (timeInRange hour (minuteOf f) (secondOf f) us)) _ _ (λ e. none)
-        (λ e. offset-own r hour us (checkedOffset f) (offset-unnamed (NoneOrIn ns) none f))
+        by-if (NamesOwn ns) (not (dateInRange r)) _ _ (λ e. none)
+        (λ e. by-if (NamesOwn ns) (strict && noSuchDay (r .set) (r .month) (r .day)) _ _ (λ e. none)
+        (λ e. by-if (NamesOwn ns) (not (timeInRange hour (minuteOf f) (secondOf f) us)) _ _ (λ e. none)
+        (λ e. offset-own r hour us (checkedOffset f) (offset-unnamed (NoneOrIn ns) none f))))
 
-    then-moment : (r : Days) (hour : ℤ) (v : Value) → ValueNames (NoneOrIn ns) v → NamesOwn ns (thenMoment f r hour v)
+    then-moment : (r : Days) (hour : ℤ) (v : Value) → ValueNames (NoneOrIn ns) v → NamesOwn ns (thenMoment strict f r hour v)
+    unfolding unreadReport
     then-moment r hour (Not why) named = named
     then-moment r hour (Is us) named = checked-own r hour us
 
-    then-micros : (hour : ℤ) (a : Dated) → DatedNames (NoneOrIn ns) a → NamesOwn ns (thenMicros f hour a)
+    then-micros : (hour : ℤ) (a : Dated) → DatedNames (NoneOrIn ns) a → NamesOwn ns (thenMicros strict f hour a)
+    unfolding unreadReport
     then-micros hour (NoDate why) named = named
     then-micros hour (Date r) named = then-moment r hour (microsOf f) (micros-unnamed (NoneOrIn ns) none f)
 
-    then-date : (v : Value) → ValueNames (NoneOrIn ns) v → NamesOwn ns (thenDate f v)
+    then-date : (v : Value) → ValueNames (NoneOrIn ns) v → NamesOwn ns (thenDate strict f v)
+    unfolding unreadReport
     then-date (Not why) named = named
     then-date (Is hour) named = then-micros hour (datedOf f) (date-unnamed (NoneOrIn ns) none f)
 
-    moment-own : NamesOwn ns (momentOf f)
+    moment-own : NamesOwn ns (momentOf strict f)
     unfolding momentOf
     moment-own = then-date (clockHour f) (clock-unnamed (NoneOrIn ns) none f)
 
-    then-fields : (v : Verdict) → VerdictNames (NoneOrIn ns) v → NamesOwn ns (thenFields v f)
+    then-fields : (v : Verdict) → VerdictNames (NoneOrIn ns) v → NamesOwn ns (thenFields strict v f)
+    unfolding unreadReport
     then-fields Read named = moment-own
     then-fields (Stopped why) named = named
 
@@ -80,24 +88,24 @@ each-in P [] own = tt
 each-in P (n ∷ ns) own = (λ e. own (n .pattern) (inl (e, refl)), each-in P ns (λ k i. own k (inr i)))
 
 -- the fields that nodes read, and what they make
-fields-own : (ns : List Node) (t s : List ℕ) → NamesOwn ns (thenFields (readAll t s ns .verdict) (readAll t s ns .fields))
-fields-own ns t s =
+fields-own : (strict : Bool) (ns : List Node) (t s : List ℕ) → NamesOwn ns (thenFields strict (readAll t s ns .verdict) (readAll t s ns .fields))
+fields-own strict ns t s =
     let r = readAll t s ns in
-    then-fields ns (r .fields) (r .verdict) (read-own (NoneOrIn ns) t s ns (each-in (NoneOrIn ns) ns (λ k i. inr i)))
+    then-fields ns strict (r .fields) (r .verdict) (read-own (NoneOrIn ns) t s ns (each-in (NoneOrIn ns) ns (λ k i. inr i)))
 
 -- the parts of an input within its limit
-parts-own : (ns : List Node) (t s : List ℕ) → NamesOwn ns (partsRead ns t s)
-unfolding partsRead reportOf
-parts-own ns t s = by-if (NamesOwn ns) (not (wellFormed s)) _ _ (λ e. none ns) (λ e. fields-own ns t s)
+parts-own : (strict : Bool) (ns : List Node) (t s : List ℕ) → NamesOwn ns (partsRead strict ns t s)
+unfolding partsRead unreadReport reportOf
+parts-own strict ns t s = by-if (NamesOwn ns) (not (wellFormed s)) _ _ (λ e. none ns) (λ e. fields-own strict ns t s)
 
 -- for any nodes, and all templates and inputs, of any bytes and length
 pub named-own : (set : Settings) (ns : List Node) (t s : List ℕ) → NamesOwn ns (partsBy set ns t s)
-unfolding partsBy reportOf
-named-own set ns t s = by-if (NamesOwn ns) (ltb (inputLimit set) (length s)) _ _ (λ e. none ns) (λ e. parts-own ns t s)
+unfolding partsBy unreadReport reportOf
+named-own set ns t s = by-if (NamesOwn ns) (ltb (inputLimit set) (length s)) _ _ (λ e. none ns) (λ e. parts-own (set .strict) ns t s)
 
 pub named-in-template : (set : Settings) (t s : List ℕ) → NamesOwn (nodesOf t) (partsOf set t s)
-unfolding partsOf reportOf
+unfolding partsOf unreadReport reportOf
 named-in-template set t s =
     let ns = nodesOf t in
     by-if (NamesOwn ns) (ltb (templateLimit set) (length t) || ltb (inputLimit set) (length s)) _ _ (λ e. none ns)
-    (λ e. by-if (NamesOwn ns) (not (wellFormed t)) _ _ (λ e. none ns) (λ e. parts-own ns t s))
+    (λ e. by-if (NamesOwn ns) (not (wellFormed t)) _ _ (λ e. none ns) (λ e. parts-own (set .strict) ns t s))

@@ -1,17 +1,18 @@
 -- Every answer is a moment in range or a refusal by its number. From the definitions alone; assumes nothing.
--- `parts-by-answered`: for any nodes, template and input, of any bytes and length, the answer is a moment in range or a
--- refusal by a number from 1 to 16. `answered`: the same by a template.
+-- `parts-by-answered`: for any nodes, template and input, of any bytes and length, the answer is a moment in range, with
+-- what its marks say, or a refusal by a number from 1 to 16, or by 25 under the strict switch. `answered`: the same by a
+-- template.
 -- `parts-in-range`: so the parts of every moment that is answered are in range.
 -- `moment-answered`, `moment-in-range`: the same for any fields whose digits of a fraction are 0 to 6, however they
 -- were read.
--- `numbered`: every refusal has a number from 1 to 16.
-use mathlib.Core.Path.{_≡_, refl, sym, _∙_, ap, subst}
+use mathlib.Core.Path.{_≡_, refl, subst}
 use mathlib.Core.Bool.{Bool, true, false, not, _&&_, _||_, false≢true}
 use mathlib.Core.List.{List}
-use Prim.Native.Nat.{ℕ, _≤_, _<_, zero-le}
+use mathlib.Core.Logic.{inl, inr}
+use Prim.Native.Nat.{ℕ, _+_, _≤_, zero-le}
 use native.Mathlib.Omega.{arith}
-use borrow.Author.Tests.{eqb-true, eq-eqb, le-ltb}
-use lib.Dec.{eqb, ltb}
+use borrow.Author.Tests.{eq-eqb, le-ltb, not-false}
+use lib.Dec.{ltb}
 use lib.IntN.{ℤ, pos, negℤ, natAbs}
 use lib.ListN.{length}
 use lib.Signed.{ltZ}
@@ -33,10 +34,11 @@ use Rattle.read_fields.specs.declared.Verdict.{Verdict}
 use Rattle.read_fields.specs.declared.Verdict.the-variants.{Read, Refused as Stopped}
 use Rattle.template_nodes.specs.Template.{nodesOf}
 use Rattle.template_nodes.specs.declared.Node.{Node}
-use Rattle.moment_date.specs.Dates.{yearBit, monthBit, dayBit, allBits, isSet, outside, partInRange, dayInMonth, dateInRange, datedOf}
-use Rattle.moment_parts.specs.Parts.{withOffset, checkedMoment, thenMoment, thenMicros, thenDate, momentOf, thenFields, partsRead, partsBy, partsOf}
+use Rattle.moment_date.specs.Dates.{yearBit, monthBit, dayBit, allBits, isSet, outside, partInRange, dayInMonth, dateInRange, datedOf, noSuchDay}
+use Rattle.moment_parts.specs.Parts.{withOffset, checkedMoment, thenMoment, thenMicros, thenDate, momentOf, thenFields, partsRead, partsBy, partsOf, refusedBy}
 use Rattle.moment_sums.specs.Within.{Within, below}
-use Rattle.moment_parts.specs.Ranges.{OffsetWithin, maskOf, HasDay, InRange, Answered, fieldsBy, fieldsOf}
+use Rattle.moment_parts.specs.Ranges.{OffsetWithin, InRange, Answered}
+use Rattle.moment_parts.specs.Report.{unreadReport}
 use Rattle.moment_time.specs.Time.{minuteOf, secondOf, clockHour, microsOf, timeInRange, eastOf, offsetOf, offsetInRange, checkedOffset}
 use Rattle.moment_parts.specs.declared.Answer.{Answer}
 use Rattle.moment_parts.specs.declared.Answer.the-variants.{Moment, Refused}
@@ -48,16 +50,15 @@ use Rattle.moment_parts.specs.declared.Parts.{Parts}
 use Rattle.moment_sums.specs.declared.Value.{Value}
 use Rattle.moment_sums.specs.declared.Value.the-variants.{Is, Not}
 use Rattle.moment_time.specs.declared.Zoned.the-variants.{At, Refused as NoZone}
-use Rattle.calendar_gregorian.proofs.Dates.{each, length-range}
-use Rattle.calendar_gregorian.proofs.Months.{month-length}
 use Rattle.read_input.proofs.Precision.{read-precise}
 use Rattle.moment_date.proofs.Marks.{Marked, MarkedDate, marked}
+use Rattle.moment_date.proofs.Never.{has-first, longest, three-bits}
 use Rattle.moment_time.proofs.Offsets.{seconds, east-range, west-range}
 use Rattle.moment_sums.proofs.Tests.{failed, passed}
 use Rattle.moment_sums.proofs.Within.{within, from-zero}
 
--- every refusal has a number from 1 to 16
-pub numbered : (why : Refusal) → (1 ≤ reportOf why .number) × (reportOf why .number ≤ 16)
+-- each refusal but that of the strict switch has a number from 1 to 16
+numbered : (why : Refusal) → (1 ≤ reportOf why .number) × (reportOf why .number ≤ 16)
 unfolding reportOf
 numbered TooLong = (omega arith, omega arith)
 numbered NotUtf8 = (omega arith, omega arith)
@@ -75,6 +76,10 @@ numbered (HourOfTwelve hour) = (omega arith, omega arith)
 numbered NoYear = (omega arith, omega arith)
 numbered FieldOverflow = (omega arith, omega arith)
 numbered OffsetRange = (omega arith, omega arith)
+
+refused : (strict : Bool) (why : Refusal) → Answered strict (refusedBy why)
+unfolding unreadReport
+refused strict why = inl (numbered why)
 
 -- an offset in its range is at most 15:59 east or west
 east-within : (f : Fields) → Within 0 15 (get f tzh) → Within 0 59 (get f tzm) → natAbs (eastOf f) ≤ 57540
@@ -110,45 +115,47 @@ in-month r w e m =
     within (r .day) (rw (w .is) (le-ltb (w .at) 1 (w .from)))
     (failed (ltZ (pos (lengthOf (isLeap (natAbs (r .year))) (r .month))) (r .day)) (rw (eq-eqb (r .set) allBits m) at e))
 
--- a mask below 8 with all three bits is the mask of all bits: the test computes
-full : ℕ → Bool
-full n = not (isSet yearBit n && (isSet monthBit n && isSet dayBit n)) || eqb n allBits
+-- a date in its ranges, whose month has the day where year, month and day are all marked
+module _ (r : Days) (marks : Marked r) (month : Within 1 12 (r .month)) (day : Within 1 31 (r .day))
+    (whole : r .set ≡ allBits → Within 1 (lengthOf (isLeap (natAbs (r .year))) (r .month)) (r .day)) where
+  year-marked : (r .year ≡ pos 0 → ⊥) → isSet yearBit (r .set) ≡ true
+  year-marked year = not-false _ (split (isSet yearBit (r .set)) refl)
+    where
+      split : (b : Bool) → isSet yearBit (r .set) ≡ b → not b ≡ false
+      split true e = refl
+      split false e = absurd (year (marks .year e))
 
-all-set : (set : ℕ) → set < 8 → isSet yearBit set ≡ true → isSet monthBit set ≡ true → isSet dayBit set ≡ true → set ≡ allBits
-unfolding full
-all-set set h y m d =
-    let full-mask = each (λ n. full n ≡ true) 0 7 (refl, (refl, (refl, (refl, (refl, (refl, (refl, refl))))))) set zero-le (omega arith) in
-    eqb-true set allBits (rw (y, m, d) at full-mask)
+  -- in every year but 0 the month has the day
+  dated : (r .year ≡ pos 0 → ⊥) → Within 1 (lengthOf (isLeap (natAbs (r .year))) (r .month)) (r .day)
+  dated year =
+      has-first (isLeap (natAbs (r .year))) r marks month day
+      (λ m d. whole (rw (year-marked year, m, d) at (three-bits (r .set) (marks .mask))))
 
--- every month has a first day, and January has 31 days: in a year other than 0 the month has the day
-dated : (r : Days) → Marked r → Within 1 12 (r .month) → Within 1 31 (r .day)
-    → (r .set ≡ allBits → Within 1 (lengthOf (isLeap (natAbs (r .year))) (r .month)) (r .day)) → (r .year ≡ pos 0 → ⊥)
-    → Within 1 (lengthOf (isLeap (natAbs (r .year))) (r .month)) (r .day)
-dated r marks month day whole year =
-    split (isSet yearBit (r .set)) (isSet monthBit (r .set)) (isSet dayBit (r .set)) refl refl refl
-  where
-    split : (y m d : Bool) → isSet yearBit (r .set) ≡ y → isSet monthBit (r .set) ≡ m → isSet dayBit (r .set) ≡ d
-        → Within 1 (lengthOf (isLeap (natAbs (r .year))) (r .month)) (r .day)
-    split false m d p q s = absurd (year (marks .year p))
-    split true false d p q s = rw (marks .month q) day
-    split true true false p q s =
-        let range = length-range (natAbs (r .year)) (month .at) (month .from) (month .to) in
-        let same = month-length (natAbs (r .year)) (month .at) (month .from) in
-        record { at = 1; is = marks .day s; from = omega arith; to = rw (month .is, same) (omega arith) }
-    split true true true p q s = whole (all-set (r .set) (marks .mask) p q s)
+  -- and where it is not one that its month never has, it is one of a leap year
+  possible : noSuchDay (r .set) (r .month) (r .day) ≡ false → Within 1 (lengthOf true (r .month)) (r .day)
+  unfolding noSuchDay
+  possible e =
+      has-first true r marks month day
+      (λ m d. split (isSet yearBit (r .set)) (rw (m, d) at (three-bits (r .set) (marks .mask))) refl)
+    where
+      split : (y : Bool) → r .set ≡ (if isSet yearBit (r .set) then 1 else 0) + 2 + 4 → isSet yearBit (r .set) ≡ y → Within 1 (lengthOf true (r .month)) (r .day)
+      split true is y =
+          let has = whole (rw y at is) in
+          record { at = has .at; is = has .is; from = has .from; to = omega (arith, has .to, longest (isLeap (natAbs (r .year))) (r .month)) }
+      split false is y =
+          within (r .day) (rw (day .is) (le-ltb (day .at) 1 (day .from))) (rw (eq-eqb (r .set) 6 (rw y at is)) at e)
 
--- no test failed
-neither : (a b : Bool) → (not a || not b) ≡ false → (a ≡ true) × (b ≡ true)
-neither true true e = (refl, refl)
-neither true false e = absurd (false≢true (sym e))
-neither false b e = absurd (false≢true (sym e))
+-- a conjunction that failed, though its first test passed
+second : (a b : Bool) → (a && b) ≡ false → a ≡ true → b ≡ false
+second a b e p = rw p at e
 
 -- what the checks leave is in range
-module _ (f : Fields) (few : Within 0 6 (get f ff)) (r : Days) (hour us : ℤ) (date : datedOf f ≡ Date r) (m : Marked r) where
-  in-range-of : dateInRange r ≡ true → timeInRange hour (minuteOf f) (secondOf f) us ≡ true → offsetInRange f ≡ true
-      → Answered f (withOffset f r hour us (At (offsetOf f)))
+module _ (strict : Bool) (f : Fields) (few : Within 0 6 (get f ff)) (r : Days) (hour us : ℤ) (m : Marked r) where
+  in-range-of : dateInRange r ≡ true → (strict && noSuchDay (r .set) (r .month) (r .day)) ≡ false
+      → timeInRange hour (minuteOf f) (secondOf f) us ≡ true → offsetInRange f ≡ true
+      → Answered strict (withOffset f r hour us (At (offsetOf f)))
   unfolding dateInRange timeInRange
-  in-range-of d t o =
+  in-range-of d n t o =
       let month-test = both (partInRange (r .set) monthBit (r .month) (pos 12)) _ d in
       let day-test = both (partInRange (r .set) dayBit (r .day) (pos 31)) _ (month-test .1) in
       let micros-test = both (below hour 24 && below (minuteOf f) 60 && below (secondOf f) 60) (below us 1000000) t in
@@ -157,7 +164,6 @@ module _ (f : Fields) (few : Within 0 6 (get f ff)) (r : Days) (hour us : ℤ) (
       let day = part-within (r .set) dayBit 31 (r .day) (omega arith) (m .day) (day-test .0) in
       let month = part-within (r .set) monthBit 12 (r .month) (omega arith) (m .month) (month-test .0) in
       let whole = in-month r day (day-test .1) in
-      let set-is : maskOf (datedOf f) ≡ r .set = ap maskOf date in
       record {
         hour = from-zero hour (hour-minute .0);
         minute = from-zero (minuteOf f) (hour-minute .1);
@@ -167,75 +173,79 @@ module _ (f : Fields) (few : Within 0 6 (get f ff)) (r : Days) (hour us : ℤ) (
         month = month;
         day = day;
         offset = offset-within f o;
-        mask = rw set-is (m .mask);
-        no-year = λ e. m .year (rw set-is at e);
-        no-month = λ e. m .month (rw set-is at e);
-        no-day = λ e. m .day (rw set-is at e);
-        in-month = λ e. whole (sym set-is ∙ e);
+        marks = m .mask;
+        no-year = m .year;
+        no-month = m .month;
+        no-day = m .day;
+        year = year-marked r m month day whole;
+        in-month = whole;
         dated = dated r m month day whole;
+        possible = λ on. possible r m month day whole (second strict _ n on);
       }
 
-  checked-answered : Answered f (checkedMoment f r hour us)
-  unfolding checkedMoment checkedOffset
+  checked-answered : Answered strict (checkedMoment strict f r hour us)
+  unfolding checkedMoment checkedOffset unreadReport
   checked-answered =
-      by-if (Answered f) (not (dateInRange r) || not (timeInRange hour (minuteOf f) (secondOf f) us)) (Refused FieldOverflow)
-      (withOffset f r hour us (checkedOffset f)) (λ e. numbered FieldOverflow)
-      (λ e. let tests = neither (dateInRange r) _ e in
-      by-if (λ z. Answered f (withOffset f r hour us z)) (offsetInRange f) (At (offsetOf f)) (NoZone OffsetRange) (λ o. in-range-of (tests .0) (tests .1) o) (λ o. numbered OffsetRange))
+      by-if (Answered strict) (not (dateInRange r)) _ _ (λ e. refused strict FieldOverflow)
+      (λ d. by-if (Answered strict) (strict && noSuchDay (r .set) (r .month) (r .day)) _ _
+      (λ e. inr (refl, both strict _ e .0))
+      (λ n. by-if (Answered strict) (not (timeInRange hour (minuteOf f) (secondOf f) us)) _ _ (λ e. refused strict FieldOverflow)
+      (λ t. by-if (λ z. Answered strict (withOffset f r hour us z)) (offsetInRange f) (At (offsetOf f)) (NoZone OffsetRange)
+      (in-range-of (passed _ d) n (passed _ t)) (λ o. refused strict OffsetRange))))
 
 -- each step of the definition, on what the one before left
-module _ (f : Fields) (few : Within 0 6 (get f ff)) where
-  then-moment : (r : Days) (hour : ℤ) (v : Value) → datedOf f ≡ Date r → Marked r → Answered f (thenMoment f r hour v)
-  then-moment r hour (Not why) date m = numbered why
-  then-moment r hour (Is us) date m = checked-answered f few r hour us date m
+module _ (strict : Bool) (f : Fields) (few : Within 0 6 (get f ff)) where
+  then-moment : (r : Days) (hour : ℤ) (v : Value) → Marked r → Answered strict (thenMoment strict f r hour v)
+  then-moment r hour (Not why) m = refused strict why
+  then-moment r hour (Is us) m = checked-answered strict f few r hour us m
 
-  then-micros : (hour : ℤ) (a : Dated) → datedOf f ≡ a → MarkedDate a → Answered f (thenMicros f hour a)
-  then-micros hour (NoDate why) date m = numbered why
-  then-micros hour (Date r) date m = then-moment r hour (microsOf f) date m
+  then-micros : (hour : ℤ) (a : Dated) → MarkedDate a → Answered strict (thenMicros strict f hour a)
+  then-micros hour (NoDate why) m = refused strict why
+  then-micros hour (Date r) m = then-moment r hour (microsOf f) m
 
-  then-date : (v : Value) → Answered f (thenDate f v)
-  then-date (Not why) = numbered why
-  then-date (Is hour) = then-micros hour (datedOf f) refl (marked f)
+  then-date : (v : Value) → Answered strict (thenDate strict f v)
+  then-date (Not why) = refused strict why
+  then-date (Is hour) = then-micros hour (datedOf f) (marked f)
 
   -- for all fields
-  pub moment-answered : Answered f (momentOf f)
+  pub moment-answered : Answered strict (momentOf strict f)
   unfolding momentOf
   moment-answered = then-date (clockHour f)
 
-  pub moment-in-range : {p : Parts} → momentOf f ≡ Moment p → InRange f p
-  moment-in-range e = subst (Answered f) e moment-answered
+  pub moment-in-range : {p : Parts} → momentOf strict f ≡ Moment p → InRange strict p
+  moment-in-range e = subst (Answered strict) e moment-answered
 
-  then-fields : (v : Verdict) → Answered f (thenFields v f)
+  then-fields : (v : Verdict) → Answered strict (thenFields strict v f)
   then-fields Read = moment-answered
-  then-fields (Stopped why) = numbered why
+  then-fields (Stopped why) = refused strict why
 
 -- for all nodes, templates and inputs, of any bytes and length
-module _ (ns : List Node) (t s : List ℕ) where
+module _ (strict : Bool) (ns : List Node) (t s : List ℕ) where
   -- an input that is UTF-8
-  fields-answered : Answered (fieldsBy ns t s) (thenFields (readAll t s ns .verdict) (fieldsBy ns t s))
+  fields-answered : Answered strict (thenFields strict (readAll t s ns .verdict) (readAll t s ns .fields))
   fields-answered =
       let few = read-precise t s ns in
-      then-fields (fieldsBy ns t s) (record { at = few .at; is = few .is; from = zero-le; to = few .to }) (readAll t s ns .verdict)
+      then-fields strict (readAll t s ns .fields) (record { at = few .at; is = few .is; from = zero-le; to = few .to }) (readAll t s ns .verdict)
 
   -- an input that is not too long
-  read-answered : Answered (fieldsBy ns t s) (partsRead ns t s)
+  read-answered : Answered strict (partsRead strict ns t s)
   unfolding partsRead
-  read-answered =
-      by-if (Answered (fieldsBy ns t s)) (not (wellFormed s)) _ _ (λ e. numbered NotUtf8) (λ e. fields-answered)
+  read-answered = by-if (Answered strict) (not (wellFormed s)) _ _ (λ e. refused strict NotUtf8) (λ e. fields-answered)
 
-pub parts-by-answered : (set : Settings) (ns : List Node) (t s : List ℕ) → Answered (fieldsBy ns t s) (partsBy set ns t s)
+pub parts-by-answered : (set : Settings) (ns : List Node) (t s : List ℕ) → Answered (set .strict) (partsBy set ns t s)
 unfolding partsBy
 parts-by-answered set ns t s =
-    by-if (Answered (fieldsBy ns t s)) (ltb (inputLimit set) (length s)) _ _ (λ e. numbered TooLong) (λ e. read-answered ns t s)
+    by-if (Answered (set .strict)) (ltb (inputLimit set) (length s)) _ _ (λ e. refused (set .strict) TooLong)
+    (λ e. read-answered (set .strict) ns t s)
 
 -- by a template
 module _ (set : Settings) (t s : List ℕ) where
-  pub answered : Answered (fieldsOf t s) (partsOf set t s)
+  pub answered : Answered (set .strict) (partsOf set t s)
   unfolding partsOf
   answered =
-      let P = Answered (fieldsOf t s) in
-      by-if P (ltb (templateLimit set) (length t) || ltb (inputLimit set) (length s)) _ _ (λ e. numbered TooLong)
-      (λ e. by-if P (not (wellFormed t)) _ _ (λ e. numbered NotUtf8) (λ e. read-answered (nodesOf t) t s))
+      let P = Answered (set .strict) in
+      by-if P (ltb (templateLimit set) (length t) || ltb (inputLimit set) (length s)) _ _ (λ e. refused (set .strict) TooLong)
+      (λ e. by-if P (not (wellFormed t)) _ _ (λ e. refused (set .strict) NotUtf8) (λ e. read-answered (set .strict) (nodesOf t) t s))
 
-  pub parts-in-range : {p : Parts} → partsOf set t s ≡ Moment p → InRange (fieldsOf t s) p
-  parts-in-range e = subst (Answered (fieldsOf t s)) e answered
+  pub parts-in-range : {p : Parts} → partsOf set t s ≡ Moment p → InRange (set .strict) p
+  parts-in-range e = subst (Answered (set .strict)) e answered

@@ -8,14 +8,16 @@ use lib.Dec.{ltb}
 use Rattle.base_notation.specs.Choice.{if_then_else_}
 use Rattle.base_notation.specs.Text.{utf8}
 use Rattle.base_refusals.specs.Report.{noPattern, reportOf}
-use Rattle.base_refusals.specs.declared.Refusal.{Refusal}
 use Rattle.base_refusals.specs.declared.Refusal.the-variants.{NoYear, Short}
 use Rattle.template_patterns.specs.Patterns.{nameOf}
 use Rattle.template_nodes.specs.Examples.{nodes-compute}
 use Rattle.template_nodes.specs.Template.{action, nodesOf}
 use Rattle.template_nodes.specs.declared.Node.{Node}
 use Rattle.moment_parts.specs.declared.Answer.{Answer}
+use Rattle.moment_parts.specs.Report.{unreadReport}
 use Rattle.moment_parts.specs.declared.Answer.the-variants.{Moment, Refused}
+use Rattle.moment_parts.specs.declared.Unread.{Unread}
+use Rattle.moment_parts.specs.declared.Unread.the-variants.{By, NoSuchDay}
 
 -- a pattern by its name, or - for none
 unfoldable pub patternName : ℕ → List ℕ
@@ -31,18 +33,19 @@ abbrev pub NoneOrIn : List Node → ℕ → Type 0
 NoneOrIn ns k = (k ≡ noPattern) ⊎ PatternIn ns k
 
 -- a refusal names no pattern, or one among nodes
-abbrev pub NamedBy : List Node → Refusal → Type 0
-NamedBy ns why = NoneOrIn ns (reportOf why .pattern)
+abbrev pub NamedBy : List Node → Unread → Type 0
+NamedBy ns why = NoneOrIn ns (unreadReport why .pattern)
 
 -- so does an answer, if it is a refusal
 abbrev pub NamesOwn : List Node → Answer → Type 0
 NamesOwn ns (Moment p) = Unit {0}
 NamesOwn ns (Refused why) = NamedBy ns why
 
--- by the template -DD a day that is too short names DD, the second node, and a missing year names none
-pub worked : NamedBy (nodesOf (utf8 "-DD")) (Short 9 2 1) × NamedBy (nodesOf (utf8 "-DD")) NoYear
-unfolding reportOf nodes-compute
-worked = (inr (inr (inl (refl, refl))), inl refl)
+-- by the template -DD a day that is too short names DD, the second node; a missing year and a day that no month has name
+-- none
+pub worked : NamedBy (nodesOf (utf8 "-DD")) (By (Short 9 2 1)) × NamedBy (nodesOf (utf8 "-DD")) (By NoYear) × NamedBy (nodesOf (utf8 "-DD")) NoSuchDay
+unfolding unreadReport reportOf nodes-compute
+worked = (inr (inr (inl (refl, refl))), inl refl, inl refl)
 
 -- DD is no pattern of DDD; a literal has the number 0 and is no pattern
 pub others : (PatternIn (nodesOf (utf8 "DDD")) 9 → ⊥) × (PatternIn (nodesOf (utf8 "-")) 0 → ⊥)

@@ -4,12 +4,15 @@ ghost use Prim.Native.Nat.{_≤_};
 ghost use lib.ListN.{length};
 ghost use Rattle.template_nodes.specs.Bytes.{nodesIn};
 ghost use Rattle.moment_parts.specs.Parts.{checkedMoment, momentOf, partsBy, partsOf, partsRead, thenFields};
+ghost use Rattle.moment_parts.specs.Report.{unreadReport};
 use base_refusals::Refusal;
+use base_refusals::Report;
 use base_settings::Settings;
 use moment_date::Dated;
 use moment_date::Days;
 use moment_date::date_in_range;
 use moment_date::dated_of;
+use moment_date::no_such_day;
 use moment_sums::Value;
 use moment_time::Offset;
 use moment_time::Zoned;
@@ -26,6 +29,7 @@ use read_fields::field;
 use template_nodes::NODE;
 use template_nodes::NODES;
 
+// The marks say which of year, month and day are set (bits 1, 2 and 4).
 pub struct Parts {
     pub year: i32,
     pub month: i32,
@@ -36,25 +40,47 @@ pub struct Parts {
     pub micros: i32,
     pub precision: i32,
     pub offset: Offset,
+    pub marks: u8,
+}
+
+// Why there are no parts.
+pub enum Unread {
+    By(Refusal),
+    // Strict: month and day without a year, and the month never has the day.
+    NoSuchDay,
 }
 
 pub enum Answer {
     Moment(Parts),
-    Refused(Refusal),
+    Refused(Unread),
 }
 
-// The moment of a date, an hour and microseconds. The checks in order: date, time, offset.
-pub fn checked_moment(f: Fields, r: Days, hour: i32, micros: i32) -> Answer
-    ensures { λ a. ⌜ a ≡ checkedMoment f r hour micros ⌝ }
+// By which number a refusal is known, with its pattern and figures.
+pub fn report_of(why: Unread) -> Report
+    ensures { λ r. ⌜ r ≡ unreadReport why ⌝ }
+{
+    match why {
+        Unread::By(refusal) => base_refusals::report_of(refusal),
+        Unread::NoSuchDay => base_refusals::alone(25),
+    }
+}
+
+// The moment of a date, an hour and microseconds. The checks in order: date, under the strict switch the day without a
+// year, time, offset.
+pub fn checked_moment(strict: bool, f: Fields, r: Days, hour: i32, micros: i32) -> Answer
+    ensures { λ a. ⌜ a ≡ checkedMoment strict f r hour micros ⌝ }
 {
     let precision = f.values[field::FF];
     let minute = minute_of(f);
     let second = second_of(f);
     if !date_in_range(r) {
-        return Answer::Refused(Refusal::FieldOverflow);
+        return Answer::Refused(Unread::By(Refusal::FieldOverflow));
+    }
+    if no_such_day(strict, r.set, r.month, r.day) {
+        return Answer::Refused(Unread::NoSuchDay);
     }
     if !time_in_range(hour, minute, second, micros) {
-        return Answer::Refused(Refusal::FieldOverflow);
+        return Answer::Refused(Unread::By(Refusal::FieldOverflow));
     }
     match offset_of(f) {
         Zoned::At(offset) => Answer::Moment(Parts {
@@ -67,48 +93,49 @@ pub fn checked_moment(f: Fields, r: Days, hour: i32, micros: i32) -> Answer
             micros,
             precision,
             offset,
+            marks: r.set,
         }),
-        Zoned::Refused(why) => Answer::Refused(why),
+        Zoned::Refused(why) => Answer::Refused(Unread::By(why)),
     }
 }
 
 // The moment that the fields make: the hour, the date and the fraction, each refused in this order.
-pub fn moment_of(f: Fields) -> Answer
-    ensures { λ a. ⌜ a ≡ momentOf f ⌝ }
+pub fn moment_of(strict: bool, f: Fields) -> Answer
+    ensures { λ a. ⌜ a ≡ momentOf strict f ⌝ }
 {
     match clock_hour(f) {
         Value::Is(hour) => match dated_of(f) {
             Dated::Date(r) => match micros_of(f) {
-                Value::Is(micros) => checked_moment(f, r, hour, micros),
-                Value::Not(why) => Answer::Refused(why),
+                Value::Is(micros) => checked_moment(strict, f, r, hour, micros),
+                Value::Not(why) => Answer::Refused(Unread::By(why)),
             },
-            Dated::Refused(why) => Answer::Refused(why),
+            Dated::Refused(why) => Answer::Refused(Unread::By(why)),
         },
-        Value::Not(why) => Answer::Refused(why),
+        Value::Not(why) => Answer::Refused(Unread::By(why)),
     }
 }
 
 // The answer once the fields are read.
-fn answered(r: Reading) -> Answer
-    ensures { λ a. ⌜ a ≡ thenFields (r .verdict) (r .fields) ⌝ }
+fn answered(strict: bool, r: Reading) -> Answer
+    ensures { λ a. ⌜ a ≡ thenFields strict (r .verdict) (r .fields) ⌝ }
 {
     let verdict = r.verdict;
     let fields = r.fields;
     match verdict {
-        Verdict::Read => moment_of(fields),
-        Verdict::Refused(why) => Answer::Refused(why),
+        Verdict::Read => moment_of(strict, fields),
+        Verdict::Refused(why) => Answer::Refused(Unread::By(why)),
     }
 }
 
 // The parts of an input within its limit.
-fn parts_within(c: &[u8], t: &[u8], s: &[u8]) -> Answer
+fn parts_within(strict: bool, c: &[u8], t: &[u8], s: &[u8]) -> Answer
     requires { ⌜ length (now s) ≤ 512 ⌝ }
-    ensures { λ a. ⌜ a ≡ partsRead (nodesIn (now (c .entry))) (now (t .entry)) (now (s .entry)) ⌝ }
+    ensures { λ a. ⌜ a ≡ partsRead strict (nodesIn (now (c .entry))) (now (t .entry)) (now (s .entry)) ⌝ }
 {
     if !base_chars::is_utf8(s) {
-        return Answer::Refused(Refusal::NotUtf8);
+        return Answer::Refused(Unread::By(Refusal::NotUtf8));
     }
-    answered(read_input::dch_from_char(c, t, s))
+    answered(strict, read_input::dch_from_char(c, t, s))
 }
 
 // The parts of an input by the nodes that any bytes hold. t is the template that they were made from.
@@ -117,9 +144,9 @@ pub fn parts_by(set: Settings, c: &[u8], t: &[u8], s: &[u8]) -> Answer
 {
     let limit = base_settings::input_limit(set);
     if limit < s.len() {
-        return Answer::Refused(Refusal::TooLong);
+        return Answer::Refused(Unread::By(Refusal::TooLong));
     }
-    parts_within(c, t, s)
+    parts_within(set.strict, c, t, s)
 }
 
 // The parts of an input by a template.
@@ -127,15 +154,15 @@ pub fn to_timestamp_parts(set: Settings, t: &[u8], s: &[u8]) -> Answer
     ensures { λ a. ⌜ a ≡ partsOf set (now (t .entry)) (now (s .entry)) ⌝ }
 {
     if base_settings::template_limit(set) < t.len() {
-        return Answer::Refused(Refusal::TooLong);
+        return Answer::Refused(Unread::By(Refusal::TooLong));
     }
     if base_settings::input_limit(set) < s.len() {
-        return Answer::Refused(Refusal::TooLong);
+        return Answer::Refused(Unread::By(Refusal::TooLong));
     }
     if !base_chars::is_utf8(t) {
-        return Answer::Refused(Refusal::NotUtf8);
+        return Answer::Refused(Unread::By(Refusal::NotUtf8));
     }
     let mut nodes = [0u8; NODES];
     let end = NODE * template_nodes::parse_format(t, &mut nodes);
-    parts_within(&nodes[..end], t, s)
+    parts_within(set.strict, &nodes[..end], t, s)
 }

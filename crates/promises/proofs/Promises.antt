@@ -8,10 +8,11 @@ use Rattle.read_words.proofs.FoldOnce.{fold-once}
 use Rattle.template_nodes.proofs.Cover.{covered}
 use Rattle.moment_parts.proofs.Ranges.{answered, parts-by-answered}
 use Rattle.moment_parts.proofs.Patterns.{named-own, named-in-template}
+use Rattle.moment_parts.proofs.Strict.{strict-alone}
 use Rattle.moment_parts.specs.Examples.{table}
 use Rattle.moment_parts.specs.Parts.{partsOf}
 use Rattle.moment_parts.specs.Patterns.{NamesOwn}
-use Rattle.moment_parts.specs.Ranges.{Answered, fieldsOf}
+use Rattle.moment_parts.specs.Ranges.{Answered}
 use Rattle.moment_instants.specs.ByTemplate.{timestampOf, dateOf}
 use Rattle.moment_instants.specs.Ranges.{InstantAnswered, DayAnswered}
 use Rattle.template_nodes.specs.Template.{nodesOf}
@@ -135,9 +136,9 @@ right-and-safe set t s r p i d =
       parts = p;
       instant = i;
       day = d;
-      parts-safe = subst (Answered (fieldsOf t s)) (sym p) (answered set t s);
-      instant-safe = subst InstantAnswered (sym i) (instant-answered (partsOf set t s));
-      day-safe = subst DayAnswered (sym d) (day-answered (partsOf set t s));
+      parts-safe = subst (Answered (set .strict)) (sym p) (answered set t s);
+      instant-safe = subst (InstantAnswered (set .strict)) (sym i) (instant-answered (set .strict) (partsOf set t s) (answered set t s));
+      day-safe = subst (DayAnswered (set .strict)) (sym d) (day-answered (set .strict) (partsOf set t s) (answered set t s));
       names = subst (NamesOwn (nodesOf t)) (sym p) (named-in-template set t s);
     }
 
@@ -156,6 +157,7 @@ every-request =
       within-both = within-both;
       cards-and-pages = cards-and-pages;
       six-needed = six-needed;
+      strict-alone = strict-alone;
     }
 
 pub kept : Promises

@@ -3,7 +3,7 @@
 -- t a template, s an input, c the bytes of a compiled template, ns nodes: any numbers of any length. What a name means
 -- is in the file that it is taken from.
 use mathlib.Core.Path.{_≡_}
-use mathlib.Core.Bool.{true}
+use mathlib.Core.Bool.{Bool, true}
 use mathlib.Core.List.{List}
 use Prim.Native.Nat.{ℕ}
 use lib.ListN.{length}
@@ -14,7 +14,8 @@ use Rattle.template_nodes.specs.Template.{nodesOf}
 use Rattle.template_nodes.specs.Bytes.{nodesIn}
 use Rattle.template_nodes.specs.declared.Node.{Node}
 use Rattle.moment_parts.specs.Parts.{partsBy, partsOf}
-use Rattle.moment_parts.specs.Ranges.{Answered, fieldsBy, fieldsOf}
+use Rattle.moment_parts.specs.Ranges.{Answered}
+use Rattle.moment_parts.specs.Strict.{StrictAlone}
 use Rattle.moment_parts.specs.Patterns.{NamesOwn, NoneOrIn}
 use Rattle.moment_parts.specs.Examples.{Table}
 use Rattle.moment_parts.specs.declared.Answer.{Answer}
@@ -71,21 +72,22 @@ use Rattle.line_answers.proofs.answer.Statement as AnswerLine
 use Rattle.line_texts.proofs.answer_lines.Statement as AnswerLines
 
 -- Demand 1: nothing false is handed out. An answer is in range, or it is a refusal by its number and nothing else.
--- It holds for every caller, whatever its limits are. That no function traps or hangs is part of the theorems of
+-- It holds for every caller, whatever its settings are. That no function traps or hangs is part of the theorems of
 -- demand 2.
 pub record EveryAnswer : Type 0 where
-  -- the parts, by any nodes and by a template. In range: each part by itself; which of year, month and day are set is a
-  -- number below 8, and what is not set has its default; in every year but 0 the month has the day
-  pub parts-by : (set : Settings) (ns : List Node) (t s : List ℕ) → Answered (fieldsBy ns t s) (partsBy set ns t s)
-  pub parts : (set : Settings) (t s : List ℕ) → Answered (fieldsOf t s) (partsOf set t s)
-  -- the instant and the day of any answer: neither end of 64 bits, neither end of 32 bits
-  pub instant : (a : Answer) → InstantAnswered (instantBy a)
-  pub day : (a : Answer) → DayAnswered (dayBy a)
+  -- the parts, by any nodes and by a template, said of the answer alone. In range: each part by itself; what has no mark
+  -- has its default, and a year other than 0 has its mark; with all three marks, and in every year but 0, the month has
+  -- the day; under the strict switch it can have the day. A refusal is by 1 to 16, or under that switch by 25
+  pub parts-by : (set : Settings) (ns : List Node) (t s : List ℕ) → Answered (set .strict) (partsBy set ns t s)
+  pub parts : (set : Settings) (t s : List ℕ) → Answered (set .strict) (partsOf set t s)
+  -- the instant and the day of any such answer: neither end of 64 bits, neither end of 32 bits
+  pub instant : (strict : Bool) (a : Answer) → Answered strict a → InstantAnswered strict (instantBy a)
+  pub day : (strict : Bool) (a : Answer) → Answered strict a → DayAnswered strict (dayBy a)
   -- the records that other languages get, by any nodes and by a template; refused: what would have been read is 0
-  pub parts-by-record : (set : Settings) (ns : List Node) (t s : List ℕ) → PartsRecorded (partsBy set ns t s)
-  pub parts-record : (set : Settings) (t s : List ℕ) → PartsRecorded (partsOf set t s)
-  pub instant-record : (a : Answer) → InstantRecorded (instantBy a)
-  pub day-record : (a : Answer) → DayRecorded (dayBy a)
+  pub parts-by-record : (set : Settings) (ns : List Node) (t s : List ℕ) → PartsRecorded (set .strict) (partsBy set ns t s)
+  pub parts-record : (set : Settings) (t s : List ℕ) → PartsRecorded (set .strict) (partsOf set t s)
+  pub instant-record : (strict : Bool) (a : Answer) → Answered strict a → InstantRecorded strict (instantBy a)
+  pub day-record : (strict : Bool) (a : Answer) → Answered strict a → DayRecorded strict (dayBy a)
   -- a refusal names no pattern, or one of the nodes'
   pub names-by : (set : Settings) (ns : List Node) (t s : List ℕ) → NamesOwn ns (partsBy set ns t s)
   pub instant-names-by : (set : Settings) (ns : List Node) (t s : List ℕ) {why : Undated} → instantBy (partsBy set ns t s) ≡ NoInstant why
@@ -155,14 +157,14 @@ pub record RightAndSafe (set : Settings) (t s : List ℕ) (r : Readings) : Type 
   pub parts : r .parts ≡ partsOf set t s
   pub instant : r .instant ≡ timestampOf set t s
   pub day : r .day ≡ dateOf set t s
-  pub parts-safe : Answered (fieldsOf t s) (r .parts)
-  pub instant-safe : InstantAnswered (r .instant)
-  pub day-safe : DayAnswered (r .day)
+  pub parts-safe : Answered (set .strict) (r .parts)
+  pub instant-safe : InstantAnswered (set .strict) (r .instant)
+  pub day-safe : DayAnswered (set .strict) (r .day)
   pub names : NamesOwn (nodesOf t) (r .parts)
 
 -- Demand 3: every full template writes every moment of the years 1 to 9999, two moments have the same text exactly
--- where they are the same, and the text is read back as that moment in all answers; for every caller whose limit of an
--- input is at least six bytes above that of a template
+-- where they are the same, and the text is read back as that moment in all answers, with all three marks; for every
+-- caller whose limit of an input is at least six bytes above that of a template, strict or not
 pub record EveryMoment : Type 2 where
   pub back : EveryBack
   -- the same on the functions themselves
@@ -190,6 +192,9 @@ pub record EveryRequest : Type 0 where
   pub within-both : WithinBoth
   pub cards-and-pages : CardsAndPages
   pub six-needed : SixNeeded
+  -- CR 8: under the strict switch a day that its month never has is refused, and nothing else changes; what the marks
+  -- say is in demand 1, and that reading back does not notice the switch in demand 3
+  pub strict-alone : StrictAlone
 
 -- all of them
 pub record Promises : Type 2 where

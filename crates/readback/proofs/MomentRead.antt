@@ -1,7 +1,7 @@
 -- Reading back, second half: from the fields to the moment. Assumes nothing.
 -- `moment-read`: what any date group, any time group and US set is read as the moment that they were written from.
-use mathlib.Core.Path.{_≡_}
-use mathlib.Core.Bool.{true}
+use mathlib.Core.Path.{_≡_, refl}
+use mathlib.Core.Bool.{Bool, true, false, _&&_}
 use Prim.Native.Nat.{ℕ}
 use native.Mathlib.Omega.{arith}
 use borrow.Author.Tests.{lt-ltb, le-ltb}
@@ -11,7 +11,7 @@ use Rattle.calendar_gregorian.specs.Gregorian.{Valid, monthLength}
 use Rattle.calendar_gregorian.proofs.Dates.{length-range}
 use Rattle.calendar_gregorian.proofs.Months.{month-length}
 use Rattle.moment_instants.proofs.Plain.{plainParts}
-use Rattle.moment_date.specs.Dates.{allBits, days, dateInRange}
+use Rattle.moment_date.specs.Dates.{allBits, days, dateInRange, noSuchDay}
 use Rattle.moment_parts.specs.Parts.{checkedMoment, momentOf}
 use Rattle.moment_time.specs.Time.{timeInRange}
 use Rattle.moment_parts.specs.declared.Answer.the-variants.{Moment}
@@ -35,6 +35,12 @@ date-in-range {y} {m} {n} v a b =
       le-ltb (monthLength y m) n (v .day-to),
     )
 
+-- a year is set, so the strict switch asks nothing
+not-asked : (strict : Bool) (m n : ℤ) → (strict && noSuchDay allBits m n) ≡ false
+unfolding noSuchDay
+not-asked true m n = refl
+not-asked false m n = refl
+
 module _ {y mo d h mi s us : ℕ} (is : IsMoment y mo d h mi s us) where
   time-in-range : timeInRange (pos h) (pos mi) (pos s) (pos us) ≡ true
   unfolding timeInRange
@@ -50,7 +56,7 @@ module _ {y mo d h mi s us : ℕ} (is : IsMoment y mo d h mi s us) where
         lt-ltb us 1000000 (is .micros),
       )
 
-  module _ (date : DateGroup) (time : TimeGroup) (f : Fields) (e : Same f (fieldsOf (dateValues date y mo d) (timeValues time h mi s) us)) where
+  module _ (strict : Bool) (date : DateGroup) (time : TimeGroup) (f : Fields) (e : Same f (fieldsOf (dateValues date y mo d) (timeValues time h mi s) us)) where
     the-date : DateRead f y mo d
     the-date = date-read (is .date) f (timeValues time h mi s) us date e
 
@@ -58,11 +64,12 @@ module _ {y mo d h mi s us : ℕ} (is : IsMoment y mo d h mi s us) where
     the-time = time-read (is .hour) (is .minute) (is .second) f (dateValues date y mo d) us time e
 
     -- the checks of the ranges pass
-    checked : checkedMoment f (days (pos y) (pos mo) (pos d) allBits (the-date .inMonth) (the-date .inYear)) (pos h) (pos us) ≡ Moment (plainParts y mo d h mi s us)
+    checked : checkedMoment strict f (days (pos y) (pos mo) (pos d) allBits (the-date .inMonth) (the-date .inYear)) (pos h) (pos us) ≡ Moment (plainParts y mo d h mi s us)
     unfolding checkedMoment
     checked =
         simp (
           date-in-range (is .date) (the-date .inMonth) (the-date .inYear),
+          not-asked strict (pos mo) (pos d),
           the-time .minute-is,
           the-time .second-is,
           time-in-range,
@@ -70,6 +77,6 @@ module _ {y mo d h mi s us : ℕ} (is : IsMoment y mo d h mi s us) where
           e F.ff (lit< tt),
         )
 
-    pub moment-read : momentOf f ≡ Moment (plainParts y mo d h mi s us)
+    pub moment-read : momentOf strict f ≡ Moment (plainParts y mo d h mi s us)
     unfolding momentOf
     moment-read = rw (the-time .hour-is, the-date .is, micros-read f us (is .micros) (e F.ms (lit< tt)) (e F.us (lit< tt))) checked

@@ -10,7 +10,7 @@
 -- 2. Fields that are set so are read as the moment: `moment-read` in MomentRead. They make the date (GroupFields,
 --    FieldSteps, DateGroups) and the time (TimeGroups).
 use mathlib.Core.Path.{_≡_, refl, sym, _∙_, ap}
-use mathlib.Core.Bool.{true}
+use mathlib.Core.Bool.{Bool, true}
 use mathlib.Core.List.{List}
 use Prim.Native.Nat.{ℕ, _+_, _≤_}
 use native.Mathlib.Omega.{arith}
@@ -65,33 +65,33 @@ plain m n = λ i. record {
 }
 
 -- what each date group sets with each time group and US is read as the moment: the fields are computed and compared
-each-read : {y mo d h mi s us : ℕ} → IsMoment y mo d h mi s us
-    → EachFull (λ all. momentOf (expected all (moment y mo d h mi s us)) ≡ Accepted (plainParts y mo d h mi s us))
+each-read : (strict : Bool) {y mo d h mi s us : ℕ} → IsMoment y mo d h mi s us
+    → EachFull (λ all. momentOf strict (expected all (moment y mo d h mi s us)) ≡ Accepted (plainParts y mo d h mi s us))
 unfolding expected filledBy times ownOf numberOf
-each-read is = (
+each-read strict is = (
   (
-    moment-read is by-month of-24 _ (λ k h. refl),
-    (moment-read is by-month of-12 _ (λ k h. refl), (moment-read is by-month of-12 _ (λ k h. refl), (moment-read is by-month by-second _ (λ k h. refl), tt))),
+    moment-read is strict by-month of-24 _ (λ k h. refl),
+    (moment-read is strict by-month of-12 _ (λ k h. refl), (moment-read is strict by-month of-12 _ (λ k h. refl), (moment-read is strict by-month by-second _ (λ k h. refl), tt))),
   ),
   (
     (
-      moment-read is by-month of-24 _ (λ k h. refl),
-      (moment-read is by-month of-12 _ (λ k h. refl), (moment-read is by-month of-12 _ (λ k h. refl), (moment-read is by-month by-second _ (λ k h. refl), tt))),
+      moment-read is strict by-month of-24 _ (λ k h. refl),
+      (moment-read is strict by-month of-12 _ (λ k h. refl), (moment-read is strict by-month of-12 _ (λ k h. refl), (moment-read is strict by-month by-second _ (λ k h. refl), tt))),
     ),
     (
       (
-        moment-read is by-month of-24 _ (λ k h. refl),
-        (moment-read is by-month of-12 _ (λ k h. refl), (moment-read is by-month of-12 _ (λ k h. refl), (moment-read is by-month by-second _ (λ k h. refl), tt))),
+        moment-read is strict by-month of-24 _ (λ k h. refl),
+        (moment-read is strict by-month of-12 _ (λ k h. refl), (moment-read is strict by-month of-12 _ (λ k h. refl), (moment-read is strict by-month by-second _ (λ k h. refl), tt))),
       ),
       (
         (
-          moment-read is by-day of-24 _ (λ k h. refl),
-          (moment-read is by-day of-12 _ (λ k h. refl), (moment-read is by-day of-12 _ (λ k h. refl), (moment-read is by-day by-second _ (λ k h. refl), tt))),
+          moment-read is strict by-day of-24 _ (λ k h. refl),
+          (moment-read is strict by-day of-12 _ (λ k h. refl), (moment-read is strict by-day of-12 _ (λ k h. refl), (moment-read is strict by-day by-second _ (λ k h. refl), tt))),
         ),
         (
           (
-            moment-read is by-week of-24 _ (λ k h. refl),
-            (moment-read is by-week of-12 _ (λ k h. refl), (moment-read is by-week of-12 _ (λ k h. refl), (moment-read is by-week by-second _ (λ k h. refl), tt))),
+            moment-read is strict by-week of-24 _ (λ k h. refl),
+            (moment-read is strict by-week of-12 _ (λ k h. refl), (moment-read is strict by-week of-12 _ (λ k h. refl), (moment-read is strict by-week by-second _ (λ k h. refl), tt))),
           ),
           tt,
         ),
@@ -109,7 +109,7 @@ module _ (set : Settings) (apart : ReadsBack set) (t : List ℕ) (full : isFull 
     abbrev now : Moment
     now = moment y mo d h mi s us
 
-    -- the parts answer accepts the text with the seven numbers and no offset
+    -- the parts answer accepts the text with the seven numbers, no offset and all three marks
     text-parts : partsOf set t (textOf t now) ≡ Accepted (plainParts y mo d h mi s us)
     unfolding partsOf partsRead
     text-parts =
@@ -120,7 +120,7 @@ module _ (set : Settings) (apart : ReadsBack set) (t : List ℕ) (full : isFull 
           text-is-utf8 set t full is,
           text-is-read set t full is .verdict,
         )
-        (fields-read set t full is (λ f. momentOf f ≡ Accepted (plainParts y mo d h mi s us)) (each-read is))
+        (fields-read set t full is (λ f. momentOf (set .strict) f ≡ Accepted (plainParts y mo d h mi s us)) (each-read (set .strict) is))
 
     -- and so do the other two answers
     text-read : ReadAs set t (textOf t now) now

@@ -13,15 +13,15 @@ use Rattle.base_refusals.specs.declared.Refusal.the-variants.{TooLong}
 use Rattle.base_strtol.specs.Decimal.{decimal}
 use Rattle.template_nodes.specs.Examples.{nodes-compute}
 use Rattle.template_patterns.specs.Cases.{caseOf}
-use Rattle.moment_date.specs.Dates.{date-computes}
+use Rattle.moment_date.specs.Dates.{allBits, date-computes}
 use Rattle.moment_time.specs.Time.{time-computes}
 use Rattle.read_input.specs.Examples.{reading-computes}
 use Rattle.moment_instants.specs.ByTemplate.{timestampOf, dateOf}
 use Rattle.moment_instants.specs.Plain.{daysSince1970, microsSince1970}
 use Rattle.moment_instants.specs.declared.epoch.Day.the-variants.{Number}
 use Rattle.moment_instants.specs.declared.epoch.Instant.the-variants.{Micros}
-use Rattle.moment_parts.specs.Parts.{checkedMoment, momentOf as partsMoment, partsOf, partsRead}
-use Rattle.moment_parts.specs.declared.Answer.the-variants.{Moment as Accepted, Refused as TooMuch}
+use Rattle.moment_parts.specs.Parts.{checkedMoment, momentOf as partsMoment, partsOf, partsRead, refusedBy}
+use Rattle.moment_parts.specs.declared.Answer.the-variants.{Moment as Accepted}
 use Rattle.moment_time.specs.declared.Offset.the-variants.{Absent}
 use Rattle.moment_parts.specs.declared.Parts.{Parts}
 use Rattle.write_text.specs.Full.{areFull, isFull, pieces, times}
@@ -35,7 +35,7 @@ use Rattle.write_text.specs.declared.Written.the-variants.{Length, Refused}
 use Rattle.readback.specs.declared.Again.{Again}
 use Rattle.readback.specs.declared.Again.the-variants.{Read, NotWritten}
 
--- the parts of a moment: its seven numbers, precision 0 and no offset
+-- the parts of a moment: its seven numbers, precision 0, no offset, and all three marks
 abbrev pub partsIn : Moment → Parts
 partsIn m = record {
   year = m .year;
@@ -47,6 +47,7 @@ partsIn m = record {
   micros = m .micros;
   precision = pos 0;
   offset = Absent;
+  marks = allBits;
 }
 
 -- its microseconds and its days since 1970-01-01
@@ -122,7 +123,7 @@ SixNeeded =
     let caller : ℕ → Settings = λ input. withLimits (limits 20 input) pages in
     let text = textOf joined september in
     (isFull (caller 25) joined ≡ true) × (isMoment september ≡ true) × (writtenTo (caller 25) joined september 26 ≡ Length 26)
-    × (partsOf (caller 25) joined text ≡ TooMuch TooLong) × (partsOf (caller 26) joined text ≡ Accepted (partsIn september))
+    × (partsOf (caller 25) joined text ≡ refusedBy TooLong) × (partsOf (caller 26) joined text ≡ Accepted (partsIn september))
 
 pub six-needed : SixNeeded
 unfolding isFull areFull times pieces firstUnwritten isMoment writtenTo partsOf partsRead limits-compute textOf nodesText nodeText pieceOf caseOf pieceText numberOf decimal partsMoment checkedMoment wellFormedAfter sequence reading-computes time-computes date-computes

@@ -66,6 +66,6 @@ unfolding answers-compute
 refused = refl
 
 -- MM-DD with 02-30 as the line program answers it; half a byte
-pub lines : answers ("parts_line 4d4d2d44440930322d3330" ∷ "date_line 4" ∷ []) ≡ map utf8 ("0 0 2 30 0 0 0 0 0 none" ∷ "?" ∷ [])
+pub lines : answers ("parts_line 4d4d2d44440930322d3330" ∷ "date_line 4" ∷ []) ≡ map utf8 ("0 0 2 30 0 0 0 0 0 none 6" ∷ "?" ∷ [])
 unfolding answers-compute lineText line-computes partsAnswer momentText
 lines = refl

@@ -16,7 +16,7 @@ use Rattle.write_text.specs.Writer.{nodesLimit, writtenIn, writtenTo}
 use Rattle.sorbilgan.specs.Callers.{CardsAndPages, EqualAnswers, Within, WithinBoth}
 use Rattle.sorbilgan.specs.Compiled.{compiledTo}
 
-module _ (a b : Settings) (t s : List ℕ) (in-a : Within a t s) (in-b : Within b t s) where
+module _ (a b : Settings) (alike : a .strict ≡ b .strict) (t s : List ℕ) (in-a : Within a t s) (in-b : Within b t s) where
   parts : partsOf a t s ≡ partsOf b t s
   unfolding partsOf
   parts =
@@ -25,11 +25,12 @@ module _ (a b : Settings) (t s : List ℕ) (in-a : Within a t s) (in-b : Within 
         le-ltb (templateLimit b) (length t) (in-b .template),
         le-ltb (inputLimit a) (length s) (in-a .input),
         le-ltb (inputLimit b) (length s) (in-b .input),
+        alike,
       )
 
   by-nodes : (ns : List Node) → partsBy a ns t s ≡ partsBy b ns t s
   unfolding partsBy
-  by-nodes ns = rw (le-ltb (inputLimit a) (length s) (in-a .input), le-ltb (inputLimit b) (length s) (in-b .input))
+  by-nodes ns = rw (le-ltb (inputLimit a) (length s) (in-a .input), le-ltb (inputLimit b) (length s) (in-b .input), alike)
 
   equal : EqualAnswers a b t s
   unfolding timestampOf dateOf writtenTo writtenIn compiledTo
@@ -46,7 +47,7 @@ module _ (a b : Settings) (t s : List ℕ) (in-a : Within a t s) (in-b : Within 
   }
 
 pub within-both : WithinBoth
-within-both set k l t s = equal (withLimits k set) (withLimits l set) t s
+within-both set k l t s = equal (withLimits k set) (withLimits l set) refl t s
 
 pub cards-and-pages : CardsAndPages
 unfolding limits-compute

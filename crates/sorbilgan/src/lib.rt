@@ -14,7 +14,7 @@ ghost use Rattle.sorbilgan.specs.Compiled.{CompiledTo};
 ghost use Rattle.sorbilgan_records.specs.Records.{Recorded, dayRecord, instantRecord, partsRecord};
 pub use names::sorbilgan_pattern;
 pub use version::sorbilgan_version;
-pub use version::sorbilgan_version_2;
+pub use version::sorbilgan_version_3;
 pub use with_settings::sorbilgan_compile_with;
 pub use with_settings::sorbilgan_date_by_with;
 pub use with_settings::sorbilgan_date_with;
@@ -28,7 +28,7 @@ pub use writing::sorbilgan_write_by_with;
 pub use writing::sorbilgan_write_with;
 
 #[no_mangle]
-pub extern "C" fn sorbilgan_parts(t: &[u8], s: &[u8], out: &mut [i64; 14]) -> u8
+pub extern "C" fn sorbilgan_parts(t: &[u8], s: &[u8], out: &mut [i64; 15]) -> u8
     ensures { λ r. ⌜ Recorded (partsRecord (partsOf pages (now (t .entry)) (now (s .entry)))) (now (out .exit)) r ⌝ }
 {
     sorbilgan_parts_with(0, t, s, out)
@@ -56,7 +56,7 @@ pub extern "C" fn sorbilgan_compile(t: &[u8], nodes: &mut [u8; 1536]) -> i64
 }
 
 #[no_mangle]
-pub extern "C" fn sorbilgan_parts_by(nodes: &[u8], t: &[u8], s: &[u8], out: &mut [i64; 14]) -> u8
+pub extern "C" fn sorbilgan_parts_by(nodes: &[u8], t: &[u8], s: &[u8], out: &mut [i64; 15]) -> u8
     ensures { λ r. ⌜ Recorded (partsRecord (partsBy pages (nodesIn (now (nodes .entry))) (now (t .entry)) (now (s .entry)))) (now (out .exit)) r ⌝ }
 {
     sorbilgan_parts_by_with(0, nodes, t, s, out)

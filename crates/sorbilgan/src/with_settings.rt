@@ -10,7 +10,7 @@ use template_nodes::NODE;
 
 // The parts of the moment that an input s has by a template t.
 #[no_mangle]
-pub extern "C" fn sorbilgan_parts_with(settings: u32, t: &[u8], s: &[u8], out: &mut [i64; 14]) -> u8
+pub extern "C" fn sorbilgan_parts_with(settings: u32, t: &[u8], s: &[u8], out: &mut [i64; 15]) -> u8
     ensures { λ r. ⌜ Recorded (partsRecord (partsOf (settingsOf settings) (now (t .entry)) (now (s .entry)))) (now (out .exit)) r ⌝ }
 {
     sorbilgan_records::put_parts(
@@ -68,7 +68,7 @@ pub extern "C" fn sorbilgan_parts_by_with(
     nodes: &[u8],
     t: &[u8],
     s: &[u8],
-    out: &mut [i64; 14],
+    out: &mut [i64; 15],
 ) -> u8
     ensures { λ r. ⌜ Recorded (partsRecord (partsBy (settingsOf settings) (nodesIn (now (nodes .entry))) (now (t .entry)) (now (s .entry)))) (now (out .exit)) r ⌝ }
 {

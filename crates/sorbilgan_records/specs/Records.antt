@@ -9,9 +9,11 @@ use Rattle.base_refusals.specs.declared.Refusal.the-variants.{Short, FieldOverf
 use Rattle.base_refusals.specs.declared.Report.{Report}
 use Rattle.moment_time.specs.declared.Offset.{Offset}
 use Rattle.moment_time.specs.declared.Offset.the-variants.{Absent, East}
+use Rattle.moment_parts.specs.Report.{unreadReport}
 use Rattle.moment_parts.specs.declared.Answer.{Answer}
 use Rattle.moment_parts.specs.declared.Answer.the-variants.{Moment, Refused}
 use Rattle.moment_parts.specs.declared.Parts.{Parts}
+use Rattle.moment_parts.specs.declared.Unread.the-variants.{By, NoSuchDay}
 use Rattle.moment_instants.specs.Instant.{parts}
 use Rattle.moment_instants.specs.Report.{undatedReport}
 use Rattle.moment_instants.specs.declared.epoch.Day.{Day}
@@ -32,14 +34,14 @@ abbrev pub offsetEntries : Offset → List ℤ
 offsetEntries Absent = pos 0 ∷ pos 0 ∷ []
 offsetEntries (East seconds) = pos 1 ∷ seconds ∷ []
 
--- the other parts of a moment
+-- the parts before it
 abbrev pub dateTimeEntries : Parts → List ℤ
 dateTimeEntries p = p .year ∷ p .month ∷ p .day ∷ p .hour ∷ p .minute ∷ p .second ∷ p .micros ∷ p .precision ∷ []
 
--- the parts record, 14 entries
+-- the parts record, 15 entries: after the offset come the marks, in one number
 unfoldable pub partsRecord : Answer → List ℤ
-partsRecord (Moment p) = reportEntries accepted ++ dateTimeEntries p ++ offsetEntries (p .offset)
-partsRecord (Refused why) = reportEntries (reportOf why) ++ replicate 10 (pos 0)
+partsRecord (Moment p) = reportEntries accepted ++ dateTimeEntries p ++ offsetEntries (p .offset) ++ pos (p .marks) ∷ []
+partsRecord (Refused why) = reportEntries (unreadReport why) ++ replicate 11 (pos 0)
 
 -- the value record, 5 entries
 abbrev pub valueRecord : Report → ℤ → List ℤ
@@ -58,20 +60,21 @@ pub record Recorded (entries after : List ℤ) (r : ℕ) : Type 0 where
   pub is : after ≡ entries
   pub number : pos r ≡ getD entries 0 (pos 0)
 
--- February 29 of 2024, seven hours east; DD (number 9 of the table) with 1 byte left of 2
+-- February 29 of 2024, seven hours east, with all three marks; DD (number 9 of the table) with 1 byte left of 2; a day
+-- that its month never has
 pub worked-parts
     : (partsRecord (Moment (parts (pos 2024) 2 29 500000 3 (East (pos 25200))))
-    ≡ pos 0 ∷ pos 112 ∷ pos 0 ∷ pos 0 ∷ pos 2024 ∷ pos 2 ∷ pos 29 ∷ pos 0 ∷ pos 0 ∷ pos 0 ∷ pos 500000 ∷ pos 3 ∷ pos 1 ∷ pos 25200 ∷ [])
-    × (partsRecord (Refused (Short 9 2 1))
-    ≡ pos 5 ∷ pos 9 ∷ pos 2 ∷ pos 1 ∷ pos 0 ∷ pos 0 ∷ pos 0 ∷ pos 0 ∷ pos 0 ∷ pos 0 ∷ pos 0 ∷ pos 0 ∷ pos 0 ∷ pos 0 ∷ [])
-unfolding partsRecord reportOf
-worked-parts = (refl, refl)
+    ≡ pos 0 ∷ pos 112 ∷ pos 0 ∷ pos 0 ∷ pos 2024 ∷ pos 2 ∷ pos 29 ∷ pos 0 ∷ pos 0 ∷ pos 0 ∷ pos 500000 ∷ pos 3 ∷ pos 1 ∷ pos 25200 ∷ pos 7 ∷ [])
+    × (partsRecord (Refused (By (Short 9 2 1))) ≡ pos 5 ∷ pos 9 ∷ pos 2 ∷ pos 1 ∷ replicate 11 (pos 0))
+    × (partsRecord (Refused NoSuchDay) ≡ pos 25 ∷ pos 112 ∷ replicate 13 (pos 0))
+unfolding partsRecord unreadReport reportOf
+worked-parts = (refl, refl, refl)
 
 -- the microsecond before 1970, and January 1 of that year; refused: the value is 0
 pub worked-values
     : (instantRecord (Micros (negsuc 0)) ≡ pos 0 ∷ pos 112 ∷ pos 0 ∷ pos 0 ∷ negsuc 0 ∷ [])
     × (instantRecord (NoInstant InstantRange) ≡ pos 17 ∷ pos 112 ∷ pos 0 ∷ pos 0 ∷ pos 0 ∷ [])
     × (dayRecord (Number (pos 0)) ≡ pos 0 ∷ pos 112 ∷ pos 0 ∷ pos 0 ∷ pos 0 ∷ [])
-    × (dayRecord (NoDay (Unread FieldOverflow)) ≡ pos 15 ∷ pos 112 ∷ pos 0 ∷ pos 0 ∷ pos 0 ∷ [])
-unfolding instantRecord dayRecord undatedReport reportOf
+    × (dayRecord (NoDay (Unread (By FieldOverflow))) ≡ pos 15 ∷ pos 112 ∷ pos 0 ∷ pos 0 ∷ pos 0 ∷ [])
+unfolding instantRecord dayRecord undatedReport unreadReport reportOf
 worked-values = (refl, refl, refl, refl)

@@ -38,8 +38,8 @@ pub fn put_day(day: Day, out: &mut [i64; 5]) -> u8
 }
 
 // A moment's parts. `zoned` is 1 where there is an offset, which is in seconds east.
-fn put_moment(p: Parts, zoned: i64, offset: i64, out: &mut [i64; 14]) -> u8
-    ensures { λ n. ⌜ Recorded (reportEntries accepted ++ dateTimeEntries p ++ zoned ∷ offset ∷ []) (now (out .exit)) n ⌝ }
+fn put_moment(p: Parts, zoned: i64, offset: i64, out: &mut [i64; 15]) -> u8
+    ensures { λ n. ⌜ Recorded (reportEntries accepted ++ dateTimeEntries p ++ zoned ∷ offset ∷ pos (p .marks) ∷ []) (now (out .exit)) n ⌝ }
 {
     *out = [
         0,
@@ -56,13 +56,14 @@ fn put_moment(p: Parts, zoned: i64, offset: i64, out: &mut [i64; 14]) -> u8
         p.precision as i64,
         zoned,
         offset,
+        p.marks as i64,
     ];
     0
 }
 
 // A refusal has no parts.
-fn put_refusal(r: Report, out: &mut [i64; 14]) -> u8
-    ensures { λ n. ⌜ Recorded (reportEntries r ++ replicate 10 (pos 0)) (now (out .exit)) n ⌝ }
+fn put_refusal(r: Report, out: &mut [i64; 15]) -> u8
+    ensures { λ n. ⌜ Recorded (reportEntries r ++ replicate 11 (pos 0)) (now (out .exit)) n ⌝ }
 {
     *out = [
         r.number as i64,
@@ -79,11 +80,12 @@ fn put_refusal(r: Report, out: &mut [i64; 14]) -> u8
         0,
         0,
         0,
+        0,
     ];
     r.number
 }
 
-pub fn put_parts(answer: Answer, out: &mut [i64; 14]) -> u8
+pub fn put_parts(answer: Answer, out: &mut [i64; 15]) -> u8
     ensures { λ n. ⌜ Recorded (partsRecord answer) (now (out .exit)) n ⌝ }
 {
     match answer {
@@ -94,6 +96,6 @@ pub fn put_parts(answer: Answer, out: &mut [i64; 14]) -> u8
                 Offset::East(seconds) => put_moment(p, 1, seconds as i64, out),
             }
         }
-        Answer::Refused(why) => put_refusal(base_refusals::report_of(why), out),
+        Answer::Refused(why) => put_refusal(moment_parts::report_of(why), out),
     }
 }

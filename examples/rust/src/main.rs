@@ -1,7 +1,7 @@
-//! Reads the dates of lessons, puts them in order, and writes each as learners see it. `tests/installed` builds and
-//! runs this with an installed library.
+//! Reads the dates of lessons, puts them in order, and writes each as learners see it; then reads learners' birthdays,
+//! which have no year. `tests/installed` builds and runs this with an installed library.
 
-use sorbilgan::{system_time, Cause, Moment, Template};
+use sorbilgan::{system_time, Cause, Moment, Settings, Template};
 use std::error::Error;
 use std::sync::LazyLock;
 use std::time::UNIX_EPOCH;
@@ -13,6 +13,10 @@ static AUTHORS: LazyLock<Template> =
 /// How learners see it.
 static LEARNERS: LazyLock<Template> =
     LazyLock::new(|| Template::compile(r#""ngày "DD" tháng "MM" năm "YYYY", "HH24" giờ "MI"#).expect("another"));
+
+/// How learners write a birthday. The template is strict, so a day that its month never has is refused.
+static BIRTHDAYS: LazyLock<Template> =
+    LazyLock::new(|| Template::compile_with("DD.MM", Settings::new().strict(true)).expect("a third"));
 
 const LESSONS: [&str; 4] = ["2024-02-29 21:05", "1960-01-01 08:00", "2023-02-29 09:30", "2024-02-29 08:15"];
 
@@ -30,6 +34,13 @@ fn main() -> Result<(), Box<dyn Error>> {
         let time = system_time(AUTHORS.instant(AUTHORS.format(&moment)?)?);
         let era = if time < UNIX_EPOCH { "before" } else { "since" };
         println!("{} ({era} 1970)", LEARNERS.format(&moment)?);
+    }
+    for birthday in ["29.02", "30.02", "29"] {
+        match BIRTHDAYS.read(birthday) {
+            Ok(parts) if parts.month_set && parts.day_set => println!("{birthday}: a birthday"),
+            Ok(_) => println!("{birthday}: month or day is missing"),
+            Err(refusal) => println!("{birthday}: {refusal}"),
+        }
     }
     Ok(())
 }

@@ -1,7 +1,7 @@
 //! Marks learners' lines by a template. `mark --help` explains it, and README.md shows it.
 //!
 //! ```text
-//! mark [--json] TEMPLATE [FILE]
+//! mark [--json] [--strict] TEMPLATE [FILE]
 //! ```
 
 mod count;
@@ -55,14 +55,14 @@ fn say(errors: &mut impl Write, what: impl Display) {
 fn answered(
     arguments: &[OsString], input: impl Read, mut output: impl Write, errors: &mut impl Write,
 ) -> Result<u8, Box<dyn Error>> {
-    let (form, template, file) = match options::request(arguments)? {
+    let (form, settings, template, file) = match options::request(arguments)? {
         Request::Help => {
             output.write_all(HELP.as_bytes()).and_then(|()| output.flush()).map_err(lines::output_failed)?;
             return Ok(FINE);
         }
-        Request::Mark { form, template, file } => (form, template, file),
+        Request::Mark { form, settings, template, file } => (form, settings, template, file),
     };
-    let template = Template::compile(template.as_bytes())?;
+    let template = Template::compile_with(template.as_bytes(), settings)?;
     let source = opened(file, input)?;
     if let Some(refusal) = marks::never_written(&template) {
         say(errors, format_args!("{refusal}; so the lines are read, and not compared"));

@@ -58,11 +58,11 @@ pub fn never_written(template: &Template) -> Option<Refusal> {
     template.format(&Moment::midnight(2000, 5, 1)).err()
 }
 
-/// What the template writes for what was read. Where no year was read, it is 0, which cannot be written: then it is
-/// the text of any year, if the template writes the same for two leap years.
+/// What the template writes for what was read. Where no year is set, it is 0, which cannot be written: then it is the
+/// text of any year, if the template writes the same for two leap years.
 fn written(template: &Template, parts: Parts) -> Option<String> {
     let moment = Moment::try_from(parts).ok()?;
-    if moment.year != 0 {
+    if parts.year_set {
         return template.format(&moment).ok();
     }
     let [text, other] = [2000, 2004].map(|year| template.format(&Moment { year, ..moment }).ok());

@@ -1,12 +1,13 @@
 //! What is asked for on the command line.
 
+use sorbilgan::Settings;
 use std::ffi::{OsStr, OsString};
 use std::os::unix::ffi::OsStrExt;
 use std::path::Path;
 
 /// What `--help` writes.
 pub const HELP: &str = "\
-usage: mark [--json] TEMPLATE [FILE]
+usage: mark [--json] [--strict] TEMPLATE [FILE]
 
 Marks each line of FILE, or of standard input, by TEMPLATE. It writes a line for each, with a TAB between three
 columns: the mark, what there is to say about it, and the line as it is.
@@ -24,6 +25,8 @@ At the end the counts are on standard error.
   --json      writes an object of JSON for each line: mark, line, moment (by ISO 8601; the year is 0000 if none was
               read), and expected or, if it is incomplete, written; for a refused line mark, number, cause, pattern,
               figures, reason and line
+  --strict    refuses a day that its month never has, such as 30 February, where the line has a month and a day and no
+              year; this is the option for exercises without a year, and 29 February is accepted
   --help      writes this
   --          ends the options, so a template may begin with -
 
@@ -42,7 +45,7 @@ pub enum Form {
 #[derive(Debug, PartialEq)]
 pub enum Request<'a> {
     Help,
-    Mark { form: Form, template: &'a OsStr, file: Option<&'a OsStr> },
+    Mark { form: Form, settings: Settings, template: &'a OsStr, file: Option<&'a OsStr> },
 }
 
 /// What the arguments ask for, or what is wrong with them.
@@ -52,17 +55,19 @@ pub fn request(arguments: &[OsString]) -> Result<Request<'_>, String> {
         arguments[..end].iter().map(OsString::as_os_str).partition(|argument| is_option(argument));
     others.extend(arguments.iter().skip(end + 1).map(OsString::as_os_str));
 
-    if options.iter().any(|option| *option == "--help") {
+    let is_given = |name: &str| options.iter().any(|option| *option == name);
+    if is_given("--help") {
         return Ok(Request::Help);
     }
-    if let Some(unknown) = options.iter().find(|option| **option != "--json") {
+    if let Some(unknown) = options.iter().find(|option| **option != "--json" && **option != "--strict") {
         let unknown = Path::new(unknown).display();
         return Err(usage(&format!("there is no option {unknown}; a template may begin with - after --")));
     }
-    let form = if options.is_empty() { Form::Text } else { Form::Json };
+    let form = if is_given("--json") { Form::Json } else { Form::Text };
+    let settings = Settings::new().strict(is_given("--strict"));
     match others[..] {
-        [template] => Ok(Request::Mark { form, template, file: None }),
-        [template, file] => Ok(Request::Mark { form, template, file: Some(file) }),
+        [template] => Ok(Request::Mark { form, settings, template, file: None }),
+        [template, file] => Ok(Request::Mark { form, settings, template, file: Some(file) }),
         [] => Err(usage("the template is missing")),
         _ => Err(usage("there are more arguments than a template and a file")),
     }
@@ -73,5 +78,5 @@ fn is_option(argument: &OsStr) -> bool {
 }
 
 fn usage(wrong: &str) -> String {
-    format!("{wrong}\nusage: mark [--json] TEMPLATE [FILE]; mark --help explains it")
+    format!("{wrong}\nusage: mark [--json] [--strict] TEMPLATE [FILE]; mark --help explains it")
 }

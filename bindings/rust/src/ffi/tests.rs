@@ -30,6 +30,15 @@ fn in_range(parts: &Parts) -> bool {
         && (0..60).contains(&parts.second)
         && (0..1_000_000).contains(&parts.micros)
         && parts.offset.is_none_or(|seconds| seconds.abs() <= 57_540)
+        && (parts.year_set || parts.year == 0)
+        && (parts.month_set || parts.month == 1)
+        && (parts.day_set || parts.day == 1)
+}
+
+/// Whether month and day are set, the year is not, and the month has that day in no year.
+fn is_never(parts: &Parts) -> bool {
+    let most = [31, 29, 31, 30, 31, 30, 31, 31, 30, 31, 30, 31][parts.month as usize - 1];
+    (parts.year_set, parts.month_set, parts.day_set) == (false, true, true) && parts.day > most
 }
 
 /// What pages and cards both answer to an input within the limits of both.
@@ -65,6 +74,29 @@ fn any_nodes_are_read() {
         assert!(day.is_none_or(|refusal| refusal.number() <= 16 || refusal.number() == 18));
     }
     assert!(accepted > 1000 && refused > 1000, "{accepted} accepted, {refused} refused");
+}
+
+/// Any nodes, after those of a month and a day. The strict setting refuses a day that its month never has, also where
+/// the time or the offset is refused without it, and changes nothing else.
+#[test]
+fn any_nodes_are_read_strictly() {
+    let mut random = Random::new(1970);
+    let date = compile(Settings::new(), b"MM-DD ").unwrap();
+    let mut never = 0;
+    for _ in 0..20_000 {
+        let nodes = [&date[..], &nodes(&mut random, 30)].concat();
+        let (month, day) = (random.between(0, 13), random.between(0, 32));
+        let input = [format!("{month:02}-{day:02} ").as_bytes(), &random.bytes(b"0123456789 -+:.AM", 30)].concat();
+        let [lenient, strict] =
+            [false, true].map(|set| PARTS.by_nodes(Settings::new().strict(set), &nodes, b"MM-DD ", &input));
+        let is_refused = match &lenient {
+            Ok(raw) => is_never(&Parts::answered(*raw)),
+            Err(refusal) => matches!(refusal.number(), 15 | 16) && strict != lenient,
+        };
+        assert_eq!(strict, if is_refused { Err(Refusal::alone(Cause::NoSuchDay)) } else { lenient });
+        never += usize::from(is_refused);
+    }
+    assert!((100..19_000).contains(&never), "{never} refused");
 }
 
 #[test]

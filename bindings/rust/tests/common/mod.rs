@@ -25,8 +25,8 @@ pub fn without_return(line: &[u8]) -> &[u8] {
     line.strip_suffix(b"\r").unwrap_or(line)
 }
 
-/// The answer, by a template that is used once; by one that is compiled first it must be the same, and on a flash card
-/// it must be the same within the smaller limits.
+/// The answer, by a template that is used once; by one that is compiled first it must be the same, on a flash card it
+/// must be the same within the smaller limits, and by a strict template unless the day is one that its month never has.
 pub fn answer(mode: &str, line: &[u8]) -> String {
     let (template, rest) = cut(if mode == "write" { without_return(line) } else { line });
     let once = match mode {
@@ -43,7 +43,31 @@ pub fn answer(mode: &str, line: &[u8]) -> String {
             Err(refusal) => assert!(refusal.number() <= 2 && wanted.ends_with(" - 0 0"), "{refusal}, not {wanted}"),
         }
     }
+    if let Ok(strict) = Template::compile_with(template, Settings::new().strict(true)) {
+        strictly(&strict, mode, rest, &once);
+    }
     once
+}
+
+/// A strict template answers as others do, or refuses with 25. The time, the offset and the range of the answer are
+/// tested later: a line that is refused for them may have such a day too.
+fn strictly(strict: &Template, mode: &str, rest: &[u8], lenient: &str) {
+    let found = compiled(strict, mode, rest);
+    let is_refused = match read(strict.as_str(), rest) {
+        _ if mode == "write" => false,
+        Ok(parts) => is_never(&parts),
+        Err(refusal) => found == NEVER && matches!(refusal.number(), 15 | 16),
+    };
+    assert_eq!(found, if is_refused { NEVER } else { lenient }, "{mode} {strict:?}");
+}
+
+/// The answer to a day that its month never has.
+const NEVER: &str = "25 - 0 0";
+
+/// Whether month and day are set, the year is not, and the month has that day in no year.
+fn is_never(p: &Parts) -> bool {
+    let most = [31, 29, 31, 30, 31, 30, 31, 31, 30, 31, 30, 31][p.month as usize - 1];
+    (p.year_set, p.month_set, p.day_set) == (false, true, true) && p.day > most
 }
 
 /// The answer on a flash card, by that on an exercise page.
@@ -79,7 +103,8 @@ fn shown(answer: Result<impl Display, Refusal>) -> String {
 fn numbers(p: Parts) -> String {
     let offset = p.offset.map_or("none".to_string(), |seconds| seconds.to_string());
     let numbers = [p.year, p.month, p.day, p.hour, p.minute, p.second, p.micros, p.precision];
-    format!("{} {offset}", numbers.map(|number| number.to_string()).join(" "))
+    let marks = u8::from(p.year_set) + 2 * u8::from(p.month_set) + 4 * u8::from(p.day_set);
+    format!("{} {offset} {marks}", numbers.map(|number| number.to_string()).join(" "))
 }
 
 /// Seven numbers with a space between two; anything else is no moment.

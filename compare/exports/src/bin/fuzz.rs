@@ -7,17 +7,17 @@
 //! | `x` | template, another, input | read and written by the nodes of the other template |
 //! | any other | template, input | read by it, here and by the ported module |
 //!
-//! Both callers do this, the exercise pages and the flash cards. Beside the ported module their settings also have the
-//! mode's bits, moved up to 8 and above, where they mean nothing.
+//! All callers do this, the exercise pages and the flash cards, strict and not. Beside the ported module their settings
+//! also have the mode's bits, moved up to 8 and above, where they mean nothing.
 #![no_main]
 
 use exports::agreement::{self, Template};
-use exports::archive::{self, CARDS, NODE, NODES, Settings};
+use exports::archive::{self, CARDS, NODE, NODES, STRICT, Settings};
 use exports::guarded::Guarded;
-use oracle::answers::{Limits, Moment, cut, numbers_of, records};
+use oracle::answers::{LONGEST, Limits, Moment, cut, numbers_of, records};
 use oracle::questions::templates;
 use oracle::random::Random;
-use oracle::{moments, pairs};
+use oracle::{birthdays, moments, pairs};
 use std::cell::RefCell;
 use std::ffi::{c_int, c_uint};
 
@@ -26,6 +26,14 @@ const UNSET: i64 = i64::MIN;
 const FILLER: u8 = 0xa5;
 const NONE: i64 = 112;
 const LAST_REFUSAL: i64 = 21;
+const NEVER: i64 = 25;
+/// Accepted, or refused for a time, an offset, an instant or a day: what comes after the month's length.
+const AFTER: [i64; 5] = [0, 15, 16, 17, 18];
+/// Of a parts record: month and day, and the marks of both without a year.
+const MONTH: usize = 5;
+const DAY: usize = 6;
+const MARKS: usize = 14;
+const NO_YEAR: i64 = 6;
 
 thread_local! {
     static GUARDED: RefCell<[Guarded; 4]> = RefCell::default();
@@ -93,12 +101,34 @@ fn changed(template: &[u8], changes: &[u8]) -> Vec<u8> {
 /// Whatever the nodes are, the answer is a record, and of the buffer only the text is written.
 fn by_any_nodes(nodes: &[u8], template: &[u8], input: &[u8], of_text: &mut Guarded) {
     let within = Limits::CARDS.hold(&[], input);
-    both(within, |settings, out: &mut archive::Parts| archive::parts_by_with(settings, nodes, template, input, out));
-    both(within, |settings, out: &mut archive::Value| archive::instant_by_with(settings, nodes, template, input, out));
-    both(within, |settings, out: &mut archive::Value| archive::date_by_with(settings, nodes, template, input, out));
+    let parts = all(within, |with, out: &mut archive::Parts| archive::parts_by_with(with, nodes, template, input, out));
+    let [lenient, strict] = parts;
+    let is_never = strict[0] == NEVER;
+    assert!(lenient[0] != 0 || is_never == never(&lenient), "{lenient:?} is strictly {strict:?}");
+    switched(is_never, parts);
+    let instants = |with, out: &mut archive::Value| archive::instant_by_with(with, nodes, template, input, out);
+    switched(is_never, all(within, instants));
+    let dates = |with, out: &mut archive::Value| archive::date_by_with(with, nodes, template, input, out);
+    switched(is_never, all(within, dates));
+    write_by_any_nodes(nodes, template, input, of_text);
+}
+
+/// A day that its month can never have, where month and day are set and the year is not.
+fn never(parts: &archive::Parts) -> bool {
+    parts[MARKS] == NO_YEAR && parts[DAY] > LONGEST[parts[MONTH] as usize - 1].into()
+}
+
+/// The switch refuses all that is read of an input, or nothing, and only what came so far as to the month's length.
+fn switched<const WORDS: usize>(is_never: bool, [lenient, strict]: [[i64; WORDS]; 2]) {
+    let is_switched = strict[0] == NEVER && AFTER.contains(&lenient[0]);
+    assert!(if is_never { is_switched } else { strict == lenient }, "{lenient:?} is strictly {strict:?}");
+}
+
+/// The same of writing, which the switch does not change.
+fn write_by_any_nodes(nodes: &[u8], template: &[u8], input: &[u8], of_text: &mut Guarded) {
     let within = nodes.len() <= NODE * Limits::CARDS.template;
     let mut texts = Vec::new();
-    both(within, |settings, out: &mut archive::Value| {
+    let [lenient, strict] = all(within, |settings, out: &mut archive::Value| {
         let text = of_text.lend(&vec![FILLER; input.len()]);
         let number = archive::write_by_with(settings, nodes, template, &moment(input), text, out);
         let (text, rest) = text.split_at(if number == 0 { out[4] as usize } else { 0 });
@@ -106,21 +136,29 @@ fn by_any_nodes(nodes: &[u8], template: &[u8], input: &[u8], of_text: &mut Guard
         texts.push(text.to_vec());
         number
     });
-    assert!(!within || texts[0] == texts[1], "the callers have two texts");
+    assert!(lenient == strict && texts[0] == texts[2], "the switch changes a text");
+    assert!(!within || texts.iter().all(|text| *text == texts[0]), "the callers have two texts");
 }
 
-/// The pages' record, and the cards', which is the same where what is lent is within their limits, and else refusal 1.
-fn both<const WORDS: usize>(within: bool, mut export: impl FnMut(Settings, &mut [i64; WORDS]) -> u8) {
-    let pages = record(|out| export(None, out));
-    let cards = record(|out| export(Some(CARDS), out));
-    assert_eq!(cards, records::limited(within, pages));
+/// The pages' records, lenient and strict. The cards' are the same where what is lent is within their limits, and else
+/// refusal 1.
+fn all<const WORDS: usize>(
+    within: bool, mut export: impl FnMut(Settings, &mut [i64; WORDS]) -> u8,
+) -> [[i64; WORDS]; 2] {
+    [(None, CARDS), (Some(STRICT), STRICT | CARDS)].map(|(of_pages, of_cards)| {
+        let pages = record(|out| export(of_pages, out));
+        let cards = record(|out| export(Some(of_cards), out));
+        assert_eq!(cards, records::limited(within, pages));
+        pages
+    })
 }
 
 fn record<const WORDS: usize>(export: impl FnOnce(&mut [i64; WORDS]) -> u8) -> [i64; WORDS] {
     let mut words = [UNSET; WORDS];
     let number = i64::from(export(&mut words));
     assert!(words[0] == number && !words.contains(&UNSET), "no record: {number} {words:?}");
-    let refused = (1..=LAST_REFUSAL).contains(&number) && words[4..].iter().all(|value| *value == 0);
+    let is_refusal = (1..=LAST_REFUSAL).contains(&number) || number == NEVER;
+    let refused = is_refusal && words[4..].iter().all(|value| *value == 0);
     assert!(refused || words[..4] == [0, NONE, 0, 0], "neither accepted nor refused: {words:?}");
     words
 }
@@ -141,14 +179,15 @@ pub extern "C" fn LLVMFuzzerCustomMutator(data: *mut u8, size: usize, most: usiz
 
 fn change(random: &mut Random, bytes: &mut Vec<u8>) {
     let (template, _) = cut(bytes.get(1..).unwrap_or_default());
-    match random.below(8) {
+    match random.below(9) {
         0 => *bytes = [b"r".to_vec(), pairs::line(random)].concat(),
         1 => *bytes = [b"w".to_vec(), moments::line(random)].concat(),
-        2 => {
-            let other = [vec![random.pick(MODES)], pairs::template(random), b"\t".to_vec(), pairs::line(random)];
-            *bytes = other.concat();
-        }
+        2 => *bytes = [b"r".to_vec(), birthdays::line(random)].concat(),
         3 => {
+            let line = if random.once_in(2) { birthdays::line(random) } else { pairs::line(random) };
+            *bytes = [vec![random.pick(MODES)], pairs::template(random), b"\t".to_vec(), line].concat();
+        }
+        4 => {
             let input = pairs::input(random, template);
             *bytes = [b"r", template, b"\t", &input].concat();
         }

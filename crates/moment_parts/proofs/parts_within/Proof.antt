@@ -10,7 +10,7 @@ use Rattle.moment_parts.proofs.parts_within.Tie as tie
 
 -- the input is not UTF-8
 returns : tie.Need-returns
-returns c = input-bad _ _ _ (sym (c .before .is-utf8 .ensures) ∙ not-true _ (c .if1 .taken))
+returns c = input-bad _ _ _ _ (sym (c .before .is-utf8 .ensures) ∙ not-true _ (c .if1 .taken))
 
 -- the input is read
 returns-2 : tie.Need-returns-2
@@ -18,7 +18,7 @@ returns-2 c =
     let at-reading = c .before in
     let at-test = at-reading .before in
     c .answered .ensures
-    ∙ input-good _ _ _ (sym (at-test .before .is-utf8 .ensures) ∙ not-false _ (at-test .if1 .left)) (at-reading .dch-from-char .result) (at-reading .dch-from-char .ensures)
+    ∙ input-good _ _ _ _ (sym (at-test .before .is-utf8 .ensures) ∙ not-false _ (at-test .if1 .left)) (at-reading .dch-from-char .result) (at-reading .dch-from-char .ensures)
 
 pub parts-within-spec : {M : Type 1} → statement M
 parts-within-spec =

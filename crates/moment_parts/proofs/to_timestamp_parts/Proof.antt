@@ -67,7 +67,7 @@ returns-4 c =
     let within-limits = after-utf8-test .before .before in
     let args = start (within-limits .before .before) .args in
     c .parts-within .ensures
-    ∙ ap (λ (ns : List Node). partsRead ns (now (args .t)) (now (args .s))) (parsed-nodes (after-parse .parse-format .ensures))
+    ∙ ap (λ (ns : List Node). partsRead (args .set .strict) ns (now (args .t)) (now (args .s))) (parsed-nodes (after-parse .parse-format .ensures))
     ∙ read-by _ _ _ (short (within-limits .before .before)) (small within-limits)
     (sym (after-utf8-test .before .is-utf8 .ensures) ∙ not-false _ (after-utf8-test .if3 .left))
 

@@ -1,9 +1,12 @@
 -- `sorbilgan_records::put_moment` meets its contract: an i32 keeps its value as an i64. Assumes nothing.
 use mathlib.Core.Path.{refl}
 use mathlib.Core.List.{[], _∷_}
+use Prim.Native.Nat.{_<_, _^_}
+use native.Mathlib.Omega.{arith}
 use borrow.Author.Needs.{needs}
 use lib.IntN.{pos}
-use mir.Facts.{toZ-ofZ}
+use mir.Facts.{toZ-ofZ, toZ-pos}
+use mir.Syntax.{w64}
 use Rattle.calendar_gregorian.proofs.Signed.{wide, wide-fits}
 use Rattle.moment_instants.proofs.Seconds.{Ranged}
 use Rattle.sorbilgan_records.proofs.put_moment.Statement.{statement}
@@ -12,6 +15,9 @@ use Rattle.sorbilgan_records.proofs.put_moment.Tie as tie
 -- the numbers of the parts fit 32 bits
 ranged : (c : tie.After-struct-told) → Ranged (c .before .before .args .p)
 ranged c = search needs
+
+marks-range : (c : tie.After-struct-told) → c .before .before .args .p .marks < 2 ^ 8
+marks-range c = search needs
 
 -- where the first field is read, as seen from where the fifth is read, and the last
 abbrev from-fifth : tie.After-struct-told5 → tie.After-struct-told
@@ -22,7 +28,8 @@ from-last c = from-fifth (c .before .before .before .before .before .before)
 
 returns : tie.Need-returns
 returns c =
-    let at-year = from-last (c .before) in
+    let at-precision = c .before .before in
+    let at-year = from-last at-precision in
     let in-32 = ranged at-year in
     let in-64 = at-year .before .before .fits in
     record {
@@ -41,6 +48,7 @@ returns c =
           ∷ wide (in-32 .precision) i
           ∷ toZ-ofZ (in-64 .zoned) i
           ∷ toZ-ofZ (in-64 .offset) i
+          ∷ toZ-pos w64 {n = at-year .before .before .args .p .marks} (omega (arith, marks-range at-year)) i
           ∷ [];
       number = refl;
     }
@@ -58,4 +66,5 @@ put-moment-spec =
     (λ c. wide-fits (ranged (from-fifth (c .before .before)) .second))
     (λ c. wide-fits (ranged (from-fifth (c .before .before .before .before)) .micros))
     (λ c. wide-fits (ranged (from-last c) .precision))
+    (λ c. record { sfits = omega (arith, marks-range (from-last (c .before))) })
     returns)

@@ -39,6 +39,16 @@ fn refused() {
 }
 
 #[test]
+fn refused_strictly() {
+    for arguments in [["--strict", "--json", "DD.MM"], ["--json", "--strict", "DD.MM"]] {
+        let answer = answer(&arguments, "30.02");
+        let cause = r#""number":25,"cause":"NoSuchDay","pattern":null,"figures":[0,0]"#;
+        let reason = r#""reason":"a day that its month never has","line":"30.02""#;
+        assert_eq!(answer.output(), format!("{{\"mark\":\"refused\",{cause},{reason}}}\n"));
+    }
+}
+
+#[test]
 fn moments() {
     for (template, line, moment) in [
         ("HH24:MI:SS.US", "21:05:00.500000", "0000-01-01T21:05:00.500000"),

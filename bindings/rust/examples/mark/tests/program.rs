@@ -68,7 +68,7 @@ fn control_characters_of_the_template() {
 
 #[test]
 fn help() {
-    for arguments in [&["--help"][..], &["--json", "--help"], &["YYYY", "--help"]] {
+    for arguments in [&["--help"][..], &["--json", "--help"], &["--help", "--strict"], &["YYYY", "--help"]] {
         let answer = answer(arguments, "2024\n");
         assert_eq!((answer.status, answer.output(), &*answer.errors), (0, HELP, ""), "{arguments:?}");
     }
@@ -80,14 +80,43 @@ fn wrong_usage() {
     for (arguments, why) in [
         (&[][..], "the template is missing"),
         (&["--json"], "the template is missing"),
+        (&["--strict", "--json"], "the template is missing"),
         (&["--"], "the template is missing"),
         (&["YYYY", "file", "more"], "there are more arguments than a template and a file"),
         (&["--xml", "YYYY"], "there is no option --xml; a template may begin with - after --"),
+        (&["--strict", "--xml", "YYYY"], "there is no option --xml; a template may begin with - after --"),
         (&["-DD"], "there is no option -DD; a template may begin with - after --"),
     ] {
         let answer = answer(arguments, "2024\n");
-        let wanted = format!("mark: {why}\nusage: mark [--json] TEMPLATE [FILE]; mark --help explains it\n");
+        let usage = "usage: mark [--json] [--strict] TEMPLATE [FILE]; mark --help explains it";
+        let wanted = format!("mark: {why}\n{usage}\n");
         assert_eq!((answer.status, answer.output(), &answer.errors), (2, "", &wanted), "{arguments:?}");
+    }
+}
+
+/// The day is refused by the option alone, wherever it is given; all else is marked as without it.
+#[test]
+fn strict() {
+    let lines = "29.02\n30.02\n31.4\n30.2\n";
+    let lenient = answer(&["DD.MM"], lines);
+    let wanted = "ok\t0000-02-29 00:00:00\t29.02\n\
+        accepted\t0000-02-30 00:00:00\t30.02\n\
+        accepted\t0000-04-31 00:00:00\t31.4\n\
+        accepted\t0000-02-30 00:00:00\t30.2\n";
+    assert_eq!((lenient.status, lenient.output()), (0, wanted));
+
+    let wanted = "ok\t0000-02-29 00:00:00\t29.02\n\
+        25\ta day that its month never has\t30.02\n\
+        25\ta day that its month never has\t31.4\n\
+        25\ta day that its month never has\t30.2\n";
+    for arguments in [["--strict", "DD.MM"], ["DD.MM", "--strict"]] {
+        let strict = answer(&arguments, lines);
+        assert_eq!((strict.status, strict.output()), (1, wanted));
+        assert_eq!(strict.errors, "mark: 4 lines, 1 ok, 3 refused\n");
+    }
+    for lines in ["29.02.2024\n9.2.2024\n30.02.2024\n", "30\n"] {
+        let [lenient, strict] = [&["DD.MM.YYYY"][..], &["--strict", "DD.MM.YYYY"]].map(|words| answer(words, lines));
+        assert_eq!((lenient.status, lenient.output()), (strict.status, strict.output()));
     }
 }
 

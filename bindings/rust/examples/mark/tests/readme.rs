@@ -43,5 +43,5 @@ fn commands() {
         assert_eq!(format!("{}{}", answer.output(), answer.errors), wanted, "{arguments:?}");
         count += 1;
     }
-    assert_eq!(count, 2);
+    assert_eq!(count, 3);
 }
