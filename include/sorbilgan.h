@@ -96,8 +96,9 @@ enum sorbilgan_refusal {
 };
 
 /*
- * The bits of marks. A part is set by its own pattern or by another: J and IW set all three, DDD month and day, CC the
- * year. One that is read as 0 is not set. A part that is not set has its default: year 0, month 1, day 1.
+ * The bits of marks. A part is set by its own pattern or by another: J and IW set all three, DDD and WW month and day,
+ * W the day, CC the year. One that is read as 0 is not set. A part that is not set has its default: year 0, month 1,
+ * day 1. With all three marks the month has the day.
  */
 #define SORBILGAN_YEAR_SET 1
 #define SORBILGAN_MONTH_SET 2

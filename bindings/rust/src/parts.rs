@@ -8,7 +8,8 @@ use sorbilgan_sys::{PartsAnswer, DAY_SET, MONTH_SET, YEAR_SET};
 /// and second 0 to 59, microseconds 0 to 999,999; and where year, month and day are all set, the month has that day.
 ///
 /// Year, month and day have marks, which tell what was read from a default. A part is set by its own pattern or by
-/// another: `J` and `IW` set all three, `DDD` month and day, `CC` the year. One that is read as 0 is not set.
+/// another: `J` and `IW` set all three, `DDD` and `WW` month and day, `W` the day, `CC` the year. One that is read as 0
+/// is not set.
 ///
 /// ```
 /// use sorbilgan::read;

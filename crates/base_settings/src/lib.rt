@@ -1,5 +1,4 @@
-// What differs from caller to caller: the limits of a template and of an input, and whether days are refused that no
-// month has.
+// What differs from caller to caller: the limits of a template and of an input, and the strict switch.
 ghost use mathlib.Core.Path.{_≡_};
 ghost use Prim.Native.Nat.{min};
 ghost use Rattle.base_settings.specs.Bits.{limitsOf, settingsOf, strictOf};
@@ -11,9 +10,9 @@ pub struct Limits {
     pub input: usize,
 }
 
-// The strict switch: without a year, a day that its month never has is refused.
 pub struct Settings {
     pub limits: Limits,
+    // The strict switch: without a year, a day that its month never has is refused.
     pub strict: bool,
 }
 

@@ -176,7 +176,7 @@ pub worked
 unfolding date-computes
 worked = (refl, refl, refl)
 
--- February 30 and April 31 are never there, February 29 and March 31 are; with a year, or without a month, it is not asked
+-- February 30 and April 31 are never there, February 29 and March 31 are; with a year or without a month none is asked
 pub never
     : (noSuchDay 6 (pos 2) (pos 30) ≡ true) × (noSuchDay 6 (pos 4) (pos 31) ≡ true)
     × (noSuchDay 6 (pos 2) (pos 29) ≡ false) × (noSuchDay 6 (pos 3) (pos 31) ≡ false)

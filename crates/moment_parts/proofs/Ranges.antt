@@ -1,7 +1,7 @@
 -- Every answer is a moment in range or a refusal by its number. From the definitions alone; assumes nothing.
--- `parts-by-answered`: for any nodes, template and input, of any bytes and length, the answer is a moment in range, with
--- what its marks say, or a refusal by a number from 1 to 16, or by 25 under the strict switch. `answered`: the same by a
--- template.
+-- `parts-by-answered`: for any nodes, template and input, of any bytes and length, the answer is a moment in range,
+-- with what its marks say, or a refusal by a number from 1 to 16, or by 25 under the strict switch. `answered`: the
+-- same by a template.
 -- `parts-in-range`: so the parts of every moment that is answered are in range.
 -- `moment-answered`, `moment-in-range`: the same for any fields whose digits of a fraction are 0 to 6, however they
 -- were read.

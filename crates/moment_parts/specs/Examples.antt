@@ -102,8 +102,8 @@ limited = (refl, refl, refl, refl, refl, refl, refl, refl)
 abbrev pub strictly : String → String → Shown
 strictly t s = shown (partsOf (withStrict true pages) (utf8 t) (utf8 s))
 
--- a day that its month never has is refused by 25, February 29 is not; a year that is read as 0 is not set, and with any
--- other year it is 15. Before 25 come the ranges of month and day, after it those of the time and of the offset
+-- a day that its month never has is refused by 25, February 29 is not; a year that is read as 0 is not set, and with
+-- any other year it is 15. Before 25 come the ranges of month and day, after it those of the time and of the offset
 pub without-year
     : (strictly "MM-DD" "02-30" ≡ refusal 25 "-" 0 0) × (strictly "MM-DD" "04-31" ≡ refusal 25 "-" 0 0)
     × (strictly "MM-DD" "02-29" ≡ date 0 2 29 6) × (strictly "DD" "31" ≡ date 0 1 31 4)
@@ -114,8 +114,8 @@ pub without-year
 unfolding parts-compute
 without-year = (refl, refl, refl, refl, refl, refl, refl, refl, refl, refl, refl, refl)
 
--- other patterns set marks too: a Julian day all three, the day of the year month and day (here in the year 0, with BC),
--- a century the year. Without a year, day 30 of the year in February is day 30 of February
+-- other patterns set marks too: a Julian day all three, the day of the year month and day (here in the year 0, with
+-- BC), a century the year. Without a year, day 30 of the year in February is day 30 of February
 pub marked
     : (reads "J" "2460370" ≡ date 2024 2 29 7) × (reads "DDD BC" "366 BC" ≡ date 0 12 31 6) × (reads "CC" "21" ≡ date 2001 1 1 1)
     × (reads "MM DDD BC" "02 030 BC" ≡ date 0 2 30 6) × (strictly "MM DDD BC" "02 030 BC" ≡ refusal 25 "-" 0 0)

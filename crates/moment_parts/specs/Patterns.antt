@@ -41,8 +41,8 @@ abbrev pub NamesOwn : List Node → Answer → Type 0
 NamesOwn ns (Moment p) = Unit {0}
 NamesOwn ns (Refused why) = NamedBy ns why
 
--- by the template -DD a day that is too short names DD, the second node; a missing year and a day that no month has name
--- none
+-- by the template -DD a day that is too short names DD, the second node; a missing year and a day that its month never
+-- has name none
 pub worked : NamedBy (nodesOf (utf8 "-DD")) (By (Short 9 2 1)) × NamedBy (nodesOf (utf8 "-DD")) (By NoYear) × NamedBy (nodesOf (utf8 "-DD")) NoSuchDay
 unfolding unreadReport reportOf nodes-compute
 worked = (inr (inr (inl (refl, refl))), inl refl, inl refl)

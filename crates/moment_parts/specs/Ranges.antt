@@ -1,6 +1,6 @@
--- What every answer keeps to: the ranges of a moment's parts, what its marks say, and the numbers of refusals. All of it
--- speaks of the answer alone, and of the strict switch.
-use mathlib.Core.Path.{_≡_}
+-- What every answer keeps to: the ranges of a moment's parts, what its marks say, and the numbers of refusals. All of
+-- it speaks of the answer alone, and of the strict switch.
+use mathlib.Core.Path.{_≡_, refl, ap}
 use mathlib.Core.Bool.{Bool, true, false, false≢true}
 use mathlib.Core.Logic.{_⊎_, ⊎-elim}
 use Prim.Native.Nat.{ℕ, _≤_, _<_}
@@ -63,6 +63,18 @@ Answered strict (Refused why) = ReadNumber strict (unreadReport why .number)
 -- 15:59 east and 15:59 west
 pub ends : OffsetWithin (East (pos 57540)) × OffsetWithin (East (negsuc 57539))
 ends = (omega arith, omega arith)
+
+-- midnight of a day, by its year, month, day and marks
+abbrev pub midnight : ℕ → ℕ → ℕ → ℕ → Parts
+midnight y m d marks =
+    record { year = pos y; month = pos m; day = pos d; hour = pos 0; minute = pos 0; second = pos 0; micros = pos 0; precision = pos 0; offset = Absent; marks = marks }
+
+-- February can have a 29th, and has none in 2023
+pub some-year : CanHaveDay (midnight 2023 2 29 7) × (HasDay (midnight 2023 2 29 7) → ⊥)
+some-year = (
+  record { at = 29; is = refl; from = omega arith; to = omega arith },
+  λ h. let same : _≡_ {A = ℕ} 29 (h .at) = ap natAbs (h .is) in omega (arith, h .to),
+)
 
 -- without the switch 25 is no number of a refusal, and 17 never is
 pub numbers : (ReadNumber false 25 → ⊥) × (ReadNumber true 17 → ⊥)

@@ -1,5 +1,5 @@
 -- What the strict switch changes: a day that its month never has is refused, and nothing else.
-use mathlib.Core.Path.{_≡_}
+use mathlib.Core.Path.{_≡_, refl}
 use mathlib.Core.Bool.{Bool, true, false}
 use mathlib.Core.List.{List}
 use mathlib.Core.Logic.{_⊎_}
@@ -13,6 +13,7 @@ use Rattle.calendar_gregorian.specs.Civil.{lengthOf}
 use Rattle.template_nodes.specs.declared.Node.{Node}
 use Rattle.moment_date.specs.Dates.{noSuchDay}
 use Rattle.moment_parts.specs.Parts.{partsBy, partsOf}
+use Rattle.moment_parts.specs.Ranges.{midnight}
 use Rattle.moment_parts.specs.declared.Answer.{Answer}
 use Rattle.moment_parts.specs.declared.Answer.the-variants.{Moment, Refused}
 use Rattle.moment_parts.specs.declared.Unread.the-variants.{By, NoSuchDay}
@@ -23,6 +24,13 @@ abbrev pub Strictly : (other a : Answer) → Type 0
 Strictly (Moment p) a = a ≡ (if noSuchDay (p .marks) (p .month) (p .day) then Refused NoSuchDay else Moment p)
 Strictly (Refused why) a =
     (a ≡ Refused why) ⊎ ((a ≡ Refused NoSuchDay) × ((why ≡ By FieldOverflow) ⊎ (why ≡ By OffsetRange)))
+
+-- without a year February 30 is refused, and February 29 stays; what has no mark of its month stays too
+pub worked
+    : Strictly (Moment (midnight 0 2 30 6)) (Refused NoSuchDay) × Strictly (Moment (midnight 0 2 29 6)) (Moment (midnight 0 2 29 6))
+    × Strictly (Moment (midnight 0 1 31 4)) (Moment (midnight 0 1 31 4))
+unfolding noSuchDay
+worked = (refl, refl, refl)
 
 -- so it is by any nodes and by a template, for every caller; and no year gives a month more days than a leap year does
 pub record StrictAlone : Type 0 where

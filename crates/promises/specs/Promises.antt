@@ -75,9 +75,9 @@ use Rattle.line_texts.proofs.answer_lines.Statement as AnswerLines
 -- It holds for every caller, whatever its settings are. That no function traps or hangs is part of the theorems of
 -- demand 2.
 pub record EveryAnswer : Type 0 where
-  -- the parts, by any nodes and by a template, said of the answer alone. In range: each part by itself; what has no mark
-  -- has its default, and a year other than 0 has its mark; with all three marks, and in every year but 0, the month has
-  -- the day; under the strict switch it can have the day. A refusal is by 1 to 16, or under that switch by 25
+  -- the parts, by any nodes and by a template, said of the answer alone. In range: each part by itself; what has no
+  -- mark has its default, and a year other than 0 has its mark; with all three marks, and in every year but 0, the
+  -- month has the day; under the strict switch it can have the day. A refusal is by 1 to 16, or under that switch by 25
   pub parts-by : (set : Settings) (ns : List Node) (t s : List ℕ) → Answered (set .strict) (partsBy set ns t s)
   pub parts : (set : Settings) (t s : List ℕ) → Answered (set .strict) (partsOf set t s)
   -- the instant and the day of any such answer: neither end of 64 bits, neither end of 32 bits

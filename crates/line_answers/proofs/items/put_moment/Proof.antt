@@ -1,5 +1,5 @@
--- `line_answers::items::put_moment` meets its contract: 0, the date, the time, the precision, the offset and the marks are
--- put one after the other. Assumes nothing.
+-- `line_answers::items::put_moment` meets its contract: 0, the date, the time, the precision, the offset and the marks
+-- are put one after the other. Assumes nothing.
 use native.Mathlib.Omega.{arith}
 use borrow.Author.Needs.{needs}
 use mir.Facts.{toZ-ofZ, toZ-pos}
