@@ -1,6 +1,5 @@
 //! Writes the declarations by which the ported module's files are built where they stand. `SOURCES` names their folder.
-//! Two lines are added to formatting.rs, and nothing else is changed. With `UNMARKED` set the first of them, which
-//! notes what is set, is left out: the speed that is measured is the module's own.
+//! Two lines are added to formatting.rs, and nothing else is changed.
 
 use std::path::PathBuf;
 use std::{env, fs};
@@ -21,7 +20,6 @@ fn noting(formatting: &str) -> String {
 
 fn main() {
     println!("cargo:rerun-if-env-changed=SOURCES");
-    println!("cargo:rerun-if-env-changed=UNMARKED");
     let folder = env::var("SOURCES").expect("SOURCES names the folder of the ported module");
     let folder = fs::canonicalize(folder).expect("the folder of the ported module can be read");
     let source = |name: &str| {
@@ -36,9 +34,7 @@ fn main() {
     // The functions of formatting.rs are private, but in reach of a module inside it: a line after its text declares that module.
     let declared = format!("#[path = {:?}]\npub mod answers;\n", here.join("src/answers/mod.rs"));
     let formatting = out.join("formatting.rs");
-    let ported = read(source("formatting"));
-    let ported = if env::var_os("UNMARKED").is_some() { ported } else { noting(&ported) };
-    fs::write(&formatting, ported + "\n" + &declared).unwrap();
+    fs::write(&formatting, noting(&read(source("formatting"))) + "\n" + &declared).unwrap();
 
     // Of date.rs only its constants: the rest leans on a parser that is not there.
     let date = read(source("date"));

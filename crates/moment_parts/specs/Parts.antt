@@ -85,11 +85,13 @@ abbrev pub thenFields : Bool → Verdict → Fields → Answer
 thenFields strict Done f = momentOf strict f
 thenFields strict (Stopped why) f = refusedBy why
 
--- the parts of an input within its limit, by the nodes of a template t
+-- what the nodes of a template t make of an input
+abbrev pub answerBy : Bool → List Node → List ℕ → List ℕ → Answer
+answerBy strict ns t s = let r = readAll t s ns in thenFields strict (r .verdict) (r .fields)
+
+-- the parts of an input within its limit
 unfoldable pub partsRead : Bool → List Node → List ℕ → List ℕ → Answer
-partsRead strict ns t s =
-    let r = readAll t s ns in
-    if not (wellFormed s) then refusedBy NotUtf8 else thenFields strict (r .verdict) (r .fields)
+partsRead strict ns t s = if not (wellFormed s) then refusedBy NotUtf8 else answerBy strict ns t s
 
 -- the parts of an input by these nodes, for a caller with settings
 unfoldable pub partsBy : Settings → List Node → List ℕ → List ℕ → Answer

@@ -1,9 +1,11 @@
 // The parts of a moment from the fields that a template read: do_to_timestamp of PostgreSQL's formatting.c.
 ghost use mathlib.Core.Path.{_≡_};
+ghost use mathlib.Core.Bool.{_&&_};
 ghost use Prim.Native.Nat.{_≤_};
 ghost use lib.ListN.{length};
+ghost use Rattle.base_chars.specs.Utf8.{wellFormed};
 ghost use Rattle.template_nodes.specs.Bytes.{nodesIn};
-ghost use Rattle.moment_parts.specs.Parts.{checkedMoment, momentOf, partsBy, partsOf, partsRead, thenFields};
+ghost use Rattle.moment_parts.specs.Parts.{answerBy, checkedMoment, momentOf, partsBy, partsOf, thenFields};
 ghost use Rattle.moment_parts.specs.Report.{unreadReport};
 use base_refusals::Refusal;
 use base_refusals::Report;
@@ -127,14 +129,11 @@ fn answered(strict: bool, r: Reading) -> Answer
     }
 }
 
-// The parts of an input within its limit.
+// The parts of an input that is UTF-8 and within its limit.
 fn parts_within(strict: bool, c: &[u8], t: &[u8], s: &[u8]) -> Answer
     requires { ⌜ length (now s) ≤ 512 ⌝ }
-    ensures { λ a. ⌜ a ≡ partsRead strict (nodesIn (now (c .entry))) (now (t .entry)) (now (s .entry)) ⌝ }
+    ensures { λ a. ⌜ a ≡ answerBy strict (nodesIn (now (c .entry))) (now (t .entry)) (now (s .entry)) ⌝ }
 {
-    if !base_chars::is_utf8(s) {
-        return Answer::Refused(Unread::By(Refusal::NotUtf8));
-    }
     answered(strict, read_input::dch_from_char(c, t, s))
 }
 
@@ -146,7 +145,19 @@ pub fn parts_by(set: Settings, c: &[u8], t: &[u8], s: &[u8]) -> Answer
     if limit < s.len() {
         return Answer::Refused(Unread::By(Refusal::TooLong));
     }
+    if !base_chars::is_utf8(s) {
+        return Answer::Refused(Unread::By(Refusal::NotUtf8));
+    }
     parts_within(set.strict, c, t, s)
+}
+
+fn are_utf8(t: &[u8], s: &[u8]) -> bool
+    ensures { λ b. ⌜ b ≡ (wellFormed (now (t .entry)) && wellFormed (now (s .entry))) ⌝ }
+{
+    if !base_chars::is_utf8(t) {
+        return false;
+    }
+    base_chars::is_utf8(s)
 }
 
 // The parts of an input by a template.
@@ -159,7 +170,7 @@ pub fn to_timestamp_parts(set: Settings, t: &[u8], s: &[u8]) -> Answer
     if base_settings::input_limit(set) < s.len() {
         return Answer::Refused(Unread::By(Refusal::TooLong));
     }
-    if !base_chars::is_utf8(t) {
+    if !are_utf8(t, s) {
         return Answer::Refused(Unread::By(Refusal::NotUtf8));
     }
     let mut nodes = [0u8; NODES];

@@ -13,8 +13,8 @@ use Rattle.base_settings.specs.Limits.{templateLimit, inputLimit}
 use Rattle.base_settings.proofs.Most.{template-most, input-most}
 use Rattle.template_nodes.specs.declared.Node.{Node}
 use Rattle.template_nodes.proofs.Encoding.{parsed-nodes, parsed-room}
-use Rattle.moment_parts.specs.Parts.{partsRead}
-use Rattle.moment_parts.proofs.Limits.{long-template, long-input, bad-template, read-by}
+use Rattle.moment_parts.specs.Parts.{answerBy}
+use Rattle.moment_parts.proofs.Limits.{long-template, long-input, bad-text, read-by}
 use Rattle.moment_parts.proofs.to_timestamp_parts.Statement.{statement}
 use Rattle.moment_parts.proofs.to_timestamp_parts.Tie as tie
 
@@ -37,12 +37,12 @@ returns c = sym (long-template _ _ _ (omega arith))
 returns-2 : tie.Need-returns-2
 returns-2 c = sym (long-input _ _ _ (short (c .before .before)) (omega arith))
 
--- the template is not UTF-8
+-- the template or the input is not UTF-8
 returns-3 : tie.Need-returns-3
 returns-3 c =
     let within-limits = c .before .before in
-    sym (bad-template _ _ _ (short (within-limits .before .before)) (small within-limits)
-    (sym (c .before .is-utf8 .ensures) ∙ not-true _ (c .if3 .taken)))
+    sym (bad-text _ _ _ (short (within-limits .before .before)) (small within-limits)
+    (sym (c .before .are-utf8 .ensures) ∙ not-true _ (c .if3 .taken)))
 
 -- within their limits a template has at most 256 bytes and an input at most 512
 parse-format-requires : tie.Need-parse-format-requires
@@ -67,9 +67,9 @@ returns-4 c =
     let within-limits = after-utf8-test .before .before in
     let args = start (within-limits .before .before) .args in
     c .parts-within .ensures
-    ∙ ap (λ (ns : List Node). partsRead (args .set .strict) ns (now (args .t)) (now (args .s))) (parsed-nodes (after-parse .parse-format .ensures))
+    ∙ ap (λ (ns : List Node). answerBy (args .set .strict) ns (now (args .t)) (now (args .s))) (parsed-nodes (after-parse .parse-format .ensures))
     ∙ read-by _ _ _ (short (within-limits .before .before)) (small within-limits)
-    (sym (after-utf8-test .before .is-utf8 .ensures) ∙ not-false _ (after-utf8-test .if3 .left))
+    (sym (after-utf8-test .before .are-utf8 .ensures) ∙ not-false _ (after-utf8-test .if3 .left))
 
 pub to-timestamp-parts-spec : {M : Type 1} → statement M
 to-timestamp-parts-spec =
