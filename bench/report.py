@@ -52,8 +52,8 @@ def times():
     names = output(BENCH, "names").splitlines()
     rounds = [[float(output(BENCH, "time", *name.split("\t"))) for name in names] for _ in range(ROUNDS)]
     measured = [f"{name}\t{min(numbers)}" for name, numbers in zip(names, zip(*rounds))]
-    inputs = list(dict.fromkeys(name.split("\t")[2] for name in names))
-    texts = {given: output(BENCH, "texts", given).splitlines() for given in inputs}
+    kinds = [name.split("\t") for name in names]
+    texts = {given: output(BENCH, "texts", given).splitlines() for kind, _, given in kinds if kind == "instant"}
     return tables.show("Nanoseconds a call", measured + server.times(texts))
 
 

@@ -6,6 +6,7 @@ TITLES = {
     "parts": "Reading the parts of a moment",
     "instant": "Reading an instant",
     "text": "Writing",
+    "modes": "Reading the parts in both character modes",
 }
 
 

@@ -1,5 +1,6 @@
 //! Writes the declarations by which the ported module's files are built where they stand. `SOURCES` names their folder.
-//! Two lines are added to formatting.rs, and nothing else is changed.
+//! Two lines are added to formatting.rs, and nothing else is changed. Of what this gives there is also a copy that
+//! measures characters otherwise.
 
 use std::path::PathBuf;
 use std::{env, fs};
@@ -18,6 +19,18 @@ fn noting(formatting: &str) -> String {
     formatting.replace(&place, &[DATE_CHECKED, NOTE, TIME_CHECKED].concat())
 }
 
+/// The beginning and the end of the function that measures a character.
+const MEASURE: &str = "pub(crate) fn pg_mblen(s: &[u8], i: usize) -> usize {\n";
+const END: &str = "\n}\n";
+
+/// The module where a character is measured as change request 4 says.
+fn accented(formatting: &str) -> String {
+    let parts: Vec<&str> = formatting.split(MEASURE).collect();
+    let [before, after] = parts[..] else { panic!("formatting.rs does not measure a character in one place") };
+    let (_, after) = after.split_once(END).expect("the function that measures a character ends");
+    [before, MEASURE, "    crate::accents::length(s, i)", END, after].concat()
+}
+
 fn main() {
     println!("cargo:rerun-if-env-changed=SOURCES");
     let folder = env::var("SOURCES").expect("SOURCES names the folder of the ported module");
@@ -33,8 +46,12 @@ fn main() {
 
     // The functions of formatting.rs are private, but in reach of a module inside it: a line after its text declares that module.
     let declared = format!("#[path = {:?}]\npub mod answers;\n", here.join("src/answers/mod.rs"));
-    let formatting = out.join("formatting.rs");
-    fs::write(&formatting, noting(&read(source("formatting"))) + "\n" + &declared).unwrap();
+    let text = noting(&read(source("formatting"))) + "\n" + &declared;
+    let written = |name: &str, text: &str| {
+        let path = out.join(name);
+        fs::write(&path, text).unwrap();
+        path
+    };
 
     // Of date.rs only its constants: the rest leans on a parser that is not there.
     let date = read(source("date"));
@@ -44,7 +61,9 @@ fn main() {
     let declarations = [
         module("costs", source("costs")),
         module("error", source("error")),
-        module("formatting", formatting),
+        module("formatting", written("formatting.rs", &text)),
+        // not all of its answers are asked for
+        "#[allow(unused_imports)]\n".to_string() + &module("accented", written("accented.rs", &accented(&text))),
         format!("mod date {{ {constants} }}\n"),
     ];
     fs::write(out.join("modules.rs"), declarations.concat()).unwrap();

@@ -23,14 +23,22 @@ ARGUMENTS |= {"write": TEXT + MOMENT + ROOM + FILLED, "write_by": 2 * TEXT + MOM
 ARGUMENTS |= {"compile": TEXT + FILLED}
 
 
-def refusal(number, size):
-    """The whole answer of a refusal without a pattern and figures."""
-    return (number, NO_PATTERN, *(size - 2) * (0,))
+def refusal(number, size, pattern=NO_PATTERN, first=0, second=0):
+    """The whole answer of a refusal."""
+    return (number, pattern, first, second, *(size - 4) * (0,))
 
 
 def accepted(values):
     """The whole answer with these values."""
     return (0, NO_PATTERN, 0, 0, *values)
+
+
+class Refused(Exception):
+    """A refusal that is due: its number, and its pattern and figures where it has them."""
+
+    def answer(self, size):
+        number, *told = self.args
+        return refusal(number, size, *told)
 
 
 class Buffer:
@@ -87,6 +95,9 @@ class Library:
         """How many bytes of nodes there are, or which refusal, and the whole buffer."""
         return self.call("compile", settings, (template,), self.nodes.cleared()), bytes(self.nodes.bytes)
 
+    def has_lone_mark(self, nodes, template):
+        return self.call("has_lone_mark", None, (nodes, template))
+
 
 def declared(shared):
     """Each function by its name, and the one with settings."""
@@ -96,4 +107,6 @@ def declared(shared):
             function = functions[name + suffix] = shared["sorbilgan_" + name + suffix]
             function.argtypes = settings + arguments
             function.restype = ctypes.c_int64 if name == "compile" else ctypes.c_uint8
+    function = functions["has_lone_mark"] = shared["sorbilgan_has_lone_mark"]
+    function.argtypes, function.restype = 2 * TEXT, ctypes.c_uint8
     return functions

@@ -13,7 +13,7 @@ import sys
 from collections import Counter, namedtuple
 
 from cards import CARDS, COMPILE_REFUSED, PAGES, READ_REFUSED, WRITE_REFUSED, damaged
-from library import FILLER, MODES, NO_PATTERN, NODE, TEXT_BUFFER, Library, accepted, refusal
+from library import FILLER, MODES, NO_PATTERN, NODE, TEXT_BUFFER, Library, Refused, accepted, refusal
 from lines import arguments, random_moment, values_due
 from months import full_parts, template_of, text_of
 from typed import WRONG, Piece, assembled, days, length, of_month, random_pair
@@ -25,14 +25,6 @@ YEAR, MONTH, DAY = 1, 2, 4
 LONGEST = {month: 29 if month == 2 else length(1, month) for month in range(1, 13)}
 NEVER = {mode: refusal(25, size) for mode, size in MODES.items()}
 SECOND, OF_DAY = 1_000_000, 86400
-
-
-class Refused(Exception):
-    """A refusal that is due: its number, and the hour that 13 tells."""
-
-    def answer(self, size):
-        number, hour = self.args
-        return (number, NO_PATTERN, hour, *(size - 3) * (0,))
 
 
 def date_due(fields):
@@ -52,7 +44,7 @@ def date_due(fields):
         month, marks = fields["month"], marks | MONTH
     if "day of year" in fields and (month <= 1 or day <= 1):
         if year == 0 and not before_christ:
-            raise Refused(14, 0)
+            raise Refused(14)
         by_year = in_year(year, fields["day of year"])
         month, day = by_year[0] if month <= 1 else month, by_year[1] if day <= 1 else day
         marks |= MONTH | DAY
@@ -73,7 +65,7 @@ def hour_due(fields):
         return fields.get("hour", 0)
     hour = fields["of twelve"]
     if not 1 <= hour <= 12:
-        raise Refused(13, hour)
+        raise Refused(13, NO_PATTERN, hour)
     return hour % 12 + 12 * fields["afternoon"]
 
 
@@ -84,11 +76,11 @@ def is_never(month, day, marks):
 
 def check_date(year, month, day, marks, strict):
     if marks & MONTH and not 1 <= month <= 12 or marks & DAY and not 1 <= day <= 31:
-        raise Refused(15, 0)
+        raise Refused(15)
     if marks == YEAR | MONTH | DAY and day > length(year, month):
-        raise Refused(15, 0)
+        raise Refused(15)
     if strict and is_never(month, day, marks):
-        raise Refused(25, 0)
+        raise Refused(25)
 
 
 def parts_due(fields, strict):
@@ -98,12 +90,12 @@ def parts_due(fields, strict):
     micros, offset = fields.get("micros", 0), fields.get("offset")
     minute, second = fields.get("minute", 0), fields.get("second", 0)
     if micros == WRONG:
-        raise Refused(15, 0)
+        raise Refused(15)
     check_date(year, month, day, marks, strict)
-    if hour > 23 or minute > 59 or second > 59 or micros > 999_999:
-        raise Refused(15, 0)
+    if not (0 <= hour <= 23 and 0 <= minute <= 59 and 0 <= second <= 59 and 0 <= micros <= 999_999):
+        raise Refused(15)
     if offset == WRONG:
-        raise Refused(16, 0)
+        raise Refused(16)
     zone = (0, 0) if offset is None else (1, offset)
     return year, month, day, hour, minute, second, micros, fields.get("precision", 0), *zone, marks
 

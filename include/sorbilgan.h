@@ -21,7 +21,7 @@ extern "C" {
 #endif
 
 /* The version of this header. sorbilgan_version() is the library's, for callers that do not include this header. */
-#define SORBILGAN_VERSION 3
+#define SORBILGAN_VERSION 4
 
 uint32_t sorbilgan_version(void);
 
@@ -30,7 +30,7 @@ uint32_t sorbilgan_version(void);
  * includes this header asks for the function. A file that uses only types and constants, and is linked without the
  * library, defines SORBILGAN_NO_LINK_CHECK before it includes this header.
  */
-uint32_t sorbilgan_version_3(void);
+uint32_t sorbilgan_version_4(void);
 
 #if defined(__GNUC__) && !defined(SORBILGAN_NO_LINK_CHECK)
 #ifdef __has_attribute
@@ -38,7 +38,7 @@ uint32_t sorbilgan_version_3(void);
 __attribute__((retain))
 #endif
 #endif
-__attribute__((used)) static uint32_t (*const sorbilgan_linked)(void) = sorbilgan_version_3;
+__attribute__((used)) static uint32_t (*const sorbilgan_linked)(void) = sorbilgan_version_4;
 #endif
 
 /* The limits of a template and of an input, in bytes: first those of the exercise pages, then of the flash cards. */
@@ -49,10 +49,12 @@ __attribute__((used)) static uint32_t (*const sorbilgan_linked)(void) = sorbilga
 
 /*
  * Settings are the bits of a number. The functions whose names end in _with take them; all others have settings 0,
- * those of the exercise pages. SORBILGAN_STRICT refuses a day that its month never has, in exercises without a year;
- * SORBILGAN_CARDS sets the limits of the flash cards; the two may be combined. Bits without a name are ignored, but a
- * later version may name them, so leave them 0.
+ * those of the exercise pages. SORBILGAN_ACCENTS counts a letter with its accents as one character; SORBILGAN_STRICT
+ * refuses a day that its month never has, in exercises without a year; SORBILGAN_CARDS sets the limits of the flash
+ * cards; the three may be combined. Bits without a name are ignored, but a later version may name them, so leave them
+ * 0.
  */
+#define SORBILGAN_ACCENTS 1u
 #define SORBILGAN_STRICT 2u
 #define SORBILGAN_CARDS 4u
 
@@ -218,6 +220,13 @@ uint8_t sorbilgan_write_by(const uint8_t *nodes, size_t nodes_length, const char
  * With SORBILGAN_STRICT reading refuses with 25 where month and day are set, the year is not, and the month has that
  * day in no year: 30 February, but not 29. This is tested after the ranges of month and day, and before those of time
  * and offset. Nothing else differs, and writing and compiling ignore it.
+ *
+ * With SORBILGAN_ACCENTS a letter and all accent marks right after it count as one character, in the literals of the
+ * template, in the input, and where TH or th passes two characters of the input. The accent marks are U+0300 to
+ * U+036F; a letter is an ASCII letter, or a non-ASCII character that is no mark. A mark after anything else counts
+ * alone, and so does one right after a quote, a backslash, a pattern, a prefix or a suffix of the template, or right
+ * after what a pattern has read of the input. There is no refusal of its own, and what is written is the same. Nodes
+ * carry this setting: sorbilgan_compile_with takes it, and the functions by nodes ignore it and read as the nodes say.
  */
 uint8_t sorbilgan_parts_with(uint32_t settings, const char *template_text, size_t template_length, const char *input,
                              size_t input_length, struct sorbilgan_parts_answer *answer);
@@ -251,6 +260,15 @@ uint8_t sorbilgan_write_by_with(uint32_t settings, const uint8_t *nodes, size_t 
                                 size_t template_length, int32_t year, int32_t month, int32_t day, int32_t hour,
                                 int32_t minute, int32_t second, int32_t micros, char *text, size_t room,
                                 struct sorbilgan_value_answer *answer);
+
+/*
+ * 1 where an accent mark (U+0300 to U+036F) counts alone in the literals of a compiled template, else 0. Any bytes are
+ * safe. This is for authors: with SORBILGAN_ACCENTS, what a full template writes is read back as its moment where this
+ * is 0. By nodes that were compiled without SORBILGAN_ACCENTS every mark counts alone, and all that a full template
+ * writes is read back.
+ */
+uint8_t sorbilgan_has_lone_mark(const uint8_t *nodes, size_t nodes_length, const char *template_text,
+                                size_t template_length);
 
 /*
  * The name of an answer's pattern as a string, and its length from 1 to 5. The bytes after the name are 0. For any

@@ -208,8 +208,11 @@ static void moments(void) {
     CHECK(sorbilgan_write_moment("DD", 2, &moment, text, sizeof text, &value) == SORBILGAN_NO_MOMENT);
 }
 
-/* The exercise pages and the flash cards, each without the bits that have no name, with all of them, and strict. */
-#define UNNAMED (~(SORBILGAN_CARDS | SORBILGAN_STRICT))
+/*
+ * The exercise pages and the flash cards, each without the bits that have no name, with all of them, and strict; what
+ * accents do is in accents.c.
+ */
+#define UNNAMED (~(SORBILGAN_ACCENTS | SORBILGAN_STRICT | SORBILGAN_CARDS))
 
 struct caller {
     uint32_t settings;

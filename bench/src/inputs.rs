@@ -36,6 +36,8 @@ pub struct Input {
     pub clock: bool,
     /// The library writes all patterns of the template.
     pub written: bool,
+    /// All are measured, and not the library's character modes alone.
+    pub by_others: bool,
     pub lines: Vec<Line>,
 }
 
@@ -78,12 +80,16 @@ fn iso_input() -> Input {
         fraction: true,
         clock: true,
         written: true,
+        by_others: true,
         lines: lines(true, |moment| iso(moment, " "), true),
     }
 }
 
+fn in_vietnamese(&[year, month, day, ..]: &Moment) -> String {
+    format!("ngày {day:02} tháng {month:02} năm {year:04}")
+}
+
 fn vietnamese() -> Input {
-    let text = |&[year, month, day, ..]: &Moment| format!("ngày {day:02} tháng {month:02} năm {year:04}");
     Input {
         name: "Vietnamese",
         template: "\"ngày \"DD\" tháng \"MM\" năm \"YYYY".into(),
@@ -93,8 +99,25 @@ fn vietnamese() -> Input {
         fraction: false,
         clock: false,
         written: true,
-        lines: lines(false, text, true),
+        by_others: true,
+        lines: lines(false, in_vietnamese, true),
     }
+}
+
+/// The letters of a Vietnamese date, and their marks after them.
+fn apart(text: &str) -> String {
+    text.replace('à', "a\u{300}").replace('á', "a\u{301}").replace('ă', "a\u{306}")
+}
+
+/// The Vietnamese input with letters and marks apart: in its lines alone, or in its template too. The spaces let the
+/// old mode read both.
+fn line_apart() -> Input {
+    let lines = lines(false, |moment| apart(&in_vietnamese(moment)), true);
+    Input { name: "line apart", by_others: false, lines, ..vietnamese() }
+}
+
+fn both_apart() -> Input {
+    Input { name: "both apart", template: apart(&vietnamese().template), ..line_apart() }
 }
 
 fn month_names() -> Input {
@@ -108,6 +131,7 @@ fn month_names() -> Input {
         fraction: false,
         clock: false,
         written: true,
+        by_others: true,
         lines: lines(false, |&[year, month, day, ..]| format!("{day:02} {} {year:04}", name(month)), true),
     }
 }
@@ -136,6 +160,7 @@ fn long() -> Input {
         fraction: true,
         clock: true,
         written: true,
+        by_others: true,
         lines: lines(true, text, true),
     };
     assert_eq!(long.template.len(), 256);
@@ -144,5 +169,5 @@ fn long() -> Input {
 }
 
 pub fn all() -> Vec<Input> {
-    vec![iso_input(), vietnamese(), month_names(), refused(), long()]
+    vec![iso_input(), vietnamese(), line_apart(), both_apart(), month_names(), refused(), long()]
 }

@@ -2,6 +2,7 @@
 
 mod glibc;
 mod inputs;
+mod modes;
 mod peers;
 mod readers;
 mod writers;
@@ -20,7 +21,13 @@ const SHORTEST: Duration = Duration::from_millis(10);
 const MEASUREMENTS: usize = 3;
 
 fn peers(input: &Input) -> Vec<Peer<'_>> {
-    readers::all(input).into_iter().chain(writers::all(input)).collect()
+    let mut peers = Vec::new();
+    if input.by_others {
+        peers.extend(readers::all(input));
+        peers.extend(writers::all(input));
+    }
+    peers.extend(modes::all(input));
+    peers
 }
 
 fn peer<'a>(input: &'a Input, kind: &str, name: &str) -> Peer<'a> {
@@ -83,9 +90,9 @@ fn main() -> io::Result<()> {
     out.flush()
 }
 
-/// Lines "template TAB input" of all inputs but the long one, in turn.
+/// Lines "template TAB input" of the inputs that all are measured on, but the long one, in turn.
 fn file(out: &mut impl Write, inputs: &[Input], count: usize) -> io::Result<()> {
-    let short: Vec<&Input> = inputs.iter().filter(|input| input.name != "long").collect();
+    let short: Vec<&Input> = inputs.iter().filter(|input| input.by_others && input.name != "long").collect();
     for number in 0..count {
         let input = short[number % short.len()];
         let line = &input.lines[number / short.len() % inputs::LINES];

@@ -3,11 +3,12 @@
 use std::fmt::Debug;
 use std::hint::black_box;
 
-/// What is asked for: the parts of a moment, its instant, or its text.
+/// What is asked for: the parts of a moment, its instant, or its text; the parts in both character modes.
 pub type Kind = &'static str;
 pub const PARTS: Kind = "parts";
 pub const INSTANT: Kind = "instant";
 pub const TEXT: Kind = "text";
+pub const MODES: Kind = "modes";
 
 pub struct Peer<'a> {
     pub kind: Kind,

@@ -15,7 +15,7 @@ pub fn all(input: &Input) -> Vec<Peer<'_>> {
 }
 
 /// A reader that gives microseconds since 1970-01-01, or nothing.
-fn reader<'a, T>(
+pub fn reader<'a, T>(
     kind: Kind, name: &'static str, input: &'a Input, call: impl Fn(&Line) -> T + 'a,
     instant: impl Fn(T) -> Option<i64>,
 ) -> Peer<'a> {
@@ -23,7 +23,7 @@ fn reader<'a, T>(
     peer(kind, name, input.lines.iter().collect(), move |line: &&Line| call(line), instant, wanted)
 }
 
-fn of_parts(words: archive::Parts) -> Option<i64> {
+pub fn of_parts(words: archive::Parts) -> Option<i64> {
     (words[0] == 0).then(|| micros(&std::array::from_fn(|at| words[4 + at] as i32)))
 }
 

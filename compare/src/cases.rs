@@ -1,5 +1,6 @@
 //! Known answers: they show that the stand-ins serve and that errors are told apart.
 
+use crate::accented::answers as accented;
 use crate::formatting::answers::{
     answer, back, cut, date, instant, line, parts, patterns, records, without_return, written,
 };
@@ -33,6 +34,22 @@ fn known_refusals_when_strict() {
         } else {
             assert_eq!((parts.on, instant.on, date.on), (parts.off, instant.off, date.off), "{}", shown(&text));
         }
+    }
+}
+
+/// Both character modes: the module as it is, and the copy that counts a letter with its accents as one.
+#[test]
+fn known_parts_in_both_modes() {
+    for (text, old, new) in known::accents::lines() {
+        let found = [line(&text, parts), accented::line(&text, accented::parts)];
+        assert_eq!(found, [old, new], "{}", shown(&text));
+    }
+}
+
+#[test]
+fn known_lone_marks() {
+    for (template, lone) in known::accents::TEMPLATES {
+        assert_eq!(accented::has_lone_mark(template.as_bytes()), *lone, "{template}");
     }
 }
 

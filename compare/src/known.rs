@@ -1,5 +1,7 @@
 //! Lines of which the answer is known: the stored lists begin with them, and tests compare the module's answers.
 
+#[cfg(test)]
+pub mod accents;
 pub mod marks;
 pub mod moments;
 pub mod readings;

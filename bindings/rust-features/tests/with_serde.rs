@@ -48,10 +48,11 @@ fn templates_as_their_text() {
 #[test]
 fn settings() {
     let cards = Settings::new().cards(true);
-    assert_eq!(to_value(cards).unwrap(), json!({"cards": true, "strict": false}));
+    assert_eq!(to_value(cards).unwrap(), json!({"cards": true, "strict": false, "accents": false}));
     assert_eq!(from_str::<Settings>(r#"{"cards": true}"#).unwrap(), cards);
-    let both = cards.strict(true);
-    assert_eq!(from_str::<Settings>(&to_value(both).unwrap().to_string()).unwrap(), both);
+    for settings in [cards.strict(true), cards.accents(true), cards.strict(true).accents(true)] {
+        assert_eq!(from_str::<Settings>(&to_value(settings).unwrap().to_string()).unwrap(), settings);
+    }
     assert_eq!(from_str::<Settings>("{}").unwrap(), Settings::new());
 
     let template = Template::compile_with("DD", cards).unwrap();

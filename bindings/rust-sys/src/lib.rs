@@ -18,6 +18,9 @@ mod version;
 
 pub use version::VERSION;
 
+/// The bit of the settings that counts a letter with its accents as one character.
+pub const ACCENTS: u32 = 1;
+
 /// The bit of the settings that refuses a day that its month never has, in exercises without a year.
 pub const STRICT: u32 = 2;
 
@@ -84,7 +87,7 @@ const _: () = assert!(size_of::<ValueAnswer>() == 5 * size_of::<i64>());
 
 unsafe extern "C" {
     pub safe fn sorbilgan_version() -> u32;
-    pub safe fn sorbilgan_version_3() -> u32;
+    pub safe fn sorbilgan_version_4() -> u32;
     pub fn sorbilgan_parts(
         template: *const u8, template_length: usize, input: *const u8, input_length: usize, answer: *mut PartsAnswer,
     ) -> u8;
@@ -152,9 +155,12 @@ unsafe extern "C" {
         month: i32, day: i32, hour: i32, minute: i32, second: i32, micros: i32, text: *mut u8, room: usize,
         answer: *mut ValueAnswer,
     ) -> u8;
+    pub fn sorbilgan_has_lone_mark(
+        nodes: *const u8, nodes_length: usize, template: *const u8, template_length: usize,
+    ) -> u8;
     pub fn sorbilgan_pattern(pattern: u8, name: *mut [u8; NAME]) -> usize;
 }
 
 /// Asks the linker for this version's library, whatever else is called.
 #[used]
-static LINKED: extern "C" fn() -> u32 = sorbilgan_version_3;
+static LINKED: extern "C" fn() -> u32 = sorbilgan_version_4;

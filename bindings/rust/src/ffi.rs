@@ -105,6 +105,13 @@ pub fn compile(settings: Settings, template: &[u8]) -> Result<Box<[u8]>, Refusal
     }
 }
 
+/// Whether an accent mark counts alone in the literals of a template.
+pub fn has_lone_mark(nodes: &[u8], template: &[u8]) -> bool {
+    let (c, t) = (nodes.as_ptr(), template.as_ptr());
+    // SAFETY: as said above.
+    unsafe { sys::sorbilgan_has_lone_mark(c, nodes.len(), t, template.len()) != 0 }
+}
+
 /// The name of the pattern at a place of the table.
 pub fn pattern(place: u8) -> String {
     let mut name = [0; NAME];

@@ -40,7 +40,8 @@
 //!
 //! A template for a flash card is compiled with [`Settings`], which give it smaller limits; within them its answers are
 //! the same. One for an exercise without a year, such as a birthday, is compiled with [`Settings::strict`], which
-//! refuses 30 February.
+//! refuses 30 February. One for a language with accents is compiled with [`Settings::accents`], which reads ứ in each
+//! of the ways that keyboards send it.
 //!
 //! Where a template or an input is asked for, text and bytes are both taken: a learner's line need not be UTF-8 to be
 //! answered.
@@ -99,7 +100,7 @@ pub use template::Template;
 /// The version of the library, as `sorbilgan_version()` answers in C.
 ///
 /// ```
-/// assert_eq!(sorbilgan::VERSION, 3);
+/// assert_eq!(sorbilgan::VERSION, 4);
 /// ```
 pub const VERSION: u32 = sorbilgan_sys::VERSION;
 

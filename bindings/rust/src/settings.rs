@@ -1,11 +1,12 @@
 use crate::{INPUT_LIMIT, TEMPLATE_LIMIT};
-use sorbilgan_sys::{CARDS, STRICT};
+use sorbilgan_sys::{ACCENTS, CARDS, STRICT};
 
-/// What a caller sets for its templates: whether they have the limits of the exercise pages or of the flash cards, and
-/// whether they are strict, for exercises without a year.
+/// What a caller sets for its templates: whether they have the limits of the exercise pages or of the flash cards,
+/// whether they are strict, for exercises without a year, and whether they count a letter with its accents as one
+/// character, for languages with accents.
 ///
 /// [`Template::compile_with`](crate::Template::compile_with) takes them, and all else has the default, that of the
-/// exercise pages, not strict. Within the smaller limits pages and cards get the same answers:
+/// exercise pages, not strict, each character counted. Within the smaller limits pages and cards get the same answers:
 ///
 /// ```
 /// use sorbilgan::{Cause, Settings, Template};
@@ -37,6 +38,22 @@ use sorbilgan_sys::{CARDS, STRICT};
 /// # Ok::<(), sorbilgan::Refusal>(())
 /// ```
 ///
+/// By default each character counts, and a letter with accents may be typed as one character or as several. With
+/// [`Settings::accents`] they count as one:
+///
+/// ```
+/// use sorbilgan::{Cause, Settings, Template};
+///
+/// let each = Template::compile(r#""ngày"DD"#)?;
+/// let accents = Template::compile_with(r#""ngày"DD"#, Settings::new().accents(true))?;
+/// assert_eq!(each.read("nga\u{300}y05").unwrap_err().cause(), Cause::NotInteger);
+/// assert_eq!(accents.read("nga\u{300}y05")?.day, 5);
+///
+/// assert_eq!(each.read("ngày05")?.day, 5);
+/// assert_eq!(accents.read("ngày05")?.day, 5);
+/// # Ok::<(), sorbilgan::Refusal>(())
+/// ```
+///
 /// Later versions may have more settings, so they are made by [`Settings::new`] and the methods that set one of them.
 #[derive(Debug, Clone, Copy, PartialEq, Eq, PartialOrd, Ord, Hash, Default)]
 #[cfg_attr(feature = "serde", derive(serde::Serialize, serde::Deserialize), serde(default))]
@@ -44,10 +61,11 @@ use sorbilgan_sys::{CARDS, STRICT};
 pub struct Settings {
     cards: bool,
     strict: bool,
+    accents: bool,
 }
 
 impl Settings {
-    /// The default settings, those of the exercise pages, not strict.
+    /// The default settings, those of the exercise pages, not strict, each character counted.
     ///
     /// ```
     /// use sorbilgan::{Settings, Template};
@@ -58,7 +76,7 @@ impl Settings {
     /// ```
     #[must_use]
     pub const fn new() -> Settings {
-        Settings { cards: false, strict: false }
+        Settings { cards: false, strict: false, accents: false }
     }
 
     /// Sets whether the limits are those of the flash cards: 64 bytes of a template and 96 of an input.
@@ -94,6 +112,28 @@ impl Settings {
     #[must_use]
     pub const fn strict(self, strict: bool) -> Settings {
         Settings { strict, ..self }
+    }
+
+    /// Sets whether a letter and all accent marks right after it, U+0300 to U+036F, count as one character, in the
+    /// literals of the template and in the input. A letter is an ASCII letter, or a character that is neither ASCII nor
+    /// a mark. A mark after anything else counts alone; [`Template::has_lone_mark`](crate::Template::has_lone_mark)
+    /// says whether one does in a template. Nothing else differs, and nothing in writing.
+    ///
+    /// ```
+    /// use sorbilgan::{Settings, Template};
+    ///
+    /// const ACCENTS: Settings = Settings::new().accents(true);
+    /// assert_eq!(ACCENTS.accents(false), Settings::new());
+    ///
+    /// let template = Template::compile_with(r#""thứ tư, "DD/MM"#, ACCENTS)?;
+    /// for u in ["ứ", "ư\u{301}", "ú\u{31b}", "u\u{31b}\u{301}", "u\u{301}\u{31b}"] {
+    ///     assert_eq!(template.read(format!("th{u} tư, 29/02"))?.day, 29);
+    /// }
+    /// # Ok::<(), sorbilgan::Refusal>(())
+    /// ```
+    #[must_use]
+    pub const fn accents(self, accents: bool) -> Settings {
+        Settings { accents, ..self }
     }
 
     /// The most bytes of a template: [`TEMPLATE_LIMIT`], or less.
@@ -141,6 +181,7 @@ impl Settings {
     pub(crate) const fn bits(self) -> u32 {
         let cards = if self.cards { CARDS } else { 0 };
         let strict = if self.strict { STRICT } else { 0 };
-        cards | strict
+        let accents = if self.accents { ACCENTS } else { 0 };
+        cards | strict | accents
     }
 }

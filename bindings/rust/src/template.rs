@@ -108,6 +108,31 @@ impl Template {
         self.settings
     }
 
+    /// Whether an accent mark, U+0300 to U+036F, counts alone in the literals of the template. This is for authors:
+    /// with [`Settings::accents`], what a full template writes is read back as its moment where this is false. Without
+    /// that setting every mark counts alone, and all that a full template writes is read back.
+    ///
+    /// A mark counts alone if it is not right after a letter or after the marks of one. A quote between them is enough:
+    ///
+    /// ```
+    /// use sorbilgan::{Moment, Settings, Template};
+    ///
+    /// let accents = Settings::new().accents(true);
+    /// assert!(!Template::compile_with("Mon\"a\u{301}\"YYYY", accents)?.has_lone_mark());
+    ///
+    /// let template = Template::compile_with("Mon\"a\"\u{301}YYYY", accents)?;
+    /// assert!(template.has_lone_mark());
+    /// let text = template.format(&Moment::midnight(2024, 1, 1))?;
+    /// assert_eq!(text, "Jana\u{301}2024");
+    /// // in the text the mark is right after the letter, so the template's mark takes the first digit of the year
+    /// assert_eq!(template.read(text)?.year, 24);
+    /// # Ok::<(), sorbilgan::Refusal>(())
+    /// ```
+    #[must_use]
+    pub fn has_lone_mark(&self) -> bool {
+        ffi::has_lone_mark(&self.nodes, self.text.as_bytes())
+    }
+
     /// Reads the parts of an input.
     ///
     /// # Errors

@@ -1,15 +1,16 @@
-//! The functions that take settings, called as `sorbilgan-sys` declares them. Without the bits of the flash cards and
-//! of strict reading each answers as the one without settings does; bits without a name change nothing.
+//! The functions that take settings, called as `sorbilgan-sys` declares them. Without the bits of the flash cards, of
+//! strict reading and of accents each answers as the one without settings does; bits without a name change nothing.
 
 use sorbilgan_sys::*;
 
-const UNNAMED: u32 = !(CARDS | STRICT);
+const UNNAMED: u32 = !(ACCENTS | STRICT | CARDS);
 
 /// Each settings with what they have to answer: those of the exercise pages, then those of the flash cards. The strict
-/// bit changes nothing where there is a year, nor in writing and compiling.
+/// bit changes nothing where there is a year, nor in writing and compiling. That of accents changes nothing without
+/// accent marks, nor in writing; compiling puts it into the nodes.
 fn by_settings<T: Clone>(page: T, card: T) -> Vec<(u32, T)> {
-    let pages = [0, UNNAMED, STRICT].map(|set| (set, page.clone()));
-    let cards = [0, UNNAMED, STRICT].map(|set| (CARDS | set, card.clone()));
+    let pages = [0, UNNAMED, STRICT, ACCENTS].map(|set| (set, page.clone()));
+    let cards = [0, UNNAMED, STRICT, ACCENTS].map(|set| (CARDS | set, card.clone()));
     [pages, cards].concat()
 }
 
@@ -87,6 +88,44 @@ strict!(strict_parts: sorbilgan_parts, sorbilgan_parts_with, sorbilgan_parts_by_
 strict!(strict_instants: sorbilgan_instant, sorbilgan_instant_with, sorbilgan_instant_by_with);
 strict!(strict_dates: sorbilgan_date, sorbilgan_date_with, sorbilgan_date_by_with);
 
+/// By the text the bit of accents counts a letter and its mark as one; by nodes they say it, and the bit is ignored.
+macro_rules! accents {
+    ($name:ident: $plain:ident, $by:ident, $with:ident, $by_with:ident) => {
+        #[test]
+        fn $name() {
+            let (t, t_length) = ("\"à\"YYYY".as_ptr(), 8);
+            let (s, length) = ("a\u{300}2024".as_ptr(), 7);
+            let refused = asked(|answer| unsafe { $plain(t, t_length, s, length, answer) });
+            assert_eq!(refused.report.number, 7);
+            let accepted = asked(|answer| unsafe { $plain(b"YYYY".as_ptr(), 4, b"2024".as_ptr(), 4, answer) });
+            for (bit, wanted) in [(0, refused), (ACCENTS, accepted)] {
+                let (c_length, nodes) = compiled(|nodes| unsafe { sorbilgan_compile_with(bit, t, t_length, nodes) });
+                let (c, c_length) = (nodes.as_ptr(), c_length as usize);
+                assert_eq!(asked(|answer| unsafe { $by(c, c_length, t, t_length, s, length, answer) }), wanted);
+                for set in [0, UNNAMED, STRICT, CARDS, STRICT | CARDS] {
+                    let text = asked(|answer| unsafe { $with(bit | set, t, t_length, s, length, answer) });
+                    assert_eq!(text, wanted);
+                    for set in [set, ACCENTS | set] {
+                        let by = asked(|answer| unsafe { $by_with(set, c, c_length, t, t_length, s, length, answer) });
+                        assert_eq!(by, wanted);
+                    }
+                }
+            }
+        }
+    };
+}
+
+accents!(accented_parts: sorbilgan_parts, sorbilgan_parts_by, sorbilgan_parts_with, sorbilgan_parts_by_with);
+accents!(accented_instants: sorbilgan_instant, sorbilgan_instant_by, sorbilgan_instant_with, sorbilgan_instant_by_with);
+accents!(accented_dates: sorbilgan_date, sorbilgan_date_by, sorbilgan_date_with, sorbilgan_date_by_with);
+
+/// The bit of accents is the highest of a node's last byte.
+fn with_accents(set: u32, (length, mut nodes): (i64, [u8; NODES])) -> (i64, [u8; NODES]) {
+    let made = usize::try_from(length).unwrap_or(0);
+    nodes[..made].chunks_mut(6).for_each(|node| node[5] |= if set & ACCENTS == 0 { 0 } else { 128 });
+    (length, nodes)
+}
+
 #[test]
 fn nodes() {
     let text = "-".repeat(257);
@@ -95,7 +134,8 @@ fn nodes() {
         let page = compiled(|nodes| unsafe { sorbilgan_compile(t, length, nodes) });
         assert_eq!(page.0, if length <= 256 { 6 * length as i64 } else { -1 });
         for (set, wanted) in by_settings(page, if length <= 64 { page } else { (-1, [0; NODES]) }) {
-            assert_eq!(compiled(|nodes| unsafe { sorbilgan_compile_with(set, t, length, nodes) }), wanted);
+            let found = compiled(|nodes| unsafe { sorbilgan_compile_with(set, t, length, nodes) });
+            assert_eq!(found, with_accents(set, wanted));
         }
     }
 }

@@ -3,7 +3,8 @@
 
 use sorbilgan::{Cause, Settings, INPUT_LIMIT, TEMPLATE_LIMIT, VERSION};
 use sorbilgan_sys::{
-    sorbilgan_version, sorbilgan_version_3, CARDS, DAY_SET, MONTH_SET, NAME, NODES, NO_PATTERN, STRICT, YEAR_SET,
+    sorbilgan_version, sorbilgan_version_4, ACCENTS, CARDS, DAY_SET, MONTH_SET, NAME, NODES, NO_PATTERN, STRICT,
+    YEAR_SET,
 };
 use std::collections::BTreeMap;
 
@@ -39,6 +40,7 @@ fn the_same_sizes() {
         ("INPUT_LIMIT", INPUT_LIMIT),
         ("CARDS_TEMPLATE_LIMIT", cards.template_limit()),
         ("CARDS_INPUT_LIMIT", cards.input_limit()),
+        ("ACCENTS", ACCENTS as usize),
         ("STRICT", STRICT as usize),
         ("CARDS", CARDS as usize),
         ("NODES", NODES),
@@ -54,9 +56,9 @@ fn the_same_sizes() {
 /// A new cause is a new version: a crate without it must not link.
 #[test]
 fn the_same_version() {
-    assert_eq!([sorbilgan_version(), sorbilgan_version_3()], [VERSION; 2]);
+    assert_eq!([sorbilgan_version(), sorbilgan_version_4()], [VERSION; 2]);
     assert!(HEADER.contains(&format!("= sorbilgan_version_{VERSION};")));
-    assert_eq!((VERSION, Cause::ALL.len()), (3, 22));
+    assert_eq!((VERSION, Cause::ALL.len()), (4, 22));
 }
 
 /// The fields of a struct in C or Rust, between its first line and the next brace.
@@ -137,5 +139,5 @@ fn of_crate() -> Functions {
 fn the_same_functions() {
     let (header, rust) = (of_header(), of_crate());
     assert_eq!(header, rust);
-    assert_eq!(header.len(), 21);
+    assert_eq!(header.len(), 22);
 }

@@ -1,4 +1,5 @@
-//! The exercise pages and the flash cards, each at its own limits; and what a strict template refuses, and when.
+//! The exercise pages and the flash cards, each at its own limits; and what a strict template refuses, and when. What
+//! a template with accents reads is in accents.rs and vietnamese.rs.
 
 use sorbilgan::{format, Cause, Moment, Parts, Refusal, Settings, Template, INPUT_LIMIT, TEMPLATE_LIMIT};
 use std::collections::HashSet;
@@ -6,6 +7,7 @@ use std::collections::HashSet;
 const PAGES: Settings = Settings::new();
 const CARDS: Settings = PAGES.cards(true);
 const STRICT: Settings = PAGES.strict(true);
+const ACCENTS: Settings = PAGES.accents(true);
 const LEAP_DAY: Moment = Moment::midnight(2024, 2, 29);
 
 fn template(text: &str, settings: Settings) -> Template {
@@ -22,7 +24,9 @@ fn assert_too_long<T>(answer: Result<T, Refusal>) {
 fn limits_of_both() {
     assert_eq!((PAGES.template_limit(), PAGES.input_limit()), (TEMPLATE_LIMIT, INPUT_LIMIT));
     assert_eq!((CARDS.template_limit(), CARDS.input_limit()), (64, 96));
-    assert_eq!((STRICT.template_limit(), STRICT.input_limit()), (TEMPLATE_LIMIT, INPUT_LIMIT));
+    for others in [STRICT, ACCENTS] {
+        assert_eq!((others.template_limit(), others.input_limit()), (TEMPLATE_LIMIT, INPUT_LIMIT));
+    }
     assert_eq!(Settings::default(), PAGES);
 }
 
@@ -31,9 +35,11 @@ fn limits_of_both() {
 fn settings_together() {
     assert_eq!(CARDS.strict(true), STRICT.cards(true));
     assert_eq!((CARDS.strict(true).cards(false), CARDS.strict(true).strict(false)), (STRICT, CARDS));
-    assert_eq!(HashSet::from([PAGES, CARDS, STRICT, CARDS.strict(true)]).len(), 4);
-    let both = CARDS.strict(true);
-    assert_eq!((both.template_limit(), both.input_limit()), (64, 96));
+    let all = CARDS.strict(true).accents(true);
+    assert_eq!(all, ACCENTS.cards(true).strict(true));
+    assert_eq!((all.accents(false), all.cards(false)), (CARDS.strict(true), STRICT.accents(true)));
+    assert_eq!(HashSet::from([PAGES, CARDS, STRICT, ACCENTS, CARDS.strict(true), all]).len(), 6);
+    assert_eq!((all.template_limit(), all.input_limit()), (64, 96));
 }
 
 /// The limit is tested before the bytes are.
@@ -105,9 +111,11 @@ fn templates_by_their_settings() {
     assert_eq!(HashSet::from([page.clone(), card.clone(), template("YYYY", CARDS)]).len(), 2);
     let longer = [PAGES, CARDS].map(|settings| template("YYYY-MM", settings));
     assert!(longer.iter().all(|longer| page < *longer && card < *longer));
-    assert_eq!(format!("{card} {card:?}"), r#"YYYY Template("YYYY", Settings { cards: true, strict: false })"#);
+    let shown = r#"YYYY Template("YYYY", Settings { cards: true, strict: false, accents: false })"#;
+    assert_eq!(format!("{card} {card:?}"), shown);
     assert_eq!("YYYY".parse(), Ok(page));
     assert_ne!(template("YYYY", STRICT), template("YYYY", PAGES));
+    assert_ne!(template("YYYY", ACCENTS), template("YYYY", PAGES));
 }
 
 /// The cause of a refusal, or none where the line is accepted; the same for parts, instants and dates.

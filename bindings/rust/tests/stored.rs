@@ -2,9 +2,16 @@
 
 mod common;
 
-use common::{answer, cut, file, moment, without_return};
+use common::{answer, cut, moment, without_return};
 use sorbilgan::{Parts, Template};
-use std::str;
+use std::path::Path;
+use std::{fs, str};
+
+/// The bytes of a file of the repository.
+fn file(path: &str) -> Vec<u8> {
+    let path = Path::new(env!("CARGO_MANIFEST_DIR")).join("../..").join(path);
+    fs::read(&path).unwrap_or_else(|why| panic!("{}: {why}", path.display()))
+}
 
 /// The lines of a list; the last may have no newline.
 fn lines(path: &str) -> Vec<Vec<u8>> {

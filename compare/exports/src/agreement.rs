@@ -1,8 +1,9 @@
 //! Whether the exports answer as the ported module does.
 
-use crate::archive::{self, CARDS, NAME, NODE, NODES, STRICT, Settings};
-use oracle::answers::{Limits, Moment, records};
+use crate::archive::{self, ACCENTS, CARDS, NAME, NODE, NODES, STRICT, Settings};
+use oracle::answers::{Limits, Moment, is_full, records};
 use oracle::hex;
+use oracle::modes::{Module, Switched};
 use std::fmt::{self, Debug, Display};
 
 /// What a record or a buffer holds before a call, so that a number or byte that is left out shows.
@@ -32,28 +33,40 @@ impl Display for Difference {
 
 pub type Agreement<T> = Result<T, Difference>;
 
-/// Who calls: its limits, whether it is strict, and the settings that say so.
+/// Who calls: its limits, whether it is strict, and the settings that say so. Those beside nodes may have any character
+/// mode, since the nodes have their own.
+#[derive(Clone, Copy)]
 struct Caller {
     limits: Limits,
     strict: bool,
     settings: Settings,
+    beside_nodes: Settings,
 }
 
 /// The exercise pages as they always called.
-const PAGES: Caller = Caller { limits: Limits::PAGES, strict: false, settings: None };
+const PAGES: Caller = Caller { limits: Limits::PAGES, strict: false, settings: None, beside_nodes: None };
 
 impl Caller {
-    /// The exercise pages without settings; pages and flash cards with them, lenient and strict. The bits besides mean
-    /// nothing.
-    fn all(bits: u32) -> [Caller; 5] {
-        let with = |limits, strict, settings: u32| Caller { limits, strict, settings: Some(bits | settings) };
+    /// The exercise pages without settings, or with those of the new character mode alone; pages and flash cards with
+    /// settings, lenient and strict. The bits besides mean nothing; the lowest of them chooses the mode beside nodes.
+    fn all(bits: u32, accents: bool) -> [Caller; 5] {
+        let mode = if accents { ACCENTS } else { 0 };
+        let other = bits >> 3 & ACCENTS;
+        let with = |limits, strict, settings: u32| {
+            let settings = bits | mode | settings;
+            Caller { limits, strict, settings: Some(settings), beside_nodes: Some(settings ^ other) }
+        };
         [
-            PAGES,
+            Caller { settings: accents.then_some(ACCENTS), ..PAGES },
             with(Limits::PAGES, false, 0),
             with(Limits::PAGES, true, STRICT),
             with(Limits::CARDS, false, CARDS),
             with(Limits::CARDS, true, STRICT | CARDS),
         ]
+    }
+
+    fn by_nodes(&self) -> Caller {
+        Caller { settings: self.beside_nodes, ..*self }
     }
 
     fn same<T: PartialEq + Debug>(&self, export: &'static str, wanted: T, found: T) -> Agreement<()> {
@@ -76,7 +89,7 @@ impl Caller {
 
     /// The same of what is read, with the strict switch or without.
     fn read<const WORDS: usize>(
-        &self, export: &'static str, within: bool, wanted: &records::Switched<WORDS>,
+        &self, export: &'static str, within: bool, wanted: &Switched<WORDS>,
         call: impl FnOnce(Settings, &mut [i64; WORDS]) -> u8,
     ) -> Agreement<()> {
         let wanted = if self.strict { wanted.on } else { wanted.off };
@@ -97,6 +110,7 @@ impl Caller {
 
 /// A template with its nodes, if it is accepted, and those who use it.
 pub struct Template<'a> {
+    module: &'static Module,
     text: &'a [u8],
     nodes: Option<archive::Nodes>,
     length: usize,
@@ -104,10 +118,10 @@ pub struct Template<'a> {
 }
 
 impl Template<'_> {
-    /// Compiled by each caller. Those who accept the template get the same nodes.
-    pub fn compiled(text: &[u8], bits: u32) -> Agreement<Template<'_>> {
-        let callers = Caller::all(bits);
-        let count = records::compiled(text);
+    /// Compiled by each caller of a character mode. Those who accept the template get the same nodes.
+    pub fn compiled<'a>(module: &'static Module, text: &'a [u8], bits: u32) -> Agreement<Template<'a>> {
+        let callers = Caller::all(bits, module.accents);
+        let count = (module.compiled)(text);
         let length = if count < 0 { count } else { count * NODE as i64 };
         let mut nodes = None;
         for caller in &callers {
@@ -117,7 +131,21 @@ impl Template<'_> {
             let wanted = if wanted < 0 { [FILLER; NODES] } else { *nodes.get_or_insert(found) };
             caller.same("compile", wanted, found)?;
         }
-        Ok(Template { text, nodes, length: length.max(0) as usize, callers })
+        let template = Template { module, text, nodes, length: length.max(0) as usize, callers };
+        if let Some(nodes) = template.nodes() {
+            PAGES.same("has_lone_mark", u8::from(template.has_lone_mark()), archive::has_lone_mark(nodes, text))?;
+        }
+        Ok(template)
+    }
+
+    /// Whether a mark counts alone, in the mode of the template.
+    pub fn has_lone_mark(&self) -> bool {
+        (self.module.has_lone_mark)(self.text)
+    }
+
+    /// Whether what is written must be read back: by a full template, in which no mark counts alone in the new mode.
+    pub fn is_read_back(&self) -> bool {
+        is_full(self.text) && !(self.module.accents && self.has_lone_mark())
     }
 
     pub fn nodes(&self) -> Option<&[u8]> {
@@ -130,16 +158,16 @@ pub type Numbers = [[i64; 3]; 2];
 
 /// What is read by a template from an input. By a compiled template only the input can be too long.
 pub fn read(template: &Template, input: &[u8]) -> Agreement<Numbers> {
-    let text = template.text;
-    let parts = records::parts(text, input);
-    let instant = records::instant(text, input);
-    let date = records::date(text, input);
+    let (text, module) = (template.text, template.module);
+    let (parts, instant, date) =
+        ((module.parts)(text, input), (module.instant)(text, input), (module.date)(text, input));
     for caller in &template.callers {
         let within = caller.limits.hold(text, input);
         caller.read("parts", within, &parts, |with, out| archive::parts_with(with, text, input, out))?;
         caller.read("instant", within, &instant, |with, out| archive::instant_with(with, text, input, out))?;
         caller.read("date", within, &date, |with, out| archive::date_with(with, text, input, out))?;
         let Some(nodes) = template.nodes() else { continue };
+        let caller = caller.by_nodes();
         let within = caller.limits.hold(&[], input);
         caller.read("parts_by", within, &parts, |with, out| archive::parts_by_with(with, nodes, text, input, out))?;
         caller.read("instant_by", within, &instant, |with, out| {
@@ -153,21 +181,21 @@ pub fn read(template: &Template, input: &[u8]) -> Agreement<Numbers> {
 /// What is written by a template for a moment, into a buffer of `room` bytes: the number and the text. After the
 /// text the buffer is as it was. Of a compiled template the nodes have a limit, in place of the text.
 pub fn write(template: &Template, moment: &Moment, room: usize) -> Agreement<(i64, String)> {
-    let (record, text) = records::written(template.text, moment, room);
+    let (record, text) = (template.module.written)(template.text, moment, room);
     let mut buffer = vec![FILLER; room];
     buffer[..text.len()].copy_from_slice(text.as_bytes());
     let wanted = (record, buffer.as_slice());
     for caller in &template.callers {
-        let settings = caller.settings;
         let within = caller.limits.hold(template.text, &[]);
         caller.written("write", within, wanted, |into, out| {
-            archive::write_with(settings, template.text, moment, into, out)
+            archive::write_with(caller.settings, template.text, moment, into, out)
         })?;
         let Some(nodes) = template.nodes() else { continue };
+        let caller = caller.by_nodes();
         let most = NODE * caller.limits.template;
         for (nodes, within) in [(nodes, nodes.len() <= most), (&MORE[..=most], false)] {
             caller.written("write_by", within, wanted, |into, out| {
-                archive::write_by_with(settings, nodes, template.text, moment, into, out)
+                archive::write_by_with(caller.settings, nodes, template.text, moment, into, out)
             })?;
         }
     }

@@ -3,7 +3,7 @@
 
 use oracle::answers::Moment;
 use sorbilgan_sys as sys;
-pub use sorbilgan_sys::{CARDS, NAME, NODES, STRICT};
+pub use sorbilgan_sys::{ACCENTS, CARDS, NAME, NODES, STRICT};
 
 /// The bytes of a node.
 pub const NODE: usize = 6;
@@ -73,6 +73,11 @@ export!(write_by sorbilgan_write_by, write_by_with sorbilgan_write_by_with,
 // The bytes of the nodes; -1 or -2 where the template is refused, and the nodes are as they were.
 export!(compile sorbilgan_compile, compile_with sorbilgan_compile_with,
     (template: &[u8], nodes: &mut Nodes) -> i64, (template.as_ptr(), template.len(), nodes));
+
+/// 1 where a mark counts alone in a compiled template, else 0.
+pub fn has_lone_mark(nodes: &[u8], template: &[u8]) -> u8 {
+    unsafe { sys::sorbilgan_has_lone_mark(nodes.as_ptr(), nodes.len(), template.as_ptr(), template.len()) }
+}
 
 /// The length of a pattern's name by its place in the table.
 pub fn pattern(place: u8, name: &mut Name) -> usize {

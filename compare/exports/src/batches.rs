@@ -2,7 +2,7 @@
 
 use oracle::answers::{Limits, Moment, cut, numbers_of, records};
 use oracle::random::{Random, all_bytes};
-use oracle::{birthdays, moments, pairs, questions::templates, readings};
+use oracle::{birthdays, moments, pairs, questions::templates, readings, strewn};
 
 #[derive(Default)]
 pub struct Batch {
@@ -50,6 +50,16 @@ impl Batch {
             }
         };
         Batch { bits, ..batch }
+    }
+
+    /// The same with marks anywhere, in the template, in the inputs, or in both.
+    pub fn strewn(&self, random: &mut Random) -> Batch {
+        let which = random.below(3);
+        let mut strewn =
+            |text: &Vec<u8>, not: usize| if which == not { text.clone() } else { strewn::text(random, text) };
+        let template = strewn(&self.template, 0);
+        let inputs = self.inputs.iter().map(|input| strewn(input, 1)).collect();
+        Batch { template, inputs, moments: self.moments.clone(), ..*self }
     }
 
     /// How many pairs of a template and an input or a moment these are.

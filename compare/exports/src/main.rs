@@ -2,7 +2,8 @@
 
 use exports::agreement::{self, Agreement, Case, Difference, Template};
 use exports::batches::Batch;
-use oracle::answers::{Limits, Moment, is_full};
+use oracle::answers::{Limits, Moment};
+use oracle::modes::{Module, NEW, OLD};
 use oracle::random::Random;
 use std::panic::{AssertUnwindSafe, catch_unwind};
 use std::process::ExitCode;
@@ -13,6 +14,8 @@ const USAGE: &str = "usage: in_process SEED COUNT";
 const THREADS: usize = 2;
 /// The pairs of one seed of a round; rounds go to the thread that is free.
 const ROUND: u64 = 10_000;
+/// Of so many batches one is also asked in the new character mode, with marks strewn in.
+const STREWN: usize = 4;
 /// The room for a text.
 const ROOM: usize = 512;
 /// Of the differences so many are printed.
@@ -36,7 +39,7 @@ const CALLERS: [&str; 4] = [
 const LENGTHS: [&str; 4] = ["templates of 64 bytes", "of 65", "inputs of 96", "of 97"];
 const BACK: [&str; 2] = ["texts of full templates", "by the cards too"];
 
-/// How often each number was the answer, and what differed.
+/// How often each number was the answer in a character mode, and what differed.
 #[derive(Default)]
 struct Tally {
     pairs: u64,
@@ -145,18 +148,18 @@ fn write(template: &[u8], compiled: &Template, moment: &Moment, room: usize, tal
     if number == 0 {
         read(template, compiled, text.as_bytes(), tally);
         let back = || agreement::read_back(compiled, moment, &text);
-        if is_full(template) && caught(case, tally, back).is_some() {
+        if compiled.is_read_back() && caught(case, tally, back).is_some() {
             add(&mut tally.back, [1, Limits::CARDS.hold(template, &[]).into()]);
         }
     }
     text
 }
 
-fn check(batch: &Batch, tally: &mut Tally) {
+fn check(module: &'static Module, batch: &Batch, tally: &mut Tally) {
     tally.pairs += batch.pairs();
     let template = &batch.template;
     let case = Case::Reading { template, input: &[] };
-    let Some(compiled) = caught(case, tally, || Template::compiled(template, batch.bits)) else { return };
+    let Some(compiled) = caught(case, tally, || Template::compiled(module, template, batch.bits)) else { return };
     for input in &batch.inputs {
         read(template, &compiled, input, tally);
     }
@@ -169,13 +172,18 @@ fn check(batch: &Batch, tally: &mut Tally) {
     }
 }
 
-fn round(seed: u64, count: u64) -> Tally {
+/// So many pairs in the old mode, and some of them with marks in the new one.
+fn round(seed: u64, count: u64) -> [Tally; 2] {
     let mut random = Random::new(seed);
-    let mut tally = Tally::default();
-    while tally.pairs < count {
-        check(&Batch::new(&mut random), &mut tally);
+    let [mut old, mut new] = <[Tally; 2]>::default();
+    while old.pairs < count {
+        let batch = Batch::new(&mut random);
+        check(&OLD, &batch, &mut old);
+        if random.once_in(STREWN) {
+            check(&NEW, &batch.strewn(&mut random), &mut new);
+        }
     }
-    tally
+    [old, new]
 }
 
 /// The seeds of the rounds and how many pairs are left, shared by the threads.
@@ -200,19 +208,22 @@ fn main() -> ExitCode {
         return ExitCode::FAILURE;
     }
     let work = Mutex::new(Work { seeds: Random::new(seed), left: count });
-    let total = Mutex::new(Tally::default());
+    let totals = Mutex::new(<[Tally; 2]>::default());
     std::thread::scope(|scope| {
         for _ in 0..THREADS {
             scope.spawn(|| {
                 while let Some((seed, count)) = take(&work) {
-                    let tally = round(seed, count);
-                    total.lock().unwrap().join(tally);
+                    let tallies = round(seed, count);
+                    totals.lock().unwrap().iter_mut().zip(tallies).for_each(|(total, tally)| total.join(tally));
                 }
             });
         }
     });
-    let total = total.into_inner().unwrap();
-    println!("seed {seed}, {} pairs, {THREADS} threads, {:.1} seconds", total.pairs, begun.elapsed().as_secs_f64());
-    total.report();
-    if total.differences == 0 { ExitCode::SUCCESS } else { ExitCode::FAILURE }
+    let totals = totals.into_inner().unwrap();
+    println!("seed {seed}, {THREADS} threads, {:.1} seconds", begun.elapsed().as_secs_f64());
+    for (mode, total) in ["old", "new"].iter().zip(&totals) {
+        println!("\n{} pairs in the {mode} character mode", total.pairs);
+        total.report();
+    }
+    if totals.iter().all(|total| total.differences == 0) { ExitCode::SUCCESS } else { ExitCode::FAILURE }
 }

@@ -1,6 +1,7 @@
 //! One answer line for each question line, by the ported module's own functions: this module is declared inside it.
 
 use super::*;
+use crate::accents::is_mark;
 use crate::hex;
 use std::fmt::Debug;
 use std::str::FromStr;
@@ -63,6 +64,12 @@ fn flag(set: bool) -> String {
 /// The nodes of a template, FN_END at their end.
 fn parse(template: &[u8]) -> Vec<FmtNode<'_>> {
     parse_format(template, true, &mut NumDesc::default()).expect("no date template is refused")
+}
+
+/// Whether a literal of a template is a mark that counts alone. One that counts with a letter begins no node.
+pub fn has_lone_mark(template: &[u8]) -> bool {
+    let first = |node: &FmtNode| std::str::from_utf8(node.chars).ok()?.chars().next();
+    parse(template).iter().filter_map(first).any(is_mark)
 }
 
 /// The bytes of a node's name or character.

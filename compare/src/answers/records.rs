@@ -3,6 +3,7 @@
 use super::reading::{Answer, Limits, Reading, Refusal, read, to_instant};
 use super::writing::{Moment, attempt};
 use super::*;
+use crate::modes::{Switched, Written};
 
 /// Number, pattern, first and second figure; then the values, which are 0 where the answer is a refusal.
 fn record<const WORDS: usize>(answer: Answer<Vec<i64>>) -> [i64; WORDS] {
@@ -25,13 +26,6 @@ fn record<const WORDS: usize>(answer: Answer<Vec<i64>>) -> [i64; WORDS] {
 /// The answer to a caller of its own limits: within them the same, else refusal 1, which comes before all others.
 pub fn limited<const WORDS: usize>(within: bool, answer: [i64; WORDS]) -> [i64; WORDS] {
     if within { answer } else { record(Err(Refusal::plain(1))) }
-}
-
-/// The answers with the strict switch off and on. With it there is refusal 25 where it is due, and else the same.
-#[derive(Clone, Copy)]
-pub struct Switched<const WORDS: usize> {
-    pub off: [i64; WORDS],
-    pub on: [i64; WORDS],
 }
 
 fn switched<T, const WORDS: usize>(reading: Reading<T>, values: impl FnOnce(T, u8) -> Vec<i64>) -> Switched<WORDS> {
@@ -57,7 +51,7 @@ pub fn date(template: &[u8], input: &[u8]) -> Switched<5> {
 }
 
 /// The value is the length of the text, which comes with it: empty where the answer is a refusal.
-pub fn written(template: &[u8], moment: &Moment, room: usize) -> ([i64; 5], String) {
+pub fn written(template: &[u8], moment: &Moment, room: usize) -> Written {
     let answer = attempt(template, Some(*moment), room);
     let text = answer.as_ref().cloned().unwrap_or_default();
     (record(answer.map(|text| vec![text.len() as i64])), text)

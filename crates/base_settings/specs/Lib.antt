@@ -4,5 +4,7 @@
 pub mod Limits
 -- the strict switch
 pub mod Strict
+-- the accents mode
+pub mod Accents
 -- settings as the bits of a number
 pub mod Bits

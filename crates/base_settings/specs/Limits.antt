@@ -17,11 +17,11 @@ cardLimits = limits 64 96
 
 -- settings with other limits
 abbrev pub withLimits : Limits → Settings → Settings
-withLimits l set = record { limits = l; strict = set .strict }
+withLimits l set = record { limits = l; strict = set .strict; accents = set .accents }
 
 -- the settings of the exercise pages, and of whoever names none; those of the flash cards
 abbrev pub pages : Settings
-pages = record { limits = pageLimits; strict = false }
+pages = record { limits = pageLimits; strict = false; accents = false }
 
 abbrev pub cards : Settings
 cards = withLimits cardLimits pages

@@ -6,7 +6,7 @@ use Rattle.base_settings.specs.declared.Settings.{Settings}
 
 -- settings with the switch on or off
 abbrev pub withStrict : Bool → Settings → Settings
-withStrict b set = record { limits = set .limits; strict = b }
+withStrict b set = record { limits = set .limits; strict = b; accents = set .accents }
 
 -- it is off for the exercise pages and the flash cards, unless they say otherwise; the limits stay
 pub worked

@@ -13,7 +13,7 @@ use Rattle.base_notation.proofs.Cases.{by-if}
 use Rattle.base_settings.specs.declared.Settings.{Settings}
 use Rattle.base_refusals.specs.Report.{noPattern}
 use Rattle.calendar_gregorian.specs.Civil.{daysFromCivil}
-use Rattle.template_nodes.specs.Template.{nodesOf}
+use Rattle.template_nodes.specs.Template.{nodesBy}
 use Rattle.template_nodes.specs.declared.Node.{Node}
 use Rattle.moment_time.specs.declared.Offset.{Offset}
 use Rattle.moment_time.specs.declared.Offset.the-variants.{Absent, East}
@@ -105,10 +105,10 @@ module _ (set : Settings) (t s : List ℕ) {why : Undated} where
   pub day-own : (ns : List Node) → dayBy (partsBy set ns t s) ≡ NoDay why → NoneOrIn ns (undatedReport why .pattern)
   day-own ns e = subst (DayNames (NoneOrIn ns)) e (answer-day ns (partsBy set ns t s) (named-own set ns t s))
 
-  pub timestamp-own : timestampOf set t s ≡ NoInstant why → NoneOrIn (nodesOf t) (undatedReport why .pattern)
+  pub timestamp-own : timestampOf set t s ≡ NoInstant why → NoneOrIn (nodesBy (set .accents) t) (undatedReport why .pattern)
   unfolding timestampOf
-  timestamp-own e = subst (InstantNames (NoneOrIn (nodesOf t))) e (answer-instant (nodesOf t) (partsOf set t s) (named-in-template set t s))
+  timestamp-own e = subst (InstantNames (NoneOrIn (nodesBy (set .accents) t))) e (answer-instant (nodesBy (set .accents) t) (partsOf set t s) (named-in-template set t s))
 
-  pub date-own : dateOf set t s ≡ NoDay why → NoneOrIn (nodesOf t) (undatedReport why .pattern)
+  pub date-own : dateOf set t s ≡ NoDay why → NoneOrIn (nodesBy (set .accents) t) (undatedReport why .pattern)
   unfolding dateOf
-  date-own e = subst (DayNames (NoneOrIn (nodesOf t))) e (answer-day (nodesOf t) (partsOf set t s) (named-in-template set t s))
+  date-own e = subst (DayNames (NoneOrIn (nodesBy (set .accents) t))) e (answer-day (nodesBy (set .accents) t) (partsOf set t s) (named-in-template set t s))

@@ -17,7 +17,7 @@ use Rattle.base_settings.specs.Limits.{templateLimit, inputLimit}
 use Rattle.base_settings.specs.declared.Settings.{Settings}
 use Rattle.base_refusals.specs.declared.Refusal.the-variants.{TooLong, NotUtf8}
 use Rattle.base_chars.specs.Utf8.{wellFormed}
-use Rattle.template_nodes.specs.Template.{nodesOf}
+use Rattle.template_nodes.specs.Template.{nodesBy}
 use Rattle.template_nodes.specs.declared.Node.{Node}
 use Rattle.moment_parts.specs.Parts.{answerBy, partsBy, partsOf, partsRead, refusedBy}
 
@@ -39,19 +39,19 @@ module _ (set : Settings) (t s : List ℕ) where
           rw (le-ltb (templateLimit set) (length t) short, le-ltb (inputLimit set) (length s) small) (split (wellFormed t) (wellFormed s) e)
         where
           split : (a b : Bool) → (a && b) ≡ false
-              → (if not a then refusedBy NotUtf8 else if not b then refusedBy NotUtf8 else answerBy (set .strict) (nodesOf t) t s) ≡ refusedBy NotUtf8
+              → (if not a then refusedBy NotUtf8 else if not b then refusedBy NotUtf8 else answerBy (set .strict) (nodesBy (set .accents) t) t s) ≡ refusedBy NotUtf8
           split false b e = refl
           split true false e = refl
           split true true e = absurd (false≢true (sym e))
 
-      pub read-by : (wellFormed t && wellFormed s) ≡ true → answerBy (set .strict) (nodesOf t) t s ≡ partsOf set t s
+      pub read-by : (wellFormed t && wellFormed s) ≡ true → answerBy (set .strict) (nodesBy (set .accents) t) t s ≡ partsOf set t s
       unfolding partsOf partsRead
       read-by e =
           let tests = both (wellFormed t) (wellFormed s) e in
           rw (le-ltb (templateLimit set) (length t) short, le-ltb (inputLimit set) (length s) small, tests .0, tests .1)
 
     -- a template in UTF-8, by its nodes
-    pub by-nodes : wellFormed t ≡ true → partsBy set (nodesOf t) t s ≡ partsOf set t s
+    pub by-nodes : wellFormed t ≡ true → partsBy set (nodesBy (set .accents) t) t s ≡ partsOf set t s
     unfolding partsOf partsBy
     by-nodes e = rw (le-ltb (templateLimit set) (length t) short, e)
 

@@ -20,7 +20,7 @@ use Rattle.read_fields.specs.declared.Verdict.the-variants.{Read, Refused as St
 use Rattle.read_fields.proofs.Own.{VerdictNames}
 use Rattle.read_input.specs.Reader.{readAll}
 use Rattle.read_input.proofs.Own.{Each, read-own}
-use Rattle.template_nodes.specs.Template.{nodesOf}
+use Rattle.template_nodes.specs.Template.{nodesBy}
 use Rattle.template_nodes.specs.declared.Node.{Node}
 use Rattle.moment_date.specs.Dates.{datedOf, dateInRange, noSuchDay}
 use Rattle.moment_date.specs.declared.Dated.{Dated}
@@ -103,9 +103,9 @@ pub named-own : (set : Settings) (ns : List Node) (t s : List ℕ) → NamesOwn 
 unfolding partsBy unreadReport reportOf
 named-own set ns t s = by-if (NamesOwn ns) (ltb (inputLimit set) (length s)) _ _ (λ e. none ns) (λ e. parts-own (set .strict) ns t s)
 
-pub named-in-template : (set : Settings) (t s : List ℕ) → NamesOwn (nodesOf t) (partsOf set t s)
+pub named-in-template : (set : Settings) (t s : List ℕ) → NamesOwn (nodesBy (set .accents) t) (partsOf set t s)
 unfolding partsOf unreadReport reportOf
 named-in-template set t s =
-    let ns = nodesOf t in
+    let ns = nodesBy (set .accents) t in
     by-if (NamesOwn ns) (ltb (templateLimit set) (length t) || ltb (inputLimit set) (length s)) _ _ (λ e. none ns)
     (λ e. by-if (NamesOwn ns) (not (wellFormed t)) _ _ (λ e. none ns) (λ e. parts-own (set .strict) ns t s))

@@ -32,7 +32,7 @@ use Rattle.read_fields.specs.declared.Fields.{Fields}
 use Rattle.read_fields.specs.declared.Reading.{Reading}
 use Rattle.read_fields.specs.declared.Verdict.{Verdict}
 use Rattle.read_fields.specs.declared.Verdict.the-variants.{Read, Refused as Stopped}
-use Rattle.template_nodes.specs.Template.{nodesOf}
+use Rattle.template_nodes.specs.Template.{nodesBy}
 use Rattle.template_nodes.specs.declared.Node.{Node}
 use Rattle.moment_date.specs.Dates.{yearBit, monthBit, dayBit, allBits, isSet, outside, partInRange, dayInMonth, dateInRange, datedOf, noSuchDay}
 use Rattle.moment_parts.specs.Parts.{withOffset, checkedMoment, thenMoment, thenMicros, thenDate, momentOf, thenFields, partsRead, partsBy, partsOf, refusedBy}
@@ -245,7 +245,7 @@ module _ (set : Settings) (t s : List ℕ) where
   answered =
       let P = Answered (set .strict) in
       by-if P (ltb (templateLimit set) (length t) || ltb (inputLimit set) (length s)) _ _ (λ e. refused (set .strict) TooLong)
-      (λ e. by-if P (not (wellFormed t)) _ _ (λ e. refused (set .strict) NotUtf8) (λ e. read-answered (set .strict) (nodesOf t) t s))
+      (λ e. by-if P (not (wellFormed t)) _ _ (λ e. refused (set .strict) NotUtf8) (λ e. read-answered (set .strict) (nodesBy (set .accents) t) t s))
 
   pub parts-in-range : {p : Parts} → partsOf set t s ≡ Moment p → InRange (set .strict) p
   parts-in-range e = subst (Answered (set .strict)) e answered

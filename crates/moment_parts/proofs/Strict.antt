@@ -20,7 +20,7 @@ use Rattle.read_fields.specs.declared.Fields.{Fields}
 use Rattle.read_fields.specs.declared.Verdict.{Verdict}
 use Rattle.read_fields.specs.declared.Verdict.the-variants.{Read, Refused as Stopped}
 use Rattle.read_input.specs.Reader.{readAll}
-use Rattle.template_nodes.specs.Template.{nodesOf}
+use Rattle.template_nodes.specs.Template.{nodesBy}
 use Rattle.template_nodes.specs.declared.Node.{Node}
 use Rattle.moment_date.specs.Dates.{datedOf, dateInRange, noSuchDay}
 use Rattle.moment_date.specs.declared.Dated.{Dated}
@@ -89,7 +89,7 @@ by-template : (set : Settings) (t s : List ℕ) → Strictly (partsOf (withStric
 unfolding partsOf limits-compute
 by-template set t s =
     same-test (ltb (templateLimit set) (length t) || ltb (inputLimit set) (length s)) _ _ _ _ (stays TooLong)
-    (same-test (not (wellFormed t)) _ _ _ _ (stays NotUtf8) (read (nodesOf t) t s))
+    (same-test (not (wellFormed t)) _ _ _ _ (stays NotUtf8) (read (nodesBy (set .accents) t) t s))
 
 pub strict-alone : StrictAlone
 strict-alone = record { parts-by = by-nodes; parts = by-template; longest = longest }

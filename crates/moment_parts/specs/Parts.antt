@@ -17,7 +17,7 @@ use Rattle.read_fields.specs.declared.Fields.{Fields}
 use Rattle.read_fields.specs.declared.Reading.{Reading}
 use Rattle.read_fields.specs.declared.Verdict.{Verdict}
 use Rattle.read_fields.specs.declared.Verdict.the-variants.{Read as Done, Refused as Stopped}
-use Rattle.template_nodes.specs.Template.{nodesOf}
+use Rattle.template_nodes.specs.Template.{nodesBy}
 use Rattle.template_nodes.specs.declared.Node.{Node}
 use Rattle.moment_date.specs.Dates.{datedOf, dateInRange, noSuchDay}
 use Rattle.moment_time.specs.Time.{clockHour, minuteOf, secondOf, microsOf, timeInRange, checkedOffset}
@@ -93,13 +93,13 @@ answerBy strict ns t s = let r = readAll t s ns in thenFields strict (r .verdict
 unfoldable pub partsRead : Bool → List Node → List ℕ → List ℕ → Answer
 partsRead strict ns t s = if not (wellFormed s) then refusedBy NotUtf8 else answerBy strict ns t s
 
--- the parts of an input by these nodes, for a caller with settings
+-- the parts of an input by these nodes, for a caller with settings; the nodes have their own mode
 unfoldable pub partsBy : Settings → List Node → List ℕ → List ℕ → Answer
 partsBy set ns t s = if ltb (inputLimit set) (length s) then refusedBy TooLong else partsRead (set .strict) ns t s
 
--- the parts of an input by a template
+-- the parts of an input by a template, which is compiled in the caller's mode
 unfoldable pub partsOf : Settings → List ℕ → List ℕ → Answer
 partsOf set t s =
     if ltb (templateLimit set) (length t) || ltb (inputLimit set) (length s) then refusedBy TooLong
     else if not (wellFormed t) then refusedBy NotUtf8
-    else partsRead (set .strict) (nodesOf t) t s
+    else partsRead (set .strict) (nodesBy (set .accents) t) t s

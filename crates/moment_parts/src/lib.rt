@@ -174,6 +174,6 @@ pub fn to_timestamp_parts(set: Settings, t: &[u8], s: &[u8]) -> Answer
         return Answer::Refused(Unread::By(Refusal::NotUtf8));
     }
     let mut nodes = [0u8; NODES];
-    let end = NODE * template_nodes::parse_format(t, &mut nodes);
+    let end = NODE * template_nodes::parse_format(set.accents, t, &mut nodes);
     parts_within(set.strict, &nodes[..end], t, s)
 }

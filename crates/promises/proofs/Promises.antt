@@ -15,7 +15,7 @@ use Rattle.moment_parts.specs.Patterns.{NamesOwn}
 use Rattle.moment_parts.specs.Ranges.{Answered}
 use Rattle.moment_instants.specs.ByTemplate.{timestampOf, dateOf}
 use Rattle.moment_instants.specs.Ranges.{InstantAnswered, DayAnswered}
-use Rattle.template_nodes.specs.Template.{nodesOf}
+use Rattle.template_nodes.specs.Template.{nodesBy}
 use Rattle.moment_instants.proofs.Ranges.{instant-answered, day-answered}
 use Rattle.moment_instants.proofs.Own.{instant-own, day-own, timestamp-own, date-own}
 use Rattle.write_pieces.proofs.Moments.{moment-plain, plain-moment}
@@ -27,8 +27,9 @@ use Rattle.write_text.specs.declared.Unwritten.{Unwritten}
 use Rattle.write_text.specs.declared.Written.{Written}
 use Rattle.write_text.specs.declared.Written.the-variants.{Refused}
 use Rattle.sorbilgan_records.proofs.Ranges.{parts-recorded, template-recorded, instant-recorded, day-recorded}
-use Rattle.readback.specs.ReadBack.{six-needed}
+use Rattle.readback.specs.ReadBack.{joined-needed, six-needed}
 use Rattle.readback.proofs.ReadBack.{every-back}
+use Rattle.sorbilgan.proofs.Accents.{accents-mode}
 use Rattle.sorbilgan.proofs.Callers.{cards-and-pages, within-both}
 use Rattle.sorbilgan.proofs.Once.{compile-once}
 use Rattle.moment_parts.proofs.to_timestamp_parts.Met as ToTimestampParts
@@ -58,6 +59,7 @@ use Rattle.sorbilgan.proofs.sorbilgan_date_by.Met as SorbilganDateBy
 use Rattle.sorbilgan.proofs.sorbilgan_compile.Met as SorbilganCompile
 use Rattle.sorbilgan.proofs.sorbilgan_write.Met as SorbilganWrite
 use Rattle.sorbilgan.proofs.sorbilgan_write_by.Met as SorbilganWriteBy
+use Rattle.sorbilgan.proofs.sorbilgan_has_lone_mark.Met as SorbilganHasLoneMark
 use Rattle.sorbilgan.proofs.sorbilgan_pattern.Met as SorbilganPattern
 use Rattle.sorbilgan.proofs.sorbilgan_version.Met as SorbilganVersion
 use Rattle.line_answers.proofs.answer.Met as AnswerLine
@@ -121,6 +123,7 @@ every-equation =
       sorbilgan-write = SorbilganWrite.met;
       sorbilgan-write-by = SorbilganWriteBy.met;
       sorbilgan-compile = SorbilganCompile.met;
+      sorbilgan-has-lone-mark = SorbilganHasLoneMark.met;
       sorbilgan-pattern = SorbilganPattern.met;
       sorbilgan-version = SorbilganVersion.met;
       answer = AnswerLine.met;
@@ -139,7 +142,7 @@ right-and-safe set t s r p i d =
       parts-safe = subst (Answered (set .strict)) (sym p) (answered set t s);
       instant-safe = subst (InstantAnswered (set .strict)) (sym i) (instant-answered (set .strict) (partsOf set t s) (answered set t s));
       day-safe = subst (DayAnswered (set .strict)) (sym d) (day-answered (set .strict) (partsOf set t s) (answered set t s));
-      names = subst (NamesOwn (nodesOf t)) (sym p) (named-in-template set t s);
+      names = subst (NamesOwn (nodesBy (set .accents) t)) (sym p) (named-in-template set t s);
     }
 
 pub every-moment : EveryMoment
@@ -158,6 +161,8 @@ every-request =
       cards-and-pages = cards-and-pages;
       six-needed = six-needed;
       strict-alone = strict-alone;
+      accents-mode = accents-mode;
+      joined-needed = joined-needed;
     }
 
 pub kept : Promises

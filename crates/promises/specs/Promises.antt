@@ -10,7 +10,7 @@ use lib.ListN.{length}
 use Rattle.base_settings.specs.declared.Settings.{Settings}
 use Rattle.read_words.specs.FoldOnce.{FoldOnce}
 use Rattle.template_nodes.specs.Cover.{Covered}
-use Rattle.template_nodes.specs.Template.{nodesOf}
+use Rattle.template_nodes.specs.Template.{nodesBy, nodesOf}
 use Rattle.template_nodes.specs.Bytes.{nodesIn}
 use Rattle.template_nodes.specs.declared.Node.{Node}
 use Rattle.moment_parts.specs.Parts.{partsBy, partsOf}
@@ -35,7 +35,8 @@ use Rattle.write_text.specs.Writer.{bufferAfter, textIn, writtenIn, writtenTo}
 use Rattle.write_text.specs.declared.Unwritten.{Unwritten}
 use Rattle.write_text.specs.declared.Written.the-variants.{Refused as NotWritten}
 use Rattle.sorbilgan_records.specs.Ranges.{PartsRecorded, InstantRecorded, DayRecorded}
-use Rattle.readback.specs.ReadBack.{EveryBack, SixNeeded}
+use Rattle.readback.specs.ReadBack.{EveryBack, JoinedNeeded, SixNeeded}
+use Rattle.sorbilgan.specs.Accents.{AccentsMode}
 use Rattle.sorbilgan.specs.Callers.{CardsAndPages, WithinBoth}
 use Rattle.sorbilgan.specs.Once.{CompileOnce}
 use Rattle.promises.specs.declared.Readings.{Readings}
@@ -66,6 +67,7 @@ use Rattle.sorbilgan.proofs.sorbilgan_date_by.Statement as SorbilganDateBy
 use Rattle.sorbilgan.proofs.sorbilgan_compile.Statement as SorbilganCompile
 use Rattle.sorbilgan.proofs.sorbilgan_write.Statement as SorbilganWrite
 use Rattle.sorbilgan.proofs.sorbilgan_write_by.Statement as SorbilganWriteBy
+use Rattle.sorbilgan.proofs.sorbilgan_has_lone_mark.Statement as SorbilganHasLoneMark
 use Rattle.sorbilgan.proofs.sorbilgan_pattern.Statement as SorbilganPattern
 use Rattle.sorbilgan.proofs.sorbilgan_version.Statement as SorbilganVersion
 use Rattle.line_answers.proofs.answer.Statement as AnswerLine
@@ -97,9 +99,11 @@ pub record EveryAnswer : Type 0 where
   pub text-names-by : (set : Settings) (c t : List ℕ) (m : Moment) (room : ℕ) {why : Unwritten} → writtenIn set c t m room ≡ NotWritten why
       → NoneOrIn (nodesIn c) (unwrittenReport why .pattern)
   -- the same by a template: one of the template's
-  pub names : (set : Settings) (t s : List ℕ) → NamesOwn (nodesOf t) (partsOf set t s)
-  pub instant-names : (set : Settings) (t s : List ℕ) {why : Undated} → timestampOf set t s ≡ NoInstant why → NoneOrIn (nodesOf t) (undatedReport why .pattern)
-  pub day-names : (set : Settings) (t s : List ℕ) {why : Undated} → dateOf set t s ≡ NoDay why → NoneOrIn (nodesOf t) (undatedReport why .pattern)
+  pub names : (set : Settings) (t s : List ℕ) → NamesOwn (nodesBy (set .accents) t) (partsOf set t s)
+  pub instant-names : (set : Settings) (t s : List ℕ) {why : Undated} → timestampOf set t s ≡ NoInstant why
+      → NoneOrIn (nodesBy (set .accents) t) (undatedReport why .pattern)
+  pub day-names : (set : Settings) (t s : List ℕ) {why : Undated} → dateOf set t s ≡ NoDay why
+      → NoneOrIn (nodesBy (set .accents) t) (undatedReport why .pattern)
   pub text-names : (set : Settings) (t : List ℕ) (m : Moment) (room : ℕ) {why : Unwritten} → writtenTo set t m room ≡ NotWritten why
       → NoneOrIn (nodesOf t) (unwrittenReport why .pattern)
   -- a refusal of the writer leaves the buffer as it was
@@ -143,6 +147,8 @@ pub record EveryEquation : Type 2 where
   pub sorbilgan-write : {M : Type 1} → SorbilganWrite.statement M
   pub sorbilgan-write-by : {M : Type 1} → SorbilganWriteBy.statement M
   pub sorbilgan-compile : {M : Type 1} → SorbilganCompile.statement M
+  -- whether a mark counts alone in a compiled template: hasLoneMark t (nodesIn c)
+  pub sorbilgan-has-lone-mark : {M : Type 1} → SorbilganHasLoneMark.statement M
   -- the name of a pattern, and the version
   pub sorbilgan-pattern : {M : Type 1} → SorbilganPattern.statement M
   pub sorbilgan-version : {M : Type 1} → SorbilganVersion.statement M
@@ -160,11 +166,12 @@ pub record RightAndSafe (set : Settings) (t s : List ℕ) (r : Readings) : Type 
   pub parts-safe : Answered (set .strict) (r .parts)
   pub instant-safe : InstantAnswered (set .strict) (r .instant)
   pub day-safe : DayAnswered (set .strict) (r .day)
-  pub names : NamesOwn (nodesOf t) (r .parts)
+  pub names : NamesOwn (nodesBy (set .accents) t) (r .parts)
 
 -- Demand 3: every full template writes every moment of the years 1 to 9999, two moments have the same text exactly
 -- where they are the same, and the text is read back as that moment in all answers, with all three marks; for every
--- caller whose limit of an input is at least six bytes above that of a template, strict or not
+-- caller whose limit of an input is at least six bytes above that of a template, strict or not; in the accents mode by
+-- every full template in which no mark counts alone
 pub record EveryMoment : Type 2 where
   pub back : EveryBack
   -- the same on the functions themselves
@@ -174,9 +181,10 @@ pub record EveryMoment : Type 2 where
   pub plain : (m : Moment) → PlainMoment m → isMoment m ≡ true
 
 -- Templates: each byte is in one node, but for quotes, backslashes, prefixes and suffixes; the bytes of a pattern's
--- node are its name. What is compiled once gives the answers of the template in every function, to every caller.
+-- node are its name; so it is in both modes of characters. What is compiled once gives the answers of the template in
+-- every function, to every caller.
 pub record EveryTemplate : Type 0 where
-  pub covered : (t : List ℕ) → Covered t
+  pub covered : (accents : Bool) (t : List ℕ) → Covered accents t
   pub once : CompileOnce
 
 -- Change requests (docs/changes): what each promises beyond the demands
@@ -195,6 +203,10 @@ pub record EveryRequest : Type 0 where
   -- CR 8: under the strict switch a day that its month never has is refused, and nothing else changes; what the marks
   -- say is in demand 1, and that reading back does not notice the switch in demand 3
   pub strict-alone : StrictAlone
+  -- CR 4: in the accents mode a letter has all marks right after it, any other mark counts alone, and compiled nodes
+  -- keep the mode; reading back is in demand 3, and a template in which a mark counts alone is not read back
+  pub accents-mode : AccentsMode
+  pub joined-needed : JoinedNeeded
 
 -- all of them
 pub record Promises : Type 2 where

@@ -85,7 +85,7 @@ module _ (s : List ℕ) where
   payable-literal n p pay =
       let b = byteAt s (p .at) in
       let left = place (p .at) (pred (p .extra)) false in
-      by-if (Payable s) (isExact p) (charPassed s p) _ (λ e. pay)
+      by-if (Payable s) (isExact p) (charPassed s n p) _ (λ e. pay)
       (λ e. by-if (Payable s) (eqb (n .kind) separator || eqb (n .kind) space) (blankPassed s p) _
       (λ k. by-if (Payable s) (ltb (p .at) (length s) && (isSpace b || isSeparator b)) (place (p .at + 1) (p .extra) false) left (λ t h. pay e) (λ t h. less (p .extra) (pay e)))
-      (λ k. by-if (Payable s) (ltb 0 (p .extra)) left (charPassed s p) (λ t h. less (p .extra) (pay e)) (λ t. pay)))
+      (λ k. by-if (Payable s) (ltb 0 (p .extra)) left (charPassed s n p) (λ t h. less (p .extra) (pay e)) (λ t. pay)))

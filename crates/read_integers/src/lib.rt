@@ -142,12 +142,16 @@ pub fn from_char_set_int(old: i32, new: i32) -> bool
     old != new
 }
 
-// Past two characters, if the pattern has an ordinal suffix.
-pub fn skip_th(s: &[u8], at: usize, suffix: u8) -> usize
-    ensures { λ r. ⌜ Skipped (now (s .entry)) at suffix r ⌝ }
+// Past two characters, if the pattern has an ordinal suffix. `accents` is the mode that measures them.
+pub fn skip_th(s: &[u8], at: usize, accents: bool, suffix: u8) -> usize
+    ensures { λ r. ⌜ Skipped (now (s .entry)) at accents suffix r ⌝ }
 {
     if suffix & ORDINAL == 0 {
         return at;
+    }
+    if accents {
+        let one = at + base_accents::whole(s, at);
+        return one + base_accents::whole(s, one);
     }
     let one = at + base_chars::pg_mblen(s, at);
     one + base_chars::pg_mblen(s, one)

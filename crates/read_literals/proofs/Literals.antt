@@ -62,7 +62,7 @@ entered-within s p skip h =
 
 -- the cases of a literal
 module _ (s : List ℕ) (n : Node) (p : Place) where
-  pub with-exact : isExact p ≡ true → charPassed s p ≡ literalPassed s n p
+  pub with-exact : isExact p ≡ true → charPassed s n p ≡ literalPassed s n p
   unfolding literalPassed
   with-exact e = rw e
 
@@ -75,7 +75,7 @@ module _ (s : List ℕ) (n : Node) (p : Place) where
   as-space e k = rw (e, k)
 
   module _ (e : isExact p ≡ false) (no3 : n .kind ≡ 3 → ⊥) (no4 : n .kind ≡ 4 → ⊥) where
-    pub as-char : p .extra ≡ 0 → charPassed s p ≡ literalPassed s n p
+    pub as-char : p .extra ≡ 0 → charPassed s n p ≡ literalPassed s n p
     unfolding literalPassed
     as-char z = rw (e, ne-eqb _ _ no3, ne-eqb _ _ no4, z)
 
@@ -84,9 +84,9 @@ module _ (s : List ℕ) (n : Node) (p : Place) where
     paid k z = rw (e, ne-eqb _ _ no3, ne-eqb _ _ no4, z, lt-ltb 0 (suc k) (omega arith))
 
 -- a plain character after the first node, for which no skipped space can pay: with FX and without it one of the input
-pub plain-char : (s : List ℕ) (n : Node) (p : Place) → n .kind ≡ 2 → p .extra ≡ 0 → charPassed s p ≡ literalPassed s n (enteredBy s false p)
+pub plain-char : (s : List ℕ) (n : Node) (p : Place) → n .kind ≡ 2 → p .extra ≡ 0 → charPassed s n p ≡ literalPassed s n (enteredBy s false p)
 plain-char s n p k z = split (isExact p) refl
   where
-    split : (b : Bool) → isExact p ≡ b → charPassed s p ≡ literalPassed s n (enteredBy s false p)
+    split : (b : Bool) → isExact p ≡ b → charPassed s n p ≡ literalPassed s n (enteredBy s false p)
     split true e = rw e (with-exact s n p e)
     split false e = rw e (as-char s n p e (λ h. omega (arith, k, h)) (λ h. omega (arith, k, h)) z)

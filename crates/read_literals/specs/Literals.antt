@@ -7,7 +7,7 @@ use lib.Dec.{eqb, ltb}
 use lib.ListN.{length, drop}
 use Rattle.base_notation.specs.Choice.{if_then_else_}
 use Rattle.base_notation.specs.Text.{byteAt}
-use Rattle.base_chars.specs.Character.{charLength}
+use Rattle.base_accents.specs.Accents.{measureOf}
 use Rattle.base_chars.specs.Class.{isSpace, isSeparator}
 use Rattle.base_strtol.specs.Runs.{spaces}
 use Rattle.template_nodes.specs.Template.{separator, space}
@@ -31,9 +31,9 @@ pastField s p = if isExact p then p else skipped s (place (p .at) 0 false)
 abbrev pub Payable : List ℕ → Place → Type 0
 Payable s p = isExact p ≡ false → p .extra ≤ length s
 
--- one character
-abbrev pub charPassed : List ℕ → Place → Place
-charPassed s p = atPlace p (p .at + charLength s (p .at))
+-- one character, as the literal's mode measures it
+abbrev pub charPassed : List ℕ → Node → Place → Place
+charPassed s n p = atPlace p (p .at + measureOf (n .accents) s (p .at))
 
 -- a space or separator takes one of the input, or a skipped space
 abbrev pub blankPassed : List ℕ → Place → Place
@@ -46,10 +46,10 @@ blankPassed s p =
 -- character
 unfoldable pub literalPassed : List ℕ → Node → Place → Place
 literalPassed s n p =
-    if isExact p then charPassed s p
+    if isExact p then charPassed s n p
     else if eqb (n .kind) separator || eqb (n .kind) space then blankPassed s p
     else if ltb 0 (p .extra) then place (p .at) (pred (p .extra)) false
-    else charPassed s p
+    else charPassed s n p
 
 -- before a node: past the spaces where they may be skipped, unless FX was read
 abbrev pub enteredBy : List ℕ → Bool → Place → Place

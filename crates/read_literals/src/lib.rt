@@ -49,14 +49,14 @@ fn blank_passed(s: &[u8], p: Place) -> Place
     }
 }
 
-// One character of the input.
-fn char_passed(s: &[u8], p: Place) -> Place
+// One character of the input, as the literal's mode measures it.
+fn char_passed(s: &[u8], n: Node, p: Place) -> Place
     requires { ⌜ p .at ≤ length (now s) ⌝ }
-    ensures { λ r. ⌜ r ≡ charPassed (now (s .entry)) p ⌝ }
+    ensures { λ r. ⌜ r ≡ charPassed (now (s .entry)) n p ⌝ }
 {
     let at = p.at;
     Place {
-        at: at + base_chars::pg_mblen(s, at),
+        at: at + base_accents::measure(s, at, n.accents),
         ..p
     }
 }
@@ -66,7 +66,7 @@ pub fn literal_passed(s: &[u8], n: Node, p: Place) -> Place
     ensures { λ r. ⌜ r ≡ literalPassed (now (s .entry)) n p ⌝ }
 {
     if p.fx != 0 {
-        return char_passed(s, p);
+        return char_passed(s, n, p);
     }
     if n.kind == template_nodes::FN_SEPARATOR {
         return blank_passed(s, p);
@@ -76,7 +76,7 @@ pub fn literal_passed(s: &[u8], n: Node, p: Place) -> Place
     }
     let extra = p.extra;
     if extra == 0 {
-        return char_passed(s, p);
+        return char_passed(s, n, p);
     }
     Place {
         extra: extra - 1,
@@ -124,7 +124,7 @@ pub fn literal_read(s: &[u8], n: Node, first: bool, p: Place) -> Place
     if !first {
         if n.kind == template_nodes::FN_CHAR {
             if p.extra == 0 {
-                return char_passed(s, p);
+                return char_passed(s, n, p);
             }
         }
     }

@@ -59,7 +59,7 @@ storedNumber s n task (Refused why) f p = refuse why f p
 storedNumber s n task (Read z next) f p =
     if conflicts (get f (task .field)) z then refuse (Conflict (n .pattern)) f p
     else read (noted (task .rule) (task .operand) (put f (task .field) (kept (task .rule) z (next - p .at))))
-    (atPlace p (pastOrdinal s next (n .suffix)))
+    (atPlace p (pastOrdinal s next (n .accents) (n .suffix)))
 
 -- the number at a place: with a comma, or of a width
 abbrev pub numberOf : List ℕ → Node → Bool → Task → ℕ → Number
@@ -71,7 +71,7 @@ readNumber s n free task f p = storedNumber s n task (numberOf s n free task (p 
 -- a number that is read and dropped
 unfoldable pub droppedNumber : List ℕ → Node → Number → Fields → Place → Reading
 droppedNumber s n (Refused why) f p = refuse why f p
-droppedNumber s n (Read z next) f p = read f (atPlace p (pastOrdinal s next (n .suffix)))
+droppedNumber s n (Read z next) f p = read f (atPlace p (pastOrdinal s next (n .accents) (n .suffix)))
 
 abbrev pub readDropped : List ℕ → Node → Bool → Task → Fields → Place → Reading
 readDropped s n free task f p = droppedNumber s n (numberAt s (p .at) (task .operand) (n .pattern) free) f p

@@ -120,7 +120,7 @@ fn stored_number(
             }
             state::put(f, task.field, kept(task.rule, value, next - p.at));
             noted(task.rule, task.operand, f);
-            state::read(state::at_place(p, read_integers::skip_th(s, next, n.suffix)))
+            state::read(state::at_place(p, read_integers::skip_th(s, next, n.accents, n.suffix)))
         }
     }
 }
@@ -159,7 +159,7 @@ pub fn read_dropped(s: &[u8], n: Node, free: bool, task: Task, p: Place) -> Outc
     match read_integers::parse_int_len(s, p.at, task.operand, n.pattern, free) {
         Number::Refused(why) => state::refuse(why, p),
         Number::Read { value: _, next } => {
-            state::read(state::at_place(p, read_integers::skip_th(s, next, n.suffix)))
+            state::read(state::at_place(p, read_integers::skip_th(s, next, n.accents, n.suffix)))
         }
     }
 }

@@ -29,8 +29,8 @@ module _ (set : Settings) (t : List ℕ) (m : Moment) {before after : List ℕ} 
   promised r answer buffer = record {
     is = answer;
     buffer = buffer;
-    back = λ apart full is enough.
-        let back = every-back set apart t m full is in
+    back = λ apart full joined is enough.
+        let back = every-back set apart t m full joined is in
         let written = back .written before enough in
         (answer ∙ rw (written .0, back .read .parts, back .read .instant, back .read .day), buffer ∙ written .1, back);
   }

@@ -25,6 +25,8 @@ pub mod Texts
 pub mod Sound
 -- inputs that spell the nodes of a template
 pub mod Spells
+-- no mark follows a node in the text, if no mark of the template counts alone
+pub mod Clear
 -- a literal is read, and the reader stays ahead by what it may
 pub mod Literals
 -- a pattern is read at what spells its piece, and sets what the piece sets

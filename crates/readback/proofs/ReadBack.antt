@@ -35,7 +35,7 @@ use Rattle.write_text.specs.Writer.{writtenTo}
 use Rattle.write_pieces.specs.declared.Moment.{Moment}
 use Rattle.write_text.specs.declared.Written.the-variants.{Length}
 use Rattle.write_pieces.proofs.Moments.{Numbers, numbers}
-use Rattle.readback.specs.ReadBack.{ReadAs, ReadsBack, EveryBack}
+use Rattle.readback.specs.ReadBack.{EveryBack, MarksJoined, ReadAs, ReadsBack}
 use Rattle.readback.proofs.FieldSettings.{ownOf, filledBy, expected}
 use Rattle.readback.proofs.Groups.{EachFull}
 use Rattle.readback.proofs.ReadText.{full-is, text-is-utf8, text-longer, text-is-read, fields-read}
@@ -100,7 +100,7 @@ each-read strict is = (
   ),
 )
 
-module _ (set : Settings) (apart : ReadsBack set) (t : List ℕ) (full : isFull set t ≡ true) where
+module _ (set : Settings) (apart : ReadsBack set) (t : List ℕ) (full : isFull set t ≡ true) (joined : MarksJoined set t) where
   -- a text that is at most six bytes longer than the template is within the limit of an input
   within : {n : ℕ} → n ≤ length t + 6 → n ≤ inputLimit set
   within h = omega (arith, full-is set t full .short)
@@ -115,12 +115,12 @@ module _ (set : Settings) (apart : ReadsBack set) (t : List ℕ) (full : isFull 
     text-parts =
         rw (
           le-ltb (templateLimit set) (length t) (full-is set t full .short),
-          le-ltb (inputLimit set) (length (textOf t now)) (within (text-longer set t full is)),
+          le-ltb (inputLimit set) (length (textOf t now)) (within (text-longer set t full joined is)),
           full-is set t full .text,
-          text-is-utf8 set t full is,
-          text-is-read set t full is .verdict,
+          text-is-utf8 set t full joined is,
+          text-is-read set t full joined is .verdict,
         )
-        (fields-read set t full is (λ f. momentOf (set .strict) f ≡ Accepted (plainParts y mo d h mi s us)) (each-read (set .strict) is))
+        (fields-read set t full joined is (λ f. momentOf (set .strict) f ≡ Accepted (plainParts y mo d h mi s us)) (each-read (set .strict) is))
 
     -- and so do the other two answers
     text-read : ReadAs set t (textOf t now) now
@@ -140,7 +140,7 @@ module _ (set : Settings) (apart : ReadsBack set) (t : List ℕ) (full : isFull 
     read-back = rw (plain m n) (text-read (is-moment n))
 
     longer : length (textOf t m) ≤ length t + 6
-    longer = rw (plain m n) (text-longer set t full (is-moment n))
+    longer = rw (plain m n) (text-longer set t full joined (is-moment n))
 
     -- a buffer of that length is enough
     all-written : (room : ℕ) → length (textOf t m) ≤ room → writtenTo set t m room ≡ Length (length (textOf t m))
@@ -169,15 +169,15 @@ momentIn (Refused why) other = other
 
 -- reading back: two moments with the same text are the same, since each is what the text is read as
 pub every-back : EveryBack
-every-back set apart t m full is = record {
-  written = λ before h. rw (all-written set apart t full m is (length before) h) (refl, refl);
-  longer = longer set apart t full m is;
-  within = within set apart t full (longer set apart t full m is);
+every-back set apart t m full joined is = record {
+  written = λ before h. rw (all-written set apart t full joined m is (length before) h) (refl, refl);
+  longer = longer set apart t full joined m is;
+  within = within set apart t full joined (longer set apart t full joined m is);
   same = λ n other. (
     λ same-text.
         ap (λ a. momentIn a m)
-        (sym (read-back set apart t full m is .parts) ∙ ap (partsOf set t) same-text ∙ read-back set apart t full n other .parts),
+        (sym (read-back set apart t full joined m is .parts) ∙ ap (partsOf set t) same-text ∙ read-back set apart t full joined n other .parts),
     λ same-moment. ap (textOf t) same-moment,
   );
-  read = read-back set apart t full m is;
+  read = read-back set apart t full joined m is;
 }

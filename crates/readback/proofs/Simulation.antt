@@ -12,6 +12,7 @@ use borrow.Author.Tests.{lt-ltb, le-ltb, ltb-false, ltb-true}
 use lib.Dec.{eqb, ltb}
 use lib.ListN.{length, drop}
 use lib.Seq.{drop-drop}
+use Rattle.base_accents.specs.Accents.{markAt}
 use Rattle.read_fields.specs.Fields.{read}
 use Rattle.read_literals.specs.Literals.{place, literalPassed}
 use Rattle.read_input.specs.Reader.{entered, nodeRead, headOf, readFrom}
@@ -101,12 +102,12 @@ module _ (t s : List ℕ) {y mo d h mi sec us : ℕ} (is : IsMoment y mo d h mi 
   module _ (n : Node) (ns : List Node) (rest : Simulates ns false) (x u : List ℕ) (a : AllSpelled t now ns u) (first : Bool) (at e : ℕ) (done : List ℕ)
       (left : Left s at (x ++ u)) (k : Ahead e (x ++ u)) (fits : Fits done (pieces (n ∷ ns))) (more : at + e < length s) where
     -- a literal is read, and the others after it
-    of-literal : Literal t n → Alike t n x → Finishes (n ∷ ns) first at e done
-    of-literal l c =
+    of-literal : Literal t n → Alike t n x → (n .accents ≡ true → markAt u 0 ≡ false) → Finishes (n ∷ ns) first at e done
+    of-literal l c clear =
         let f = expected done now in
         let here : Left s at (c .b ∷ c .others ++ u) = rw (c .is) at left in
         let before = literal-entered t s n first at e (c .b ∷ c .others ++ u) (l .no-action) here (rw (c .is) at k) in
-        let past = literal-step s t n l c u at here (before .skip) (before .ahead) in
+        let past = literal-step s t n l c u clear at here (before .skip) (before .ahead) in
         let left-on : Left s (at + n .len) u = rw (c .size) (left-past (c .b ∷ c .others) u here) in
         rw (step t s n ns first f (place (at + e) e false) f (place (at + n .len + past .next) (past .next) false) more
         (rw (literal-read t s n (headOf ns) first f (place (at + e) e false) (l .no-action), before .is, past .is)))
@@ -146,6 +147,6 @@ module _ (t s : List ℕ) {y mo d h mi sec us : ℕ} (is : IsMoment y mo d h mi 
       by : Spells t now n (a .part) → (w : Bool) → ltb (at + e) (length s) ≡ w → Simulates ns false → Finishes (n ∷ ns) first at e done
       by y false w rest = ended (n ∷ ns) first u at e done a left k fits (ltb-false _ _ w)
       by (as-literal l c) true w rest =
-          of-literal n ns rest (a .part) (a .rest) (a .others) first at e done (rw (a .is) at left) (rw (a .is) at k) fits (ltb-true _ _ w) l c
+          of-literal n ns rest (a .part) (a .rest) (a .others .0) first at e done (rw (a .is) at left) (rw (a .is) at k) fits (ltb-true _ _ w) l c (a .others .1)
       by (as-pattern p y) true w rest =
-          of-pattern n ns rest (a .part) (a .rest) (a .others) first at e done (rw (a .is) at left) (rw (a .is) at k) fits (ltb-true _ _ w) p y
+          of-pattern n ns rest (a .part) (a .rest) (a .others .0) first at e done (rw (a .is) at left) (rw (a .is) at k) fits (ltb-true _ _ w) p y

@@ -1,7 +1,7 @@
 -- Inputs that spell the nodes of a template at a moment. Assumes nothing.
 -- `Spells`: a part of the input spells a node: it is one character, as long as the literal and of its class, or it
 -- spells the pattern's piece. `AllSpelled`: what is left of the input is a part for each node that is left (`Parted`).
--- `text-spelled`: so is the text that the writer writes.
+-- `text-spelled`: so is the text that the writer writes, if no mark of the accents mode follows a node (`AllClear`).
 -- `spelled-utf8`: what spells nodes is UTF-8. `spelled-length`: it is longer than they are in the template by at most 4
 -- bytes for each US and 2 for each full name of a month (`extra`).
 -- `stops`: after a number that is read with all its digits, no digit follows.
@@ -15,10 +15,10 @@ use borrow.Author.Tests.{eqb-true, ltb-false, not-true}
 use lib.Dec.{eqb, ltb}
 use lib.ListN.{length, length-append}
 use Rattle.base_notation.specs.Choice.{if_then_else_}
-use Rattle.base_chars.specs.Class.{isDigit}
+use Rattle.base_accents.specs.Accents.{markAt}
+use Rattle.base_chars.specs.Class.{classOf, digit, isDigit}
 use Rattle.base_chars.specs.Utf8.{wellFormed}
-use Rattle.base_chars.proofs.Characters.{lead-one}
-use Rattle.base_chars.proofs.Classes.{digit-bounds}
+use Rattle.base_chars.proofs.Classes.{digit-bounds, the-class}
 use Rattle.base_chars.proofs.WellFormed.{empty-text, append-text}
 use Rattle.base_strtol.specs.Runs.{leading, digits}
 use Rattle.read_input.specs.Reader.{headOf}
@@ -34,7 +34,7 @@ use Rattle.write_pieces.specs.declared.Moment.{Moment}
 use Rattle.readback.proofs.Ahead.{Ahead, ink-ahead, ink-some, ahead-all}
 use Rattle.readback.proofs.Known.{excess}
 use Rattle.readback.proofs.MomentFacts.{IsMoment}
-use Rattle.readback.proofs.Nodes.{Alike, Literal, lengths}
+use Rattle.readback.proofs.Nodes.{Alike, Literal, lengths, one-byte}
 use Rattle.readback.proofs.Sound.{Pattern, Sound, a-literal, a-pattern, AllSound, pieces-literal, pieces-pattern, literal-text, pattern-text}
 use Rattle.readback.proofs.Texts.{SpellsPiece, piece-spelled, spelled-written, spelled-size, spelled-stops}
 
@@ -51,9 +51,10 @@ pub record Parted (P Q : List ℕ → Type 0) (u : List ℕ) : Type 0 where
   pub first : P part
   pub others : Q rest
 
+-- each node has its part; after a node of the accents mode no mark follows
 abbrev pub AllSpelled : List ℕ → Moment → List Node → List ℕ → Type 0
 AllSpelled t m [] u = u ≡ []
-AllSpelled t m (n ∷ ns) u = Parted (Spells t m n) (AllSpelled t m ns) u
+AllSpelled t m (n ∷ ns) u = Parted (Spells t m n) (λ (rest : List ℕ). AllSpelled t m ns rest × (n .accents ≡ true → markAt rest 0 ≡ false)) u
 
 -- the bytes by which a text may be longer than its template
 abbrev pub extra : List ℕ → ℕ
@@ -65,15 +66,20 @@ module _ (t : List ℕ) (m : Moment) where
   node-spelled n (a-pattern k) =
       rw (pattern-text t m n k) (as-pattern k (piece-spelled m (caseOf (n .pattern)) (pieceOf (n .pattern)) (omega (arith, k .reads .piece))))
 
-  pub text-spelled : (ns : List Node) → AllSound t ns → AllSpelled t m ns (nodesText t m ns)
+  -- the text after each node of the accents mode begins with no mark
+  abbrev pub AllClear : List Node → Type 0
+  AllClear [] = Unit {0}
+  AllClear (n ∷ ns) = (n .accents ≡ true → markAt (nodesText t m ns) 0 ≡ false) × AllClear ns
+
+  pub text-spelled : (ns : List Node) → AllSound t ns → AllClear ns → AllSpelled t m ns (nodesText t m ns)
   unfolding nodesText
-  text-spelled [] a = refl
-  text-spelled (n ∷ ns) a = record {
+  text-spelled [] a c = refl
+  text-spelled (n ∷ ns) a c = record {
     part = nodeText t m n;
     rest = nodesText t m ns;
     is = refl;
     first = node-spelled n (a .0);
-    others = text-spelled ns (a .1);
+    others = (text-spelled ns (a .1) (c .1), c .0);
   }
 
 module _ (t : List ℕ) {y mo d h mi sec us : ℕ} (is : IsMoment y mo d h mi sec us) where
@@ -87,7 +93,7 @@ module _ (t : List ℕ) {y mo d h mi sec us : ℕ} (is : IsMoment y mo d h mi se
   pub spelled-utf8 : (ns : List Node) (u : List ℕ) → AllSpelled t now ns u → wellFormed u ≡ true
   spelled-utf8 [] u e = rw e empty-text
   spelled-utf8 (n ∷ ns) u a =
-      rw (a .is) (append-text (a .part) (a .rest) (node-utf8 n (a .part) (a .first)) ∙ spelled-utf8 ns (a .rest) (a .others))
+      rw (a .is) (append-text (a .part) (a .rest) (node-utf8 n (a .part) (a .first)) ∙ spelled-utf8 ns (a .rest) (a .others .0))
 
   -- US and the full name of a month alone may be longer than in the template
   excesses : (p : ℕ) (ps : List ℕ) → excess p + extra ps ≡ extra (p ∷ ps)
@@ -104,7 +110,7 @@ module _ (t : List ℕ) {y mo d h mi sec us : ℕ} (is : IsMoment y mo d h mi se
 
   pub spelled-length : (ns : List Node) (u : List ℕ) → AllSpelled t now ns u → length u ≤ lengths ns + extra (pieces ns)
   spelled-length [] u e = rw e (omega arith)
-  spelled-length (n ∷ ns) u a = rw (a .is, length-append (a .part) (a .rest)) (by (a .first) (spelled-length ns (a .rest) (a .others)))
+  spelled-length (n ∷ ns) u a = rw (a .is, length-append (a .part) (a .rest)) (by (a .first) (spelled-length ns (a .rest) (a .others .0)))
     where
       by : Spells t now n (a .part) → length (a .rest) ≤ lengths ns + extra (pieces ns)
           → length (a .part) + length (a .rest) ≤ n .len + affixLength (n .suffix) + lengths ns + extra (pieces (n ∷ ns))
@@ -123,7 +129,7 @@ module _ (t : List ℕ) {y mo d h mi sec us : ℕ} (is : IsMoment y mo d h mi se
       no-digit l c =
           (elim (isDigit (c .b)) as (λ d. isDigit (c .b) ≡ d → isDigit (c .b) ≡ false) [
             | true ↦ λ d.
-                let one : x .len ≡ 1 = sym (c .long) ∙ lead-one (c .b) (omega (arith, digit-bounds (c .b) d)) in
+                let one : x .len ≡ 1 = one-byte c (omega (arith, digit-bounds (c .b) d)) (rw (the-class (classOf (c .b)) digit d)) in
                 absurd (false≢true (rw (z, l .no-end, l .no-action, one, ← c .class, d) at e))
             | false ↦ λ d. d
           ]) refl
@@ -137,7 +143,7 @@ module _ (t : List ℕ) {y mo d h mi sec us : ℕ} (is : IsMoment y mo d h mi se
   pub blank-left : (ns : List Node) (u : List ℕ) → AllSpelled t now ns u → Ahead (length u) u → pieces ns ≡ []
   unfolding pieces
   blank-left [] u a k = refl
-  blank-left (n ∷ ns) u a k = by (a .first) (blank-left ns (a .rest) (a .others) (ahead-all (a .part) (a .rest) ahead))
+  blank-left (n ∷ ns) u a k = by (a .first) (blank-left ns (a .rest) (a .others .0) (ahead-all (a .part) (a .rest) ahead))
     where
       ahead : Ahead (length (a .part ++ a .rest)) (a .part ++ a .rest)
       ahead = rw (a .is) at k

@@ -16,7 +16,7 @@ use lib.Dec.{ltb}
 use lib.IntN.{natAbs}
 use lib.ListN.{length, getD, replicate, List·getD-map}
 use Rattle.base_notation.specs.Choice.{if_then_else_}
-use Rattle.base_notation.specs.Text.{utf8}
+use Rattle.base_notation.specs.Text.{byteAt, utf8}
 use Rattle.base_notation.proofs.Table.{entry}
 use Rattle.base_chars.specs.Class.{digit, classOf}
 use Rattle.base_chars.specs.Fold.{folded}
@@ -60,6 +60,10 @@ digits-inked : (u : List ℕ) → 0 < length u → AllDigits u → inked u ≡ t
 digits-inked [] z h = absurd (omega arith)
 digits-inked (b ∷ u) z h = rw (the-class (classOf b) digit (h .0))
 
+digits-ascii : (u v : List ℕ) → 0 < length u → AllDigits u → byteAt (u ++ v) 0 ≤ 127
+digits-ascii [] v z h = absurd (omega arith)
+digits-ascii (b ∷ u) v z h = omega (arith, digit-bounds b (h .0))
+
 pub width-some : (p : ℕ) → 1 ≤ p → p ≤ 13 → 0 < widthOf p
 width-some = each (λ p. 0 < widthOf p) 1 12 (omega arith)
 
@@ -68,6 +72,7 @@ number-written w n some =
     record {
       text = digits-text (decimal w n) (decimal-digits w n);
       ink = digits-inked (decimal w n) (omega (arith, decimal-length w n)) (decimal-digits w n);
+      ascii = λ v. digits-ascii (decimal w n) v (omega (arith, decimal-length w n)) (decimal-digits w n);
     }
 
 -- a marker and a name of a month, once they are folded

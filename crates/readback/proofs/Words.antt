@@ -40,6 +40,7 @@ use Rattle.readback.proofs.Ahead.{inked}
 pub record Written (u : List ℕ) : Type 0 where
   pub text : wellFormed u ≡ true
   pub ink : inked u ≡ true
+  pub ascii : (v : List ℕ) → byteAt (u ++ v) 0 ≤ 127
 
 pub ascii-first : (b : ℕ) (u : List ℕ) → b ≤ 127 → wellFormed u ≡ true → wellFormed (b ∷ u) ≡ true
 ascii-first b u h e = sym (ascii-run 1 (b ∷ u) (rw (inside (0 ‥ 127) b (omega arith) h))) ∙ e
@@ -133,6 +134,10 @@ letter-inked : (u : List ℕ) → lettered (map folded u) ≡ true → inked u �
 letter-inked [] e = absurd (false≢true e)
 letter-inked (b ∷ u) e = rw (first-letter b e)
 
+letter-ascii : (u v : List ℕ) → lettered (map folded u) ≡ true → allAscii (map folded u) ≡ true → byteAt (u ++ v) 0 ≤ 127
+letter-ascii [] v e a = absurd (false≢true e)
+letter-ascii (b ∷ u) v e a = omega (arith, fold-up b, leb-true (folded b) 127 (both (leb (folded b) 127) _ a .0))
+
 letter-stops : (u v : List ℕ) → lettered (map folded u) ≡ true → digits (u ++ v) ≡ 0
 unfolding leading
 letter-stops [] v e = absurd (false≢true e)
@@ -141,7 +146,11 @@ letter-stops (b ∷ u) v e = rw (first-letter b e)
 -- u has the folded bytes of the word k of a list
 module _ {list : WordList} {k : ℕ} (ok : Fit list k) (u : List ℕ) (same : map folded u ≡ wordOf list k) where
   pub word-written : Written u
-  word-written = record { text = ascii-text u (rw same (ok .ascii)); ink = letter-inked u (rw same (ok .begins)) }
+  word-written = record {
+    text = ascii-text u (rw same (ok .ascii));
+    ink = letter-inked u (rw same (ok .begins));
+    ascii = λ v. letter-ascii u v (rw same (ok .begins)) (rw same (ok .ascii));
+  }
 
   pub word-stops : (v : List ℕ) → digits (u ++ v) ≡ 0
   word-stops v = letter-stops u v (rw same (ok .begins))

@@ -1,17 +1,19 @@
 -- Reading back: what it is for a text to be read as a moment, and what is promised of every full template and moment.
 use mathlib.Core.Path.{_≡_, refl}
-use mathlib.Core.Bool.{true}
+use mathlib.Core.Bool.{true, false}
 use mathlib.Core.List.{List, _++_}
 use Prim.Native.Nat.{ℕ, _+_, _≤_}
 use lib.IntN.{ℤ, pos, natAbs}
 use lib.ListN.{length, drop}
+use Rattle.base_settings.specs.Accents.{withAccents}
 use Rattle.base_settings.specs.Limits.{inputLimit, limits, limits-compute, pages, templateLimit, withLimits}
 use Rattle.base_settings.specs.declared.Settings.{Settings}
-use Rattle.base_notation.specs.Text.{utf8}
+use Rattle.base_notation.specs.Text.{encoded, utf8}
 use Rattle.base_chars.specs.Utf8.{sequence, wellFormedAfter}
 use Rattle.base_refusals.specs.declared.Refusal.the-variants.{TooLong}
 use Rattle.base_strtol.specs.Decimal.{decimal}
 use Rattle.template_nodes.specs.Examples.{nodes-compute}
+use Rattle.template_nodes.specs.Joined.{hasLoneMark, noneAlone}
 use Rattle.template_patterns.specs.Cases.{caseOf}
 use Rattle.moment_date.specs.Dates.{allBits, date-computes}
 use Rattle.moment_time.specs.Time.{time-computes}
@@ -83,9 +85,13 @@ pub record Back (set : Settings) (t : List ℕ) (m : Moment) : Type 0 where
 abbrev pub ReadsBack : Settings → Type 0
 ReadsBack set = templateLimit set + 6 ≤ inputLimit set
 
--- reading back, for every such caller, every full template and every moment
+-- a template whose texts can be read back: in the accents mode no mark of it counts alone
+abbrev pub MarksJoined : Settings → List ℕ → Type 0
+MarksJoined set t = set .accents ≡ true → noneAlone t ≡ true
+
+-- reading back, for every such caller, every such full template and every moment
 abbrev pub EveryBack : Type 0
-EveryBack = (set : Settings) → ReadsBack set → (t : List ℕ) (m : Moment) → isFull set t ≡ true → isMoment m ≡ true → Back set t m
+EveryBack = (set : Settings) → ReadsBack set → (t : List ℕ) (m : Moment) → isFull set t ≡ true → MarksJoined set t → isMoment m ≡ true → Back set t m
 
 -- what writing and reading back answers: the three answers to the text, or why nothing was written
 abbrev pub readAgain : Settings → List ℕ → List ℕ → Written → Again
@@ -96,12 +102,12 @@ readAgain set t text (Refused why) = NotWritten why
 unfoldable pub againOf : Settings → List ℕ → Moment → ℕ → Again
 againOf set t m room = readAgain set t (textOf t m) (writtenTo set t m room)
 
--- r is the answer, and `after` the buffer. Of a full template, a moment and a buffer that is long enough, the answer is
--- the text's length and the moment, by all three answers
+-- r is the answer, and `after` the buffer. Of such a full template, a moment and a buffer that is long enough, the
+-- answer is the text's length and the moment, by all three answers
 pub record WroteAndRead (set : Settings) (t : List ℕ) (m : Moment) (before after : List ℕ) (r : Again) : Type 0 where
   pub is : r ≡ againOf set t m (length before)
   pub buffer : after ≡ bufferAfter (writtenTo set t m (length before)) (textOf t m) before
-  pub back : ReadsBack set → isFull set t ≡ true → isMoment m ≡ true → length (textOf t m) ≤ length before
+  pub back : ReadsBack set → isFull set t ≡ true → MarksJoined set t → isMoment m ≡ true → length (textOf t m) ≤ length before
       → (r ≡ Read (length (textOf t m)) (Accepted (partsIn m)) (Micros (microsOf m)) (Number (daysOf m)))
       × (after ≡ textOf t m ++ drop (length (textOf t m)) before) × Back set t m
 
@@ -128,3 +134,23 @@ SixNeeded =
 pub six-needed : SixNeeded
 unfolding isFull areFull times pieces firstUnwritten isMoment writtenTo partsOf partsRead limits-compute textOf nodesText nodeText pieceOf caseOf pieceText numberOf decimal partsMoment checkedMoment wellFormedAfter sequence reading-computes time-computes date-computes
 six-needed = (refl, refl, refl, refl, refl)
+
+-- a mark right after a quote counts alone, so what is written is not read back in the accents mode: the letter before
+-- the mark takes it, the literal of the mark takes the first digit of the year, and the year is 24. Without the mode it
+-- is read
+abbrev pub loneMark : List ℕ
+loneMark = utf8 "US SSSSS DD Mon\"a\"" ++ encoded 0x301 ++ utf8 "YYYY"
+
+abbrev pub january : Moment
+january = moment 2024 1 5 0 0 0 0
+
+abbrev pub JoinedNeeded : Type 0
+JoinedNeeded =
+    let accents : Settings = withAccents true pages in
+    let text = textOf loneMark january in
+    (isFull accents loneMark ≡ true) × (noneAlone loneMark ≡ false) × (text ≡ utf8 "000000 00000 05 Jana" ++ encoded 0x301 ++ utf8 "2024")
+    × (partsOf accents loneMark text ≡ Accepted (partsIn (moment 24 1 5 0 0 0 0))) × (partsOf pages loneMark text ≡ Accepted (partsIn january))
+
+pub joined-needed : JoinedNeeded
+unfolding hasLoneMark isFull areFull times pieces firstUnwritten partsOf partsRead limits-compute textOf nodesText nodeText pieceOf caseOf pieceText numberOf decimal partsMoment checkedMoment wellFormedAfter sequence reading-computes time-computes date-computes
+joined-needed = (refl, refl, refl, refl, refl)

@@ -5,17 +5,17 @@
 use mathlib.Core.Path.{_≡_, _∙_, refl, sym, ap}
 use mathlib.Core.Bool.{true}
 use mathlib.Core.List.{List, [], _++_, append-assoc, append-nil}
-use Prim.Native.Nat.{ℕ, _+_, _*_, _≤_, _<_}
+use Prim.Native.Nat.{ℕ, _+_, _*_, _%_, _≤_, _<_}
 use native.Mathlib.Numerals.{add-one}
 use native.Mathlib.Omega.{arith}
 use borrow.Author.Tests.{ne-eqb}
-use lib.Dec.{eqb}
+use lib.Dec.{eqb, leb}
 use lib.ListN.{length, take, drop, getD, drop-of-length-le, length-take}
 use lib.Seq.{drop-cons, getD-take}
-use Rattle.template_nodes.specs.Bytes.{Parsed, nodeFrom, nodesIn}
+use Rattle.template_nodes.specs.Bytes.{Parsed, modeBit, nodeFrom, nodesIn}
 use Rattle.template_nodes.specs.Template.{endNode}
 use Rattle.template_nodes.specs.declared.Node.{Node}
-use Rattle.template_nodes.proofs.Encoding.{node-in, parsed-nodes, parsed-room}
+use Rattle.template_nodes.proofs.Encoding.{Small, node-in, parsed-nodes, parsed-room}
 use Rattle.line_buffers.specs.Output.{Put}
 use Rattle.line_buffers.proofs.Puts.{put-then}
 use Rattle.replay.specs.Answers.{nodeText, nodesText}
@@ -23,22 +23,23 @@ use Rattle.replay.specs.Answers.{nodeText, nodesText}
 -- a node within the first n bytes
 part-node : (c : List ℕ) (n at : ℕ) → at + 5 < n → nodeFrom (take n c) at ≡ nodeFrom c at
 part-node c n at h = λ i. record {
-  start = getD-take n c at 0 (omega arith) i + getD-take n c (at + 1) 0 (omega arith) i * 256;
-  len = getD-take n c (at + 2) 0 (omega arith) i;
+  start = getD-take n c at 0 (omega arith) i;
+  len = getD-take n c (at + 1) 0 (omega arith) i * 256 + getD-take n c (at + 2) 0 (omega arith) i;
   kind = getD-take n c (at + 3) 0 (omega arith) i;
   pattern = getD-take n c (at + 4) 0 (omega arith) i;
-  suffix = getD-take n c (at + 5) 0 (omega arith) i;
+  suffix = getD-take n c (at + 5) 0 (omega arith) i % modeBit;
+  accents = leb modeBit (getD-take n c (at + 5) 0 (omega arith) i);
 }
 
-pub node-is : {ns : List Node} {before after : List ℕ} {r : ℕ} → Parsed ns before after r → (i : ℕ) → i < r
+pub node-is : {ns : List Node} → Small ns → {before after : List ℕ} {r : ℕ} → Parsed ns before after r → (i : ℕ) → i < r
     → getD (nodesIn after) i endNode ≡ getD ns i endNode
-node-is {ns} {before} {after} {r} p i h =
+node-is {ns} small {before} {after} {r} p i h =
     let room = parsed-room p in
     let size : length (take (6 * r) after) ≡ 6 * r = length-take (6 * r) after ∙ omega arith in
     sym (node-in after i (omega arith))
     ∙ sym (part-node after (6 * r) (6 * i) (omega arith))
     ∙ node-in (take (6 * r) after) i (omega arith)
-    ∙ ap (λ (l : List Node). getD l i endNode) (parsed-nodes p)
+    ∙ ap (λ (l : List Node). getD l i endNode) (parsed-nodes p small)
 
 -- the buffer with the nodes before node i
 pub record Listed (ns : List Node) (out₀ : List ℕ) (at i : ℕ) (out : List ℕ) (next : ℕ) : Type 0 where

@@ -218,8 +218,8 @@ fn put_field(n: u16, out: &mut [u8], at: usize) -> usize
 fn put_fields(node: Node, out: &mut [u8], at: usize) -> usize
     ensures { λ r. ⌜ Put (now (out .entry)) at (fieldsText node) (now (out .exit)) r ⌝ }
 {
-    let start = put_field(node.start, out, at);
-    let len = put_field(node.len as u16, out, start);
+    let start = put_field(node.start as u16, out, at);
+    let len = put_field(node.len, out, start);
     let pattern = put_field(node.pattern as u16, out, len);
     put_field(node.suffix as u16, out, pattern)
 }
@@ -242,7 +242,7 @@ fn put_nodes(t: &[u8], out: &mut [u8], at: usize) -> usize
     ensures { λ r. ⌜ Put (now (out .entry)) at (nodesText true (nodesOf (now (t .entry)))) (now (out .exit)) r ⌝ }
 {
     let mut nodes = [0u8; NODES];
-    let count = template_nodes::parse_format(t, &mut nodes);
+    let count = template_nodes::parse_format(false, t, &mut nodes);
     let mut next = at;
     let mut i: usize = 0;
     while i < count {

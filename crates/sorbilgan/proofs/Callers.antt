@@ -16,7 +16,7 @@ use Rattle.write_text.specs.Writer.{nodesLimit, writtenIn, writtenTo}
 use Rattle.sorbilgan.specs.Callers.{CardsAndPages, EqualAnswers, Within, WithinBoth}
 use Rattle.sorbilgan.specs.Compiled.{compiledTo}
 
-module _ (a b : Settings) (alike : a .strict ≡ b .strict) (t s : List ℕ) (in-a : Within a t s) (in-b : Within b t s) where
+module _ (a b : Settings) (alike : a .strict ≡ b .strict) (same : a .accents ≡ b .accents) (t s : List ℕ) (in-a : Within a t s) (in-b : Within b t s) where
   parts : partsOf a t s ≡ partsOf b t s
   unfolding partsOf
   parts =
@@ -26,6 +26,7 @@ module _ (a b : Settings) (alike : a .strict ≡ b .strict) (t s : List ℕ) (in
         le-ltb (inputLimit a) (length s) (in-a .input),
         le-ltb (inputLimit b) (length s) (in-b .input),
         alike,
+        same,
       )
 
   by-nodes : (ns : List Node) → partsBy a ns t s ≡ partsBy b ns t s
@@ -39,7 +40,7 @@ module _ (a b : Settings) (alike : a .strict ≡ b .strict) (t s : List ℕ) (in
     instant = ap instantBy parts;
     day = ap dayBy parts;
     written = λ m room. rw (le-ltb (templateLimit a) (length t) (in-a .template), le-ltb (templateLimit b) (length t) (in-b .template));
-    compiled = rw (le-ltb (templateLimit a) (length t) (in-a .template), le-ltb (templateLimit b) (length t) (in-b .template));
+    compiled = rw (le-ltb (templateLimit a) (length t) (in-a .template), le-ltb (templateLimit b) (length t) (in-b .template), same);
     parts-by = by-nodes;
     instant-by = λ ns. ap instantBy (by-nodes ns);
     day-by = λ ns. ap dayBy (by-nodes ns);
@@ -47,7 +48,7 @@ module _ (a b : Settings) (alike : a .strict ≡ b .strict) (t s : List ℕ) (in
   }
 
 pub within-both : WithinBoth
-within-both set k l t s = equal (withLimits k set) (withLimits l set) refl t s
+within-both set k l t s = equal (withLimits k set) (withLimits l set) refl refl t s
 
 pub cards-and-pages : CardsAndPages
 unfolding limits-compute

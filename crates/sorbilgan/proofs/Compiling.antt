@@ -17,7 +17,7 @@ use Rattle.base_settings.specs.declared.Settings.{Settings}
 use Rattle.base_chars.specs.Utf8.{wellFormed}
 use Rattle.template_nodes.proofs.Encoding.{encoded-length}
 use Rattle.template_nodes.specs.Bytes.{Parsed}
-use Rattle.template_nodes.specs.Template.{nodesOf}
+use Rattle.template_nodes.specs.Template.{nodesBy}
 use Rattle.sorbilgan.specs.Compiled.{CompiledTo, compiledTo}
 
 module _ (set : Settings) (t before : List ℕ) where
@@ -30,11 +30,11 @@ module _ (set : Settings) (t before : List ℕ) where
     unfolding compiledTo
     ill-formed e = record { is = rw (le-ltb (templateLimit set) (length t) short, e); buffer = refl }
 
-    pub parsed : wellFormed t ≡ true → {after : List ℕ} {r : ℕ} → Parsed (nodesOf t) before after r → CompiledTo set t before after (toZ w64 (6 * r))
+    pub parsed : wellFormed t ≡ true → {after : List ℕ} {r : ℕ} → Parsed (nodesBy (set .accents) t) before after r → CompiledTo set t before after (toZ w64 (6 * r))
     unfolding compiledTo
     parsed e {after} {r} p =
         rw (toZ-pos w64 {n = 6 * r} (omega (arith, p .few)))
         (record {
-          is = rw (le-ltb (templateLimit set) (length t) short, e, encoded-length (nodesOf t), p .count);
+          is = rw (le-ltb (templateLimit set) (length t) short, e, encoded-length (nodesBy (set .accents) t), p .count);
           buffer = rw (p .count) (p .is);
         })

@@ -7,3 +7,5 @@ pub mod Callers
 mod Compiling
 -- seven numbers that are passed as i32 are those of the moment
 mod Passed
+-- what the accents mode counts, and what it leaves
+pub mod Accents

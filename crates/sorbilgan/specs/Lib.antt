@@ -9,5 +9,7 @@ pub mod Writing
 pub mod Once
 -- the promise that two callers get equal answers within the limits of both
 pub mod Callers
+-- the promise of the accents mode
+pub mod Accents
 -- the version of the functions and records
 pub mod Version

@@ -17,11 +17,11 @@ use Rattle.sorbilgan.specs.Compiled.{compiled}
 
 -- the answers to every input, moment and buffer
 pub record SameAnswers (set : Settings) (t : List ℕ) : Type 0 where
-  pub parts : (s : List ℕ) → partsBy set (nodesIn (compiled t)) t s ≡ partsOf set t s
-  pub instant : (s : List ℕ) → instantBy (partsBy set (nodesIn (compiled t)) t s) ≡ timestampOf set t s
-  pub day : (s : List ℕ) → dayBy (partsBy set (nodesIn (compiled t)) t s) ≡ dateOf set t s
-  pub written : (m : Moment) (room : ℕ) → writtenIn set (compiled t) t m room ≡ writtenTo set t m room
-  pub text : (m : Moment) → textIn (compiled t) t m ≡ textOf t m
+  pub parts : (s : List ℕ) → partsBy set (nodesIn (compiled set t)) t s ≡ partsOf set t s
+  pub instant : (s : List ℕ) → instantBy (partsBy set (nodesIn (compiled set t)) t s) ≡ timestampOf set t s
+  pub day : (s : List ℕ) → dayBy (partsBy set (nodesIn (compiled set t)) t s) ≡ dateOf set t s
+  pub written : (m : Moment) (room : ℕ) → writtenIn set (compiled set t) t m room ≡ writtenTo set t m room
+  pub text : (m : Moment) → textIn (compiled set t) t m ≡ textOf t m
 
 -- by every template that is compiled, for every caller
 abbrev pub CompileOnce : Type 0

@@ -3,4 +3,4 @@ use Prim.Native.Nat.{ℕ}
 
 -- it rises by one whenever a function, a record or the number of a refusal is added or changed
 abbrev pub version : ℕ
-version = 3
+version = 4

@@ -1,6 +1,7 @@
 // The functions that other languages call. None asks anything of its caller.
 // Reading and writing fill a record of 64-bit numbers and return its first: 0, or the number of the refusal.
 // Each is there twice: with settings, and for the exercise pages, whose settings are 0.
+mod marks;
 mod names;
 mod version;
 mod with_settings;
@@ -12,9 +13,10 @@ ghost use Rattle.moment_parts.specs.Parts.{partsBy, partsOf};
 ghost use Rattle.template_nodes.specs.Bytes.{nodesIn};
 ghost use Rattle.sorbilgan.specs.Compiled.{CompiledTo};
 ghost use Rattle.sorbilgan_records.specs.Records.{Recorded, dayRecord, instantRecord, partsRecord};
+pub use marks::sorbilgan_has_lone_mark;
 pub use names::sorbilgan_pattern;
 pub use version::sorbilgan_version;
-pub use version::sorbilgan_version_3;
+pub use version::sorbilgan_version_4;
 pub use with_settings::sorbilgan_compile_with;
 pub use with_settings::sorbilgan_date_by_with;
 pub use with_settings::sorbilgan_date_with;

@@ -3,7 +3,7 @@
 ghost use mathlib.Core.Path.{_≡_};
 ghost use Rattle.sorbilgan.specs.Version.{version};
 
-pub const VERSION: u32 = 3;
+pub const VERSION: u32 = 4;
 
 #[no_mangle]
 pub extern "C" fn sorbilgan_version() -> u32
@@ -13,7 +13,7 @@ pub extern "C" fn sorbilgan_version() -> u32
 }
 
 #[no_mangle]
-pub extern "C" fn sorbilgan_version_3() -> u32
+pub extern "C" fn sorbilgan_version_4() -> u32
     ensures { λ r. ⌜ r ≡ version ⌝ }
 {
     VERSION

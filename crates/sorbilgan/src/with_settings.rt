@@ -52,13 +52,14 @@ pub extern "C" fn sorbilgan_date_with(settings: u32, t: &[u8], s: &[u8], out: &m
 pub extern "C" fn sorbilgan_compile_with(settings: u32, t: &[u8], nodes: &mut [u8; 1536]) -> i64
     ensures { λ r. ⌜ CompiledTo (settingsOf settings) (now (t .entry)) (now (nodes .entry)) (now (nodes .exit)) r ⌝ }
 {
-    if base_settings::template_limit(settings_of(settings)) < t.len() {
+    let set = settings_of(settings);
+    if base_settings::template_limit(set) < t.len() {
         return -1;
     }
     if !base_chars::is_utf8(t) {
         return -2;
     }
-    (NODE * template_nodes::parse_format(t, nodes)) as i64
+    (NODE * template_nodes::parse_format(set.accents, t, nodes)) as i64
 }
 
 // The same three by the nodes of a template t that was compiled. Any bytes are taken for nodes.

@@ -1,7 +1,8 @@
--- Every template is covered by its nodes, whatever its bytes. Assumes nothing.
+-- Every template is covered by its nodes, whatever its bytes, in both modes. Assumes nothing.
 -- `covered`: nothing of a template is lost but quotes, backslashes, prefixes and suffixes. Its nodes are in order, do
 -- not overlap and have a byte at least, and the bytes of a pattern's node are its name. The idea: each step is one of
 -- the ways in which `Covers` goes on (`Taken`), and nodes that cover a text are in order (`in-order`).
+-- `step-taken`: what a step takes. `no-pattern`: the kind of a literal is no pattern's.
 -- `never-lost`: without a node, a byte other than a quote is not covered.
 use mathlib.Core.Path.{_≡_, _∙_, refl, sym, ap}
 use mathlib.Core.Bool.{Bool, true, false, not, and-false}
@@ -18,9 +19,9 @@ use Rattle.base_notation.specs.Choice.{if_then_else_}
 use Rattle.base_notation.specs.Text.{byteAt}
 use Rattle.base_notation.proofs.Bytes.{byte-within}
 use Rattle.base_notation.proofs.Cases.{both, by-if}
-use Rattle.base_chars.specs.Character.{charLength}
+use Rattle.base_accents.specs.Accents.{measureOf}
+use Rattle.base_accents.proofs.Measures.{count, measure-left}
 use Rattle.base_chars.specs.Class.{isSeparator, isSpace}
-use Rattle.base_chars.proofs.Characters.{measure}
 use Rattle.template_patterns.specs.Affixes.{affixLength, bitAt}
 use Rattle.template_patterns.specs.Patterns.{nameOf}
 use Rattle.template_patterns.specs.Search.{patternAt}
@@ -30,7 +31,7 @@ use Rattle.template_patterns.proofs.Affixes.{AffixThere, affix-there}
 use Rattle.template_patterns.proofs.Names.{There, name-there, name-length}
 use Rattle.template_patterns.proofs.Search.{found-range, found-name}
 use Rattle.template_nodes.specs.Cover.{Covers, at-end, at-quote, at-prefix, at-name, at-character, at-backslash, IsAffix, IsCharacter, InOrder, Covered}
-use Rattle.template_nodes.specs.Template.{action, actionAt, character, separator, space, quote, backslash, kindOf, charAt, charPlace, escapes, literalAt, skip, elementOf, plainAt, stepAt, nodesFrom, nodesOf, madeBy}
+use Rattle.template_nodes.specs.Template.{action, actionAt, character, separator, space, quote, backslash, kindOf, charAt, charPlace, escapes, literalAt, skip, elementOf, plainAt, stepAt, nodesFrom, nodesBy, madeBy}
 use Rattle.template_nodes.specs.declared.Node.{Node}
 use Rattle.template_nodes.specs.declared.Step.{Step}
 
@@ -38,10 +39,6 @@ use Rattle.template_nodes.specs.declared.Step.{Step}
 module _ (t : List ℕ) (at : ℕ) where
   byte-left : byteAt (drop at t) 0 ≡ byteAt t at
   byte-left = getD-drop at t 0 0 ∙ ap (byteAt t) (add-zero at)
-
-  char-left : charLength (drop at t) 0 ≡ charLength t at
-  unfolding charLength
-  char-left = rw (byte-left, length-drop at t, sub-zero (length t - at))
 
   more-left : ltb 1 (length (drop at t)) ≡ ltb (at + 1) (length t)
   more-left = by (ltb (at + 1) (length t)) refl
@@ -56,18 +53,18 @@ module _ (t : List ℕ) (at : ℕ) where
 
 -- ---- steps
 -- the character at p, with the rest of the template after it
-record Character (t : List ℕ) (p : ℕ) : Type 0 where
+record Character (accents : Bool) (t : List ℕ) (p : ℕ) : Type 0 where
   c : List ℕ
-  size : length c ≡ charLength t p
+  size : length c ≡ measureOf accents t p
   first : byteAt c 0 ≡ byteAt t p
-  is : IsCharacter c (drop (p + length c) t)
+  is : IsCharacter accents c (drop (p + length c) t)
   left : c ++ drop (p + length c) t ≡ drop p t
   within : p + length c ≤ length t
 
-char-there : (t : List ℕ) (p : ℕ) → p < length t → Character t p
-char-there t p h =
-    let n = charLength t p in
-    let measured = measure t p in
+char-there : (accents : Bool) (t : List ℕ) (p : ℕ) → p < length t → Character accents t p
+char-there accents t p h =
+    let n = measureOf accents t p in
+    let measured = count accents t p in
     let c = take n (drop p t) in
     let size : length c ≡ n = length-take-le n (drop p t) (omega (arith, measured .within, length-drop p t)) in
     let left : c ++ drop (p + length c) t ≡ drop p t =
@@ -76,23 +73,23 @@ char-there t p h =
       c = c;
       size = size;
       first = getD-take n (drop p t) 0 0 (omega (arith, measured .some)) ∙ byte-left t p;
-      is = record { some = omega (arith, size, measured .some); one = size ∙ sym (char-left t p) ∙ ap (λ (r : List ℕ). charLength r 0) (sym left) };
+      is = record { some = omega (arith, size, measured .some); one = size ∙ sym (measure-left t p accents) ∙ ap (λ (r : List ℕ). measureOf accents r 0) (sym left) };
       left = left;
       within = omega (arith, size, measured .within);
     }
 
-module _ (t : List ℕ) where
+module _ (accents : Bool) (t : List ℕ) where
   -- what a step from a place takes is covered by the node that it makes, if it makes one
-  record Taken (at : ℕ) (quoted : Bool) (s : Step) : Type 0 where
-    on : at < s .next
-    within : s .next ≤ length t
-    covers : (ns : List Node) → Covers (s .quoted) (s .next) (drop (s .next) t) ns → Covers quoted at (drop at t) (madeBy s ++ ns)
+  pub record Taken (at : ℕ) (quoted : Bool) (s : Step) : Type 0 where
+    pub on : at < s .next
+    pub within : s .next ≤ length t
+    pub covers : (ns : List Node) → Covers accents (s .quoted) (s .next) (drop (s .next) t) ns → Covers accents quoted at (drop at t) (madeBy s ++ ns)
 
   -- the literal at p
   abbrev literalStep : Bool → ℕ → Step
-  literalStep quoted p = charAt t p (if quoted then character else kindOf (byteAt t p)) quoted
+  literalStep quoted p = charAt accents t p (if quoted then character else kindOf (byteAt t p)) quoted
 
-  char-taken : (at : ℕ) (quoted : Bool) → eqb (byteAt t at) quote ≡ false → escapes t at quoted ≡ false → Character t at → Taken at quoted (literalStep quoted at)
+  char-taken : (at : ℕ) (quoted : Bool) → eqb (byteAt t at) quote ≡ false → escapes t at quoted ≡ false → Character accents t at → Taken at quoted (literalStep quoted at)
   char-taken at quoted n e char =
       record {
         on = omega (arith, char .size, char .is .some);
@@ -102,7 +99,7 @@ module _ (t : List ℕ) where
             (at-character {quoted = quoted} {t = drop (at + length (char .c)) t} (char .c) (char .is) (rw (char .first) n) (rw (char .left) (escapes-left t at quoted ∙ e)) (rw (← char .size) at k));
       }
 
-  escaped-taken : (at : ℕ) (quoted : Bool) → byteAt t at ≡ backslash → at < length t → escapes t at quoted ≡ true → Character t (at + 1)
+  escaped-taken : (at : ℕ) (quoted : Bool) → byteAt t at ≡ backslash → at < length t → escapes t at quoted ≡ true → Character accents t (at + 1)
       → Taken at quoted (literalStep quoted (at + 1))
   escaped-taken at quoted b h e char =
       let left : drop at t ≡ (backslash ∷ char .c) ++ drop (at + 1 + length (char .c)) t = drop-cons t at 0 h ∙ rw (b, ← add-one at, char .left) in
@@ -120,7 +117,7 @@ module _ (t : List ℕ) where
   one-more at false e = byte-within t (at + 1) (λ z. omega (arith, eqb-true (byteAt t (at + 1)) quote e))
 
   -- a quote is skipped, anything else is a literal character
-  literal-taken : (at : ℕ) (quoted : Bool) → at < length t → Taken at quoted (literalAt t at quoted)
+  literal-taken : (at : ℕ) (quoted : Bool) → at < length t → Taken at quoted (literalAt accents t at quoted)
   unfolding literalAt charPlace
   literal-taken at quoted h =
       by-if (Taken at quoted) (eqb (byteAt t at) quote) (skip (at + 1) (not quoted)) _
@@ -131,22 +128,22 @@ module _ (t : List ℕ) where
       })
       (λ n. by-if (λ (p : ℕ). Taken at quoted (literalStep quoted p)) (escapes t at quoted) (at + 1) at
       (λ e. let tests = both (eqb (byteAt t at) backslash) _ e in
-      escaped-taken at quoted (eqb-true _ _ (tests .0)) h e (char-there t (at + 1) (one-more at quoted (tests .1))))
-      (λ e. char-taken at quoted n e (char-there t at h)))
+      escaped-taken at quoted (eqb-true _ _ (tests .0)) h e (char-there accents t (at + 1) (one-more at quoted (tests .1))))
+      (λ e. char-taken at quoted n e (char-there accents t at h)))
 
   -- the letters of an affix are one
   an-affix : {wanted : Bool} {at : ℕ} (a : AffixThere wanted t at) → IsAffix wanted (a .name)
   an-affix a = a .size ∙ ap affixLength (sym (a .same))
 
   -- a prefix that is dropped
-  dropped : (at : ℕ) → AffixThere true t at → (ns : List Node) → Covers false (at + affixLength (bitAt true t at)) (drop (at + affixLength (bitAt true t at)) t) ns
-      → Covers false at (drop at t) ns
+  dropped : (at : ℕ) → AffixThere true t at → (ns : List Node) → Covers accents false (at + affixLength (bitAt true t at)) (drop (at + affixLength (bitAt true t at)) t) ns
+      → Covers accents false at (drop at t) ns
   dropped at prefix ns k = rw (prefix .there .rest) (at-prefix (prefix .name) (an-affix prefix) (rw (← prefix .size) at k))
 
   -- a pattern between its prefix and its suffix
   pattern-taken : (at k : ℕ) (prefix : AffixThere true t at) → k < 112 → There (nameOf k) t (at + length (prefix .name))
       → AffixThere false t (at + length (prefix .name) + length (nameOf k))
-      → Taken at false (actionAt t (at + length (prefix .name)) (bitAt true t at) k (length (nameOf k)))
+      → Taken at false (actionAt accents t (at + length (prefix .name)) (bitAt true t at) k (length (nameOf k)))
   pattern-taken at k prefix known name suffix =
       let left : drop at t ≡ prefix .name ++ nameOf k ++ suffix .name ++ drop (at + length (prefix .name) + length (nameOf k) + length (suffix .name)) t =
       prefix .there .rest ∙ rw (name .rest, suffix .there .rest) (simp append-assoc) in
@@ -160,7 +157,7 @@ module _ (t : List ℕ) where
 
   -- a pattern, or a literal after a prefix that is dropped
   element-taken : (at : ℕ) (f : Found) → patternAt t (at + affixLength (bitAt true t at)) ≡ f → at + affixLength (bitAt true t at) < length t
-      → Taken at false (elementOf f t (at + affixLength (bitAt true t at)) (bitAt true t at))
+      → Taken at false (elementOf accents f t (at + affixLength (bitAt true t at)) (bitAt true t at))
   element-taken at Nothing e h =
       let after = literal-taken (at + affixLength (bitAt true t at)) false h in
       record {
@@ -177,7 +174,7 @@ module _ (t : List ℕ) where
       rw (← prefix .size, same .0)
       (pattern-taken at k prefix known name (affix-there false t (at + length (prefix .name) + length (nameOf k)) (name .within)))
 
-  plain-taken : (at : ℕ) → at < length t → Taken at false (plainAt t at)
+  plain-taken : (at : ℕ) → at < length t → Taken at false (plainAt accents t at)
   unfolding plainAt
   plain-taken at h =
       let start = at + affixLength (bitAt true t at) in
@@ -190,20 +187,20 @@ module _ (t : List ℕ) where
         covers = λ ns k. dropped at prefix ns k;
       })
 
-  step-taken : (at : ℕ) (quoted : Bool) → at < length t → Taken at quoted (stepAt t at quoted)
+  pub step-taken : (at : ℕ) (quoted : Bool) → at < length t → Taken at quoted (stepAt accents t at quoted)
   unfolding stepAt
   step-taken at true h = literal-taken at true h
   step-taken at false h = plain-taken at h
 
   -- ---- all steps
-  covers-from : (fuel at : ℕ) (quoted : Bool) → length t ≤ at + fuel → at ≤ length t → Covers quoted at (drop at t) (nodesFrom fuel t at quoted)
+  covers-from : (fuel at : ℕ) (quoted : Bool) → length t ≤ at + fuel → at ≤ length t → Covers accents quoted at (drop at t) (nodesFrom accents fuel t at quoted)
   unfolding nodesFrom
   covers-from zero at quoted enough h = rw (drop-of-length-le t {i = at} (omega arith)) at-end
   covers-from (suc fuel) at quoted enough h =
-      by-if (Covers quoted at (drop at t)) (ltb at (length t)) _ []
-      (λ e. let s = stepAt t at quoted in
+      by-if (Covers accents quoted at (drop at t)) (ltb at (length t)) _ []
+      (λ e. let s = stepAt accents t at quoted in
       let taken = step-taken at quoted (ltb-true _ _ e) in
-      taken .covers (nodesFrom fuel t (s .next) (s .quoted)) (covers-from fuel (s .next) (s .quoted) (omega (arith, taken .on)) (taken .within)))
+      taken .covers (nodesFrom accents fuel t (s .next) (s .quoted)) (covers-from fuel (s .next) (s .quoted) (omega (arith, taken .on)) (taken .within)))
       (λ e. rw (drop-of-length-le t {i = at} (ltb-false _ _ e)) at-end)
 
 -- ---- in order
@@ -224,14 +221,14 @@ further : (t before c after : List ℕ) (at : ℕ) → t ≡ before ++ (c ++ aft
 further t before c after at e l = (e ∙ sym (append-assoc before c after), length-append before c ∙ rw l)
 
 -- a literal is no pattern
-no-pattern : (quoted : Bool) (b : ℕ) → (if quoted then character else kindOf b) ≡ action → ⊥
+pub no-pattern : (quoted : Bool) (b : ℕ) → (if quoted then character else kindOf b) ≡ action → ⊥
 unfolding kindOf
 no-pattern true b e = omega (arith, e)
 no-pattern false b e =
     by-if (λ (k : ℕ). k ≡ action → ⊥) (isSeparator b) separator (if isSpace b then space else character) (λ p q. omega (arith, q))
     (λ p. by-if (λ (k : ℕ). k ≡ action → ⊥) (isSpace b) space character (λ p q. omega (arith, q)) (λ p q. omega (arith, q))) e
 
-in-order : {quoted : Bool} {at : ℕ} {rest : List ℕ} {ns : List Node} → Covers quoted at rest ns → (t before : List ℕ) → t ≡ before ++ rest → length before ≡ at → InOrder t at ns
+in-order : {accents quoted : Bool} {at : ℕ} {rest : List ℕ} {ns : List Node} → Covers accents quoted at rest ns → (t before : List ℕ) → t ≡ before ++ rest → length before ≡ at → InOrder t at ns
 in-order at-end t before e l = tt
 in-order (at-quote {at = at} {t = rest} {ns = ns} k) t before e l =
     let next = further t before (quote ∷ []) rest at e l in
@@ -267,14 +264,14 @@ in-order (at-backslash {quoted = quoted} {at = at} {t = rest} {ns = ns} c is esc
       in-order k t (before ++ backslash ∷ [] ++ c) (next .0) (next .1),
     )
 
-pub covered : (t : List ℕ) → Covered t
-unfolding nodesOf
-covered t =
-    let whole = covers-from t (length t) 0 false (omega arith) (omega arith) in
+pub covered : (accents : Bool) (t : List ℕ) → Covered accents t
+unfolding nodesBy
+covered accents t =
+    let whole = covers-from accents t (length t) 0 false (omega arith) (omega arith) in
     record { whole = whole; each = in-order whole t [] refl refl }
 
 -- ---- what is not covered
-one-byte : {quoted : Bool} {at : ℕ} {rest : List ℕ} {ns : List Node} → Covers quoted at rest ns → (b : ℕ) → (b ≡ quote → ⊥) → rest ≡ b ∷ [] → ns ≡ [] → ⊥
+one-byte : {accents quoted : Bool} {at : ℕ} {rest : List ℕ} {ns : List Node} → Covers accents quoted at rest ns → (b : ℕ) → (b ≡ quote → ⊥) → rest ≡ b ∷ [] → ns ≡ [] → ⊥
 unfolding bitAt
 one-byte at-end b n e none = omega (arith, ap (λ (r : List ℕ). length r) e)
 one-byte (at-quote k) b n e none = n (sym (ap (λ (r : List ℕ). byteAt r 0) e))
@@ -285,5 +282,5 @@ one-byte (at-name prefix number suffix a known c k) b n e none = omega (arith, a
 one-byte (at-character c is no-quote plain k) b n e none = omega (arith, ap (λ (l : List Node). length l) none)
 one-byte (at-backslash c is escape k) b n e none = omega (arith, ap (λ (l : List Node). length l) none)
 
-pub never-lost : (quoted : Bool) (at b : ℕ) → (b ≡ quote → ⊥) → Covers quoted at (b ∷ []) [] → ⊥
-never-lost quoted at b n k = one-byte k b n refl refl
+pub never-lost : (accents quoted : Bool) (at b : ℕ) → (b ≡ quote → ⊥) → Covers accents quoted at (b ∷ []) [] → ⊥
+never-lost accents quoted at b n k = one-byte k b n refl refl

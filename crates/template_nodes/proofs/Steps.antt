@@ -1,23 +1,20 @@
 -- The cases of a literal.
--- `at-quote`: a quote makes no node. `in-quotes`, `outside`: any other character is a node, in quotes a plain
--- character, outside of the kind of its first byte. Assumes nothing.
+-- `at-quote`: a quote makes no node. `at-literal`: any other character is a node. Assumes nothing.
 use mathlib.Core.Path.{_≡_}
-use mathlib.Core.Bool.{Bool, true, false, not}
+use mathlib.Core.Bool.{Bool, not}
 use mathlib.Core.List.{List}
 use Prim.Native.Nat.{ℕ, _+_}
 use borrow.Author.Tests.{ne-eqb}
+use Rattle.base_notation.specs.Choice.{if_then_else_}
 use Rattle.base_notation.specs.Text.{byteAt}
 use Rattle.template_nodes.specs.Template.{character, charAt, charPlace, kindOf, literalAt, skip}
 
-module _ (t : List ℕ) (at : ℕ) where
-  pub at-quote : (quoted : Bool) → byteAt t at ≡ 34 → literalAt t at quoted ≡ skip (at + 1) (not quoted)
+module _ (accents : Bool) (t : List ℕ) (at : ℕ) (quoted : Bool) where
+  pub at-quote : byteAt t at ≡ 34 → literalAt accents t at quoted ≡ skip (at + 1) (not quoted)
   unfolding literalAt
-  at-quote quoted e = rw e
+  at-quote e = rw e
 
-  pub in-quotes : (byteAt t at ≡ 34 → ⊥) → (p : ℕ) → p ≡ charPlace t at true → literalAt t at true ≡ charAt t p character true
+  pub at-literal : (byteAt t at ≡ 34 → ⊥) → (p : ℕ) → p ≡ charPlace t at quoted
+      → literalAt accents t at quoted ≡ charAt accents t p (if quoted then character else kindOf (byteAt t p)) quoted
   unfolding literalAt
-  in-quotes n p e = rw (ne-eqb _ _ n, e)
-
-  pub outside : (byteAt t at ≡ 34 → ⊥) → (p : ℕ) → p ≡ charPlace t at false → literalAt t at false ≡ charAt t p (kindOf (byteAt t p)) false
-  unfolding literalAt
-  outside n p e = rw (ne-eqb _ _ n, e)
+  at-literal n p e = rw (ne-eqb _ _ n, e)

@@ -15,58 +15,60 @@ use lib.Seq.{sets}
 use Rattle.base_notation.specs.Text.{byteAt}
 use Rattle.base_notation.proofs.Cases.{both}
 use Rattle.template_nodes.specs.Bytes.{Parsed, bytesOf, encoded}
-use Rattle.template_nodes.specs.Template.{character, charAt, charPlace, isQuotedChar, literalAt, stepAt, madeBy, nodesFrom, nodesOf}
+use Rattle.template_nodes.specs.Template.{character, charAt, charPlace, isQuotedChar, literalAt, stepAt, madeBy, nodesBy, nodesFrom}
 use Rattle.template_nodes.specs.declared.Node.{Node}
 use Rattle.template_nodes.specs.declared.Step.{Step}
 use Rattle.template_nodes.proofs.Encoding.{put-after}
 
 -- n nodes are done, and the fuel that is left is enough for the rest
-pub record Read (t before after : List ℕ) (n at : ℕ) (quoted : Bool) : Type 0 where
+pub record Read (accents : Bool) (t before after : List ℕ) (n at : ℕ) (quoted : Bool) : Type 0 where
   pub fuel : ℕ
   pub done : List Node
   pub enough : length t ≤ at + fuel
   pub size : length done ≡ n
   pub stored : after ≡ encoded done ++ drop (6 * n) before
-  pub whole : done ++ nodesFrom fuel t at quoted ≡ nodesOf t
+  pub whole : done ++ nodesFrom accents fuel t at quoted ≡ nodesBy accents t
 
-pub begun : (t before : List ℕ) → Read t before before 0 0 false
-unfolding nodesOf encoded
-begun t before = record { fuel = length t; done = []; enough = omega arith; size = refl; stored = refl; whole = refl }
+pub begun : (accents : Bool) (t before : List ℕ) → Read accents t before before 0 0 false
+unfolding nodesBy encoded
+begun accents t before = record { fuel = length t; done = []; enough = omega arith; size = refl; stored = refl; whole = refl }
 
 -- at the end nothing is left
-after-end : (t : List ℕ) (fuel at : ℕ) (quoted : Bool) → length t ≤ at → nodesFrom fuel t at quoted ≡ []
+pub after-end : (accents : Bool) (t : List ℕ) (fuel at : ℕ) (quoted : Bool) → length t ≤ at → nodesFrom accents fuel t at quoted ≡ []
 unfolding nodesFrom
-after-end t zero at quoted h = refl
-after-end t (suc f) at quoted h = rw (le-ltb at (length t) h)
+after-end accents t zero at quoted h = refl
+after-end accents t (suc f) at quoted h = rw (le-ltb at (length t) h)
 
-pub ended : (t before after : List ℕ) (n at : ℕ) (quoted : Bool) → Read t before after n at quoted → n ≤ 256 → length t ≤ at → Parsed (nodesOf t) before after n
-ended t before after n at quoted r few h =
-    let all : r .done ≡ nodesOf t = rw (after-end t (r .fuel) at quoted h, append-nil) at (r .whole) in
-    let count : n ≡ length (nodesOf t) = sym (r .size) ∙ ap (λ (l : List Node). length l) all in
+pub ended : (accents : Bool) (t before after : List ℕ) (n at : ℕ) (quoted : Bool) → Read accents t before after n at quoted → n ≤ 256 → length t ≤ at
+    → Parsed (nodesBy accents t) before after n
+ended accents t before after n at quoted r few h =
+    let all : r .done ≡ nodesBy accents t = rw (after-end accents t (r .fuel) at quoted h, append-nil) at (r .whole) in
+    let count : n ≡ length (nodesBy accents t) = sym (r .size) ∙ ap (λ (l : List Node). length l) all in
     record { is = r .stored ∙ rw (all, count); count = count; few = few }
 
 -- a character in quotes is a step
-pub plain-step : (t : List ℕ) (at : ℕ) (quoted : Bool) → isQuotedChar t at quoted ≡ true → charAt t at character true ≡ stepAt t at quoted
+pub plain-step : (accents : Bool) (t : List ℕ) (at : ℕ) (quoted : Bool) → isQuotedChar t at quoted ≡ true
+    → charAt accents t at character true ≡ stepAt accents t at quoted
 unfolding stepAt literalAt charPlace
-plain-step t at true e =
+plain-step accents t at true e =
     let both-are = both (not (eqb (byteAt t at) 34)) _ e in
     rw (not-true (eqb (byteAt t at) 34) (both-are .0), not-true (eqb (byteAt t at) 92) (both-are .1))
-plain-step t at false e = absurd (false≢true e)
+plain-step accents t at false e = absurd (false≢true e)
 
 pub in-quotes : (t : List ℕ) (at : ℕ) (quoted : Bool) → isQuotedChar t at quoted ≡ true → true ≡ quoted
 in-quotes t at true e = refl
 in-quotes t at false e = absurd (false≢true e)
 
 -- a step
-one : (t : List ℕ) (fuel at : ℕ) (quoted : Bool) (s : Step) → s ≡ stepAt t at quoted → at < length t
-    → nodesFrom (suc fuel) t at quoted ≡ madeBy s ++ nodesFrom fuel t (s .next) (s .quoted)
+pub one : (accents : Bool) (t : List ℕ) (fuel at : ℕ) (quoted : Bool) (s : Step) → s ≡ stepAt accents t at quoted → at < length t
+    → nodesFrom accents (suc fuel) t at quoted ≡ madeBy s ++ nodesFrom accents fuel t (s .next) (s .quoted)
 unfolding nodesFrom
-one t fuel at quoted s e h = rw (e, lt-ltb at (length t) h)
+one accents t fuel at quoted s e h = rw (e, lt-ltb at (length t) h)
 
-module _ (t before : List ℕ) (n at : ℕ) (quoted : Bool) (s : Step) (e : s ≡ stepAt t at quoted) (h : at < length t) (on : at < s .next) where
-  turn : (fuel : ℕ) (done : List Node) → length t ≤ at + fuel → done ++ nodesFrom fuel t at quoted ≡ nodesOf t
+module _ (accents : Bool) (t before : List ℕ) (n at : ℕ) (quoted : Bool) (s : Step) (e : s ≡ stepAt accents t at quoted) (h : at < length t) (on : at < s .next) where
+  turn : (fuel : ℕ) (done : List Node) → length t ≤ at + fuel → done ++ nodesFrom accents fuel t at quoted ≡ nodesBy accents t
       → (out : List ℕ) (n′ : ℕ) → length (done ++ madeBy s) ≡ n′ → out ≡ encoded (done ++ madeBy s) ++ drop (6 * n′) before
-      → Read t before out n′ (s .next) (s .quoted)
+      → Read accents t before out n′ (s .next) (s .quoted)
   turn zero done l w out n′ p q = absurd (omega arith)
   turn (suc f) done l w out n′ p q =
       record {
@@ -75,16 +77,16 @@ module _ (t before : List ℕ) (n at : ℕ) (quoted : Bool) (s : Step) (e : s �
         enough = omega arith;
         size = p;
         stored = q;
-        whole = rw (append-assoc, ← one t f at quoted s e h) w;
+        whole = rw (append-assoc, ← one accents t f at quoted s e h) w;
       }
 
-  module _ {after : List ℕ} (r : Read t before after n at quoted) where
-    pub kept : 6 * n + 6 ≤ length before → s .made ≡ true → Read t before (sets after (6 * n) (bytesOf (s .node))) (n + 1) (s .next) (s .quoted)
+  module _ {after : List ℕ} (r : Read accents t before after n at quoted) where
+    pub kept : 6 * n + 6 ≤ length before → s .made ≡ true → Read accents t before (sets after (6 * n) (bytesOf (s .node))) (n + 1) (s .next) (s .quoted)
     kept room m =
         turn (r .fuel) (r .done) (r .enough) (r .whole) (sets after (6 * n) (bytesOf (s .node))) (n + 1)
         (rw (m, length-append) (omega (arith, r .size)))
         (rw (r .stored, m) (put-after (r .done) before (s .node) n (r .size) room))
 
-    pub passed : s .made ≡ false → Read t before after n (s .next) (s .quoted)
+    pub passed : s .made ≡ false → Read accents t before after n (s .next) (s .quoted)
     passed m =
         turn (r .fuel) (r .done) (r .enough) (r .whole) after n (rw (m, append-nil) (r .size)) (rw (m, append-nil) (r .stored))

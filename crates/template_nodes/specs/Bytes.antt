@@ -1,15 +1,23 @@
 -- Nodes as bytes: a compiled template is lent as the bytes of its nodes, six each.
 use mathlib.Core.Path.{_≡_, refl}
+use mathlib.Core.Bool.{true}
 use mathlib.Core.List.{List, [], _∷_, _++_}
 use Prim.Native.Nat.{ℕ, zero, suc, _+_, _*_, _/_, _%_, _≤_}
+use lib.Dec.{leb}
 use lib.ListN.{length, drop}
+use Rattle.base_notation.specs.Choice.{if_then_else_}
 use Rattle.base_notation.specs.Text.{byteAt}
-use Rattle.template_nodes.specs.Template.{character, literal, pattern}
+use Rattle.template_nodes.specs.Template.{character, inMode, literal, pattern}
 use Rattle.template_nodes.specs.declared.Node.{Node}
 
--- its start, the low byte first, its length, kind, pattern and suffix
+-- the bits of a prefix and a suffix are below 128; the bit of the accents mode is above them
+abbrev pub modeBit : ℕ
+modeBit = 128
+
+-- its start, its length, the high byte first, its kind, pattern, and suffix with the mode
 abbrev pub bytesOf : Node → List ℕ
-bytesOf n = n .start % 256 ∷ n .start / 256 ∷ n .len ∷ n .kind ∷ n .pattern ∷ n .suffix ∷ []
+bytesOf n =
+    n .start ∷ n .len / 256 ∷ n .len % 256 ∷ n .kind ∷ n .pattern ∷ (n .suffix % modeBit + (if n .accents then modeBit else 0)) ∷ []
 
 unfoldable pub encoded : List Node → List ℕ
 encoded [] = []
@@ -19,11 +27,12 @@ encoded (n ∷ ns) = bytesOf n ++ encoded ns
 abbrev pub nodeFrom : List ℕ → ℕ → Node
 nodeFrom c at =
     record {
-      start = byteAt c at + byteAt c (at + 1) * 256;
-      len = byteAt c (at + 2);
+      start = byteAt c at;
+      len = byteAt c (at + 1) * 256 + byteAt c (at + 2);
       kind = byteAt c (at + 3);
       pattern = byteAt c (at + 4);
-      suffix = byteAt c (at + 5);
+      suffix = byteAt c (at + 5) % modeBit;
+      accents = leb modeBit (byteAt c (at + 5));
     }
 
 -- n nodes
@@ -43,6 +52,12 @@ pub record Parsed (ns : List Node) (before after : List ℕ) (r : ℕ) : Type 0 
   pub few : r ≤ 256
 
 -- two nodes, and five bytes over
-pub worked : nodesIn (encoded (pattern 0 4 54 1 ∷ literal character 300 2 ∷ []) ++ 7 ∷ 7 ∷ 7 ∷ 7 ∷ 7 ∷ []) ≡ pattern 0 4 54 1 ∷ literal character 300 2 ∷ []
+pub worked : nodesIn (encoded (pattern 0 4 54 1 ∷ literal character 200 2 ∷ []) ++ 7 ∷ 7 ∷ 7 ∷ 7 ∷ 7 ∷ []) ≡ pattern 0 4 54 1 ∷ literal character 200 2 ∷ []
 unfolding nodesIn nodesTo encoded
 worked = refl
+
+-- a letter of two bytes with 127 marks is one node of 256 bytes in the accents mode
+pub marked
+    : (bytesOf (inMode true (literal character 0 256)) ≡ 0 ∷ 1 ∷ 0 ∷ character ∷ 0 ∷ 128 ∷ [])
+    × (nodeFrom (0 ∷ 1 ∷ 0 ∷ character ∷ 0 ∷ 128 ∷ []) 0 ≡ inMode true (literal character 0 256))
+marked = (refl, refl)

@@ -3,15 +3,14 @@ use mathlib.Core.Path.{_≡_, refl}
 use mathlib.Core.List.{List, [], _∷_}
 use Prim.Native.Nat.{ℕ}
 use Rattle.base_notation.specs.Text.{utf8}
-use Rattle.base_chars.specs.Class.{classOf}
-use Rattle.base_chars.specs.Character.{charLength, lead}
+use Rattle.base_accents.specs.Accents.{measure-computes}
 use Rattle.template_patterns.specs.Affixes.{bitAt}
 use Rattle.template_patterns.specs.Search.{patternAt}
-use Rattle.template_nodes.specs.Template.{character, separator, space, literal, pattern, kindOf, charPlace, literalAt, plainAt, stepAt, nodesFrom, nodesOf}
+use Rattle.template_nodes.specs.Template.{character, separator, space, literal, pattern, kindOf, charPlace, literalAt, plainAt, stepAt, nodesFrom, nodesBy, nodesOf}
 
 -- unfolds all that the nodes of a template are computed by
 unfoldable pub nodes-compute : ℕ
-unfolding nodesOf nodesFrom stepAt plainAt charPlace literalAt patternAt bitAt charLength lead kindOf classOf
+unfolding nodesBy nodesFrom stepAt plainAt charPlace literalAt patternAt bitAt kindOf measure-computes
 nodes-compute = 0
 
 -- no bytes, no nodes

@@ -3,6 +3,8 @@
 pub mod Template
 -- templates and their nodes, worked out
 pub mod Examples
+-- letters with their accents as nodes, by what comes before a mark
+pub mod Joined
 -- nodes as bytes, six each
 pub mod Bytes
 -- nothing of a template is lost but quotes, backslashes, prefixes and suffixes

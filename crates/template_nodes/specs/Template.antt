@@ -1,4 +1,5 @@
--- The nodes of a template, as parse_format of formatting.c makes them.
+-- The nodes of a template, as parse_format of formatting.c makes them; in the accents mode a letter with its accents is
+-- one character. Every node says in which mode it was made.
 use mathlib.Core.Path.{_≡_}
 use mathlib.Core.Bool.{Bool, true, false, not, _&&_}
 use mathlib.Core.List.{List, [], _∷_, _++_}
@@ -10,7 +11,7 @@ use lib.ListN.{length}
 use Rattle.base_notation.specs.Choice.{if_then_else_}
 use Rattle.base_notation.specs.Text.{byteAt}
 use Rattle.base_chars.specs.Class.{isSeparator, isSpace}
-use Rattle.base_chars.specs.Character.{charLength}
+use Rattle.base_accents.specs.Accents.{measureOf}
 use Rattle.template_patterns.specs.Affixes.{bitAt, affixLength}
 use Rattle.template_patterns.specs.Search.{patternAt}
 use Rattle.template_patterns.specs.declared.Found.{Found}
@@ -46,11 +47,17 @@ kindOf b = if isSeparator b then separator else if isSpace b then space else cha
 
 -- a literal character of a kind
 abbrev pub literal : ℕ → ℕ → ℕ → Node
-literal kind start len = record { start = start; len = len; kind = kind; pattern = 0; suffix = 0 }
+literal kind start len = record { start = start; len = len; kind = kind; pattern = 0; suffix = 0; accents = false }
 
 -- a pattern by its number in the table, with the bits of its prefix and suffix
 abbrev pub pattern : ℕ → ℕ → ℕ → ℕ → Node
-pattern start len number bits = record { start = start; len = len; kind = action; pattern = number; suffix = bits }
+pattern start len number bits =
+    record { start = start; len = len; kind = action; pattern = number; suffix = bits; accents = false }
+
+-- a node of the accents mode, or of the other
+abbrev pub inMode : Bool → Node → Node
+inMode accents n =
+    record { start = n .start; len = n .len; kind = n .kind; pattern = n .pattern; suffix = n .suffix; accents = accents }
 
 -- what comes after the last node
 abbrev pub endNode : Node
@@ -64,8 +71,9 @@ abbrev pub make : Node → ℕ → Bool → Step
 make node next quoted = record { made = true; node = node; next = next; quoted = quoted }
 
 -- one character as a node
-abbrev pub charAt : List ℕ → ℕ → ℕ → Bool → Step
-charAt t at kind quoted = make (literal kind at (charLength t at)) (at + charLength t at) quoted
+abbrev pub charAt : Bool → List ℕ → ℕ → ℕ → Bool → Step
+charAt accents t at kind quoted =
+    let n = measureOf accents t at in make (inMode accents (literal kind at n)) (at + n) quoted
 
 -- a backslash at a place makes the next character plain: in quotes unless it is the last byte,
 -- outside quotes only before a quote
@@ -88,50 +96,56 @@ pub record Placed (t : List ℕ) (at : ℕ) (quoted : Bool) (r : ℕ) : Type 0 w
   pub within : r < length t
 
 -- a quote begins or ends a quoted text; any other character is a node, in quotes a plain character
-unfoldable pub literalAt : List ℕ → ℕ → Bool → Step
-literalAt t at quoted =
+unfoldable pub literalAt : Bool → List ℕ → ℕ → Bool → Step
+literalAt accents t at quoted =
     if eqb (byteAt t at) quote then skip (at + 1) (not quoted)
-    else let place = charPlace t at quoted in charAt t place (if quoted then character else kindOf (byteAt t place)) quoted
+    else let place = charPlace t at quoted in charAt accents t place (if quoted then character else kindOf (byteAt t place)) quoted
 
 -- a pattern's name at a place, and the suffix after it
-abbrev pub actionAt : List ℕ → ℕ → ℕ → ℕ → ℕ → Step
-actionAt t at prefix number len =
-    let suffix = bitAt false t (at + len) in make (pattern at len number (bitOr prefix suffix)) (at + len + affixLength suffix) false
+abbrev pub actionAt : Bool → List ℕ → ℕ → ℕ → ℕ → ℕ → Step
+actionAt accents t at prefix number len =
+    let suffix = bitAt false t (at + len) in
+    make (inMode accents (pattern at len number (bitOr prefix suffix))) (at + len + affixLength suffix) false
 
 -- a pattern, or a literal: the prefix before a literal is dropped
-abbrev pub elementOf : Found → List ℕ → ℕ → ℕ → Step
-elementOf (Pattern number len) t at prefix = actionAt t at prefix number len
-elementOf Nothing t at prefix = literalAt t at false
+abbrev pub elementOf : Bool → Found → List ℕ → ℕ → ℕ → Step
+elementOf accents (Pattern number len) t at prefix = actionAt accents t at prefix number len
+elementOf accents Nothing t at prefix = literalAt accents t at false
 
-abbrev pub elementAt : List ℕ → ℕ → ℕ → Step
-elementAt t at prefix = elementOf (patternAt t at) t at prefix
+abbrev pub elementAt : Bool → List ℕ → ℕ → ℕ → Step
+elementAt accents t at prefix = elementOf accents (patternAt t at) t at prefix
 
 -- outside quotes: a prefix, if there is one, and what follows it; at the end the prefix is dropped
-unfoldable pub plainAt : List ℕ → ℕ → Step
-plainAt t at =
+unfoldable pub plainAt : Bool → List ℕ → ℕ → Step
+plainAt accents t at =
     let prefix = bitAt true t at in
     let start = at + affixLength prefix in
-    if ltb start (length t) then elementAt t start prefix else skip start false
+    if ltb start (length t) then elementAt accents t start prefix else skip start false
 
-unfoldable pub stepAt : List ℕ → ℕ → Bool → Step
-stepAt t at quoted = if quoted then literalAt t at true else plainAt t at
+unfoldable pub stepAt : Bool → List ℕ → ℕ → Bool → Step
+stepAt accents t at quoted = if quoted then literalAt accents t at true else plainAt accents t at
 
--- r is the step s from at on; it takes at least one byte and at most the given number
-pub record Stepped (at most : ℕ) (s r : Step) : Type 0 where
+-- r is the step s from at on; it takes at least one byte
+pub record Stepped (at : ℕ) (s r : Step) : Type 0 where
   pub is : r ≡ s
   pub on : at < r .next
-  pub near : r .next ≤ at + most
 
 abbrev pub madeBy : Step → List Node
 madeBy s = if s .made then s .node ∷ [] else []
 
 -- the nodes from a place on, in at most fuel steps
-unfoldable pub nodesFrom : ℕ → List ℕ → ℕ → Bool → List Node
-nodesFrom zero t at quoted = []
-nodesFrom (suc fuel) t at quoted =
-    if ltb at (length t) then (let s = stepAt t at quoted in madeBy s ++ nodesFrom fuel t (s .next) (s .quoted)) else []
+unfoldable pub nodesFrom : Bool → ℕ → List ℕ → ℕ → Bool → List Node
+nodesFrom accents zero t at quoted = []
+nodesFrom accents (suc fuel) t at quoted =
+    if ltb at (length t)
+    then (let s = stepAt accents t at quoted in madeBy s ++ nodesFrom accents fuel t (s .next) (s .quoted))
+    else []
 
--- the nodes of a template; each step takes a byte at least, so its length is enough fuel.
--- Quotes may stay open at the end.
-unfoldable pub nodesOf : List ℕ → List Node
-nodesOf t = nodesFrom (length t) t 0 false
+-- the nodes of a template in the accents mode or the other; each step takes a byte at least, so its length is enough
+-- fuel. Quotes may stay open at the end.
+unfoldable pub nodesBy : Bool → List ℕ → List Node
+nodesBy accents t = nodesFrom accents (length t) t 0 false
+
+-- its nodes as PostgreSQL has them, each character by itself
+abbrev pub nodesOf : List ℕ → List Node
+nodesOf t = nodesBy false t

@@ -14,3 +14,5 @@ mod Turns
 mod Answers
 -- why nothing is written names no pattern, or one of the template's
 pub mod Own
+-- the text is the same in both modes of characters
+pub mod Modes

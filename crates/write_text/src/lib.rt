@@ -101,7 +101,7 @@ fn first_unwritten(table: &[u8; 112], c: &[u8]) -> u8
 
 // The bytes of a literal that the template has.
 fn literal_length(t: &[u8], n: Node) -> usize
-    ensures { λ r. ⌜ (r ≡ length (literalText (now (t .entry)) n)) × (r ≤ 255) ⌝ }
+    ensures { λ r. ⌜ (r ≡ length (literalText (now (t .entry)) n)) × (r ≤ 65535) ⌝ }
 {
     let start = n.start as usize;
     let len = n.len as usize;
@@ -117,7 +117,7 @@ fn literal_length(t: &[u8], n: Node) -> usize
 // The length of a node's text at a moment.
 fn node_length(table: &[u8; 112], t: &[u8], n: Node, m: Moment) -> usize
     requires { ⌜ (now table ≡ pieceTable) × (isMoment m ≡ true) ⌝ }
-    ensures { λ r. ⌜ (r ≡ length (nodeText (now (t .entry)) m n)) × (r ≤ 255) ⌝ }
+    ensures { λ r. ⌜ (r ≡ length (nodeText (now (t .entry)) m n)) × (r ≤ 65535) ⌝ }
 {
     if n.kind == FN_ACTION {
         return write_pieces::piece_length(write_pieces::piece_of(table, n.pattern), m);
@@ -128,7 +128,7 @@ fn node_length(table: &[u8; 112], t: &[u8], n: Node, m: Moment) -> usize
 // The length of the text at a moment.
 fn text_length(table: &[u8; 112], c: &[u8], t: &[u8], m: Moment) -> usize
     requires { ⌜ (now table ≡ pieceTable) × (isMoment m ≡ true) × (length (now c) ≤ 1536) ⌝ }
-    ensures { λ r. ⌜ (r ≡ length (textIn (now (c .entry)) (now (t .entry)) m)) × (r ≤ 65535) ⌝ }
+    ensures { λ r. ⌜ (r ≡ length (textIn (now (c .entry)) (now (t .entry)) m)) × (r ≤ 16776960) ⌝ }
 {
     let mut total = 0;
     let mut i = 0;
@@ -203,7 +203,8 @@ pub fn write_by(set: Settings, c: &[u8], t: &[u8], m: Moment, out: &mut [u8]) ->
     Written::Length(needed)
 }
 
-// Writes the text of a moment into the buffer. What follows the text stays; on refusal the whole buffer does.
+// Writes the text of a moment into the buffer. What follows the text stays; on refusal the whole buffer does. The text
+// is the same in both modes of characters, so the template is compiled without accents.
 pub fn write(set: Settings, t: &[u8], m: Moment, out: &mut [u8]) -> Written
     ensures { λ r. ⌜ Wrote set (now (t .entry)) m (now (out .entry)) (now (out .exit)) r ⌝ }
 {
@@ -214,6 +215,6 @@ pub fn write(set: Settings, t: &[u8], m: Moment, out: &mut [u8]) -> Written
         return Written::Refused(Unwritten::NotUtf8);
     }
     let mut nodes = [0u8; NODES];
-    let end = NODE * template_nodes::parse_format(t, &mut nodes);
+    let end = NODE * template_nodes::parse_format(false, t, &mut nodes);
     write_by(set, &nodes[..end], t, m, out)
 }

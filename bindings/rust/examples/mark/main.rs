@@ -1,7 +1,7 @@
 //! Marks learners' lines by a template. `mark --help` explains it, and README.md shows it.
 //!
 //! ```text
-//! mark [--json] [--strict] TEMPLATE [FILE]
+//! mark [--accents] [--json] [--strict] TEMPLATE [FILE]
 //! ```
 
 mod count;

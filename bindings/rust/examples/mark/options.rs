@@ -7,7 +7,7 @@ use std::path::Path;
 
 /// What `--help` writes.
 pub const HELP: &str = "\
-usage: mark [--json] [--strict] TEMPLATE [FILE]
+usage: mark [--accents] [--json] [--strict] TEMPLATE [FILE]
 
 Marks each line of FILE, or of standard input, by TEMPLATE. It writes a line for each, with a TAB between three
 columns: the mark, what there is to say about it, and the line as it is.
@@ -22,6 +22,9 @@ columns: the mark, what there is to say about it, and the line as it is.
 
 At the end the counts are on standard error.
 
+  --accents   counts a letter with its accents as one character; this is the option for languages with accents, whose
+              letters a keyboard may send as one character or as several. A line with other characters than the
+              template's is then read all the same, and it is spelled otherwise
   --json      writes an object of JSON for each line: mark, line, moment (by ISO 8601; the year is 0000 if none was
               read), and expected or, if it is incomplete, written; for a refused line mark, number, cause, pattern,
               figures, reason and line
@@ -48,6 +51,9 @@ pub enum Request<'a> {
     Mark { form: Form, settings: Settings, template: &'a OsStr, file: Option<&'a OsStr> },
 }
 
+/// The options beside `--help`.
+const OPTIONS: [&str; 3] = ["--accents", "--json", "--strict"];
+
 /// What the arguments ask for, or what is wrong with them.
 pub fn request(arguments: &[OsString]) -> Result<Request<'_>, String> {
     let end = arguments.iter().position(|argument| argument == "--").unwrap_or(arguments.len());
@@ -59,12 +65,12 @@ pub fn request(arguments: &[OsString]) -> Result<Request<'_>, String> {
     if is_given("--help") {
         return Ok(Request::Help);
     }
-    if let Some(unknown) = options.iter().find(|option| **option != "--json" && **option != "--strict") {
+    if let Some(unknown) = options.iter().find(|option| !OPTIONS.iter().any(|known| **option == *known)) {
         let unknown = Path::new(unknown).display();
         return Err(usage(&format!("there is no option {unknown}; a template may begin with - after --")));
     }
     let form = if is_given("--json") { Form::Json } else { Form::Text };
-    let settings = Settings::new().strict(is_given("--strict"));
+    let settings = Settings::new().accents(is_given("--accents")).strict(is_given("--strict"));
     match others[..] {
         [template] => Ok(Request::Mark { form, settings, template, file: None }),
         [template, file] => Ok(Request::Mark { form, settings, template, file: Some(file) }),
@@ -78,5 +84,5 @@ fn is_option(argument: &OsStr) -> bool {
 }
 
 fn usage(wrong: &str) -> String {
-    format!("{wrong}\nusage: mark [--json] [--strict] TEMPLATE [FILE]; mark --help explains it")
+    format!("{wrong}\nusage: mark [--accents] [--json] [--strict] TEMPLATE [FILE]; mark --help explains it")
 }

@@ -17,7 +17,7 @@ fn goes_beyond(template: &Template, line: &[u8]) -> Option<bool> {
     let longer = [line, b"."].concat();
     let read = |pattern| {
         let text = [template.as_str(), closing(template.as_str()), pattern].concat();
-        Some(Template::compile(text).ok()?.read(&longer))
+        Some(Template::compile_with(text, template.settings()).ok()?.read(&longer))
     };
     let (by_one, by_other) = (read("AM")?, read("BC")?);
     (longer.len() <= INPUT_LIMIT).then_some(by_one != by_other)

@@ -1,4 +1,4 @@
-//! Any bytes are safe as nodes, whatever text they are lent with.
+//! Any bytes are safe as nodes, whatever text they are lent with; and what the nodes of a template with accents are.
 
 use super::*;
 use crate::{Parts, TEMPLATE_LIMIT};
@@ -14,12 +14,23 @@ use random::{all_bytes, Random};
 /// The settings of the exercise pages, and of the flash cards.
 const BOTH: [Settings; 2] = [Settings::new(), Settings::new().cards(true)];
 
+const ACCENTS: Settings = Settings::new().accents(true);
+
 /// Bytes that are often small, as those of a template's nodes are.
 fn nodes(random: &mut Random, most: usize) -> Vec<u8> {
     if random.once_in(2) {
         return random.bytes(&all_bytes(), most);
     }
     random.bytes(&[0, 0, 1, 1, 1, 2, 3, 4, 5, 16, 40, 54, 99, 111], most)
+}
+
+/// Characters of dates and times, and letters with accents and without.
+fn typed(random: &mut Random, most: usize) -> Vec<u8> {
+    const CHARACTERS: [&str; 20] = [
+        "0", "1", "2", "3", "4", "5", "6", "7", "8", "9", " ", "-", "+", ":", ".", "A", "M", "é", "\u{301}", "\u{36f}",
+    ];
+    let count = random.below(most + 1);
+    (0..count).map(|_| random.pick(&CHARACTERS)).collect::<String>().into_bytes()
 }
 
 fn in_range(parts: &Parts) -> bool {
@@ -41,12 +52,14 @@ fn is_never(parts: &Parts) -> bool {
     (parts.year_set, parts.month_set, parts.day_set) == (false, true, true) && parts.day > most
 }
 
-/// What pages and cards both answer to an input within the limits of both.
+/// What pages and cards both answer to an input within the limits of both. Nodes say themselves whether they have
+/// accents, so with that setting the answer is the same.
 fn by_both<A: Answer + Debug + PartialEq>(
     reader: &Reader<A>, nodes: &[u8], text: &[u8], input: &[u8],
 ) -> Result<A, Refusal> {
-    let [page, card] = BOTH.map(|settings| reader.by_nodes(settings, nodes, text, input));
-    assert_eq!(page, card);
+    let [page, card, accents] =
+        [BOTH[0], BOTH[1], ACCENTS].map(|settings| reader.by_nodes(settings, nodes, text, input));
+    assert_eq!((&page, &page), (&card, &accents));
     page
 }
 
@@ -57,7 +70,7 @@ fn any_nodes_are_read() {
     for _ in 0..20_000 {
         let nodes = nodes(&mut random, 60);
         let text = random.bytes(b"YMD-\"\xc3\xa0", 40);
-        let input = random.bytes(b"0123456789 -+:.AM", 40);
+        let input = typed(&mut random, 40);
         match by_both(&PARTS, &nodes, &text, &input).map(Parts::answered) {
             Ok(parts) => {
                 assert!(in_range(&parts), "{parts:?}");
@@ -145,6 +158,37 @@ fn no_pattern_is_not_written() {
         let refused = write_by(Settings::new(), nodes, b"", &Moment::midnight(2024, 2, 29), &mut []);
         assert_eq!(refused, Err(Refusal::alone(Cause::NotWritten)));
     }
+}
+
+/// A node has one byte for its start, two for its length, the higher one first, one each for its kind and its pattern,
+/// and one for prefix and suffix, whose highest bit is that of accents.
+#[test]
+fn nodes_of_accents() {
+    let long = ["é", &"\u{301}".repeat(127)].concat();
+    assert_eq!(long.len(), TEMPLATE_LIMIT);
+    assert_eq!(compile(ACCENTS, long.as_bytes()).unwrap()[..], [0, 1, 0, 2, 0, 128]);
+    assert_eq!(compile(Settings::new(), long.as_bytes()).unwrap()[..12], [0, 0, 2, 2, 0, 0, 2, 0, 2, 2, 0, 0]);
+
+    let text = "u\u{31b}\u{301}-\u{301}DD".as_bytes();
+    let each = [[0, 0, 1, 2, 0, 0], [1, 0, 2, 2, 0, 0], [3, 0, 2, 2, 0, 0], [5, 0, 1, 3, 0, 0], [6, 0, 2, 2, 0, 0]];
+    assert_eq!(compile(Settings::new(), text).unwrap()[..], [&each[..], &[[8, 0, 2, 1, 9, 0]]].concat().concat());
+    let accents = [[0, 0, 5, 2, 0, 128], [5, 0, 1, 3, 0, 128], [6, 0, 2, 2, 0, 128], [8, 0, 2, 1, 9, 128]];
+    assert_eq!(compile(ACCENTS, text).unwrap()[..], accents.concat());
+}
+
+/// Of any nodes and any text it is asked whether a mark counts alone. Without a byte that begins a mark, none does.
+#[test]
+fn any_nodes_have_lone_marks() {
+    let mut random = Random::new(1970);
+    let (mut found, mut none) = (0, 0);
+    for _ in 0..20_000 {
+        let nodes = nodes(&mut random, 60);
+        let text = random.bytes(b"aD-\"\xcc\x81\xcd\xb0", 40);
+        let is_found = has_lone_mark(&nodes, &text);
+        assert!(!is_found || text.iter().any(|byte| matches!(byte, 0xcc | 0xcd)));
+        *(if is_found { &mut found } else { &mut none }) += 1;
+    }
+    assert!(found > 100 && none > 100, "{found} have one, {none} have none");
 }
 
 /// The table ends where a report has no pattern; no place after it has a name. A final 0 always has room.

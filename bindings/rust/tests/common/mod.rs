@@ -2,14 +2,7 @@
 
 use sorbilgan::{date, format, instant, read, Moment, Parts, Refusal, Settings, Template};
 use std::fmt::Display;
-use std::path::Path;
-use std::{fs, str};
-
-/// The bytes of a file of the repository.
-pub fn file(path: &str) -> Vec<u8> {
-    let path = Path::new(env!("CARGO_MANIFEST_DIR")).join("../..").join(path);
-    fs::read(&path).unwrap_or_else(|why| panic!("{}: {why}", path.display()))
-}
+use std::str;
 
 /// The template and what follows the first TAB. A line that is longer than both may be is left whole, and is then too
 /// long as a template.
@@ -26,7 +19,8 @@ pub fn without_return(line: &[u8]) -> &[u8] {
 }
 
 /// The answer, by a template that is used once; by one that is compiled first it must be the same, on a flash card it
-/// must be the same within the smaller limits, and by a strict template unless the day is one that its month never has.
+/// must be the same within the smaller limits, by a strict template unless the day is one that its month never has, and
+/// with accents what is written, and what is read where there is no accent mark.
 pub fn answer(mode: &str, line: &[u8]) -> String {
     let (template, rest) = cut(if mode == "write" { without_return(line) } else { line });
     let once = match mode {
@@ -46,7 +40,19 @@ pub fn answer(mode: &str, line: &[u8]) -> String {
     if let Ok(strict) = Template::compile_with(template, Settings::new().strict(true)) {
         strictly(&strict, mode, rest, &once);
     }
+    let has_marks = may_have_marks(template) || may_have_marks(rest);
+    match Template::compile_with(template, Settings::new().accents(true)) {
+        Ok(accents) if mode == "write" || !has_marks => {
+            assert_eq!(compiled(&accents, mode, rest), once, "{mode} {accents:?}");
+        }
+        _ => {}
+    }
     once
+}
+
+/// Whether there is a first byte of U+0300 to U+037F.
+fn may_have_marks(text: &[u8]) -> bool {
+    text.iter().any(|byte| matches!(byte, 0xcc | 0xcd))
 }
 
 /// A strict template answers as others do, or refuses with 25. The time, the offset and the range of the answer are

@@ -7,21 +7,23 @@
 //! | `x` | template, another, input | read and written by the nodes of the other template |
 //! | any other | template, input | read by it, here and by the ported module |
 //!
-//! All callers do this, the exercise pages and the flash cards, strict and not. Beside the ported module their settings
-//! also have the mode's bits, moved up to 8 and above, where they mean nothing.
+//! With a capital letter the template is compiled and read in the new character mode. All callers do this, the exercise
+//! pages and the flash cards, strict and not. Beside the ported module their settings also have the mode's bits, moved
+//! up to 8 and above, where they mean nothing.
 #![no_main]
 
 use exports::agreement::{self, Template};
-use exports::archive::{self, CARDS, NODE, NODES, STRICT, Settings};
+use exports::archive::{self, ACCENTS, CARDS, NODE, NODES, STRICT, Settings};
 use exports::guarded::Guarded;
 use oracle::answers::{LONGEST, Limits, Moment, cut, numbers_of, records};
+use oracle::modes::{NEW, OLD};
 use oracle::questions::templates;
 use oracle::random::Random;
-use oracle::{birthdays, moments, pairs};
+use oracle::{birthdays, moments, pairs, strewn};
 use std::cell::RefCell;
 use std::ffi::{c_int, c_uint};
 
-const MODES: &[u8] = b"rrwnx";
+const MODES: &[u8] = b"rrwnxRRWNX";
 const UNSET: i64 = i64::MIN;
 const FILLER: u8 = 0xa5;
 const NONE: i64 = 112;
@@ -49,16 +51,18 @@ pub extern "C" fn LLVMFuzzerTestOneInput(data: *const u8, size: usize) -> c_int 
     let Some((mode, texts)) = bytes.split_first() else { return 0 };
     let (template, rest) = cut(texts);
     let bits = u32::from(*mode) << 3;
+    let module = if mode.is_ascii_uppercase() { &NEW } else { &OLD };
     GUARDED.with_borrow_mut(|[of_template, of_input, of_nodes, of_text]| {
         let template = of_template.lend(template);
-        match mode {
-            b'n' | b'x' => {
+        match mode.to_ascii_lowercase() {
+            kind @ (b'n' | b'x') => {
                 let (second, input) = cut(rest);
-                let nodes = if *mode == b'n' { changed(template, second) } else { nodes_of(second) };
+                let settings = module.accents.then_some(ACCENTS);
+                let nodes = if kind == b'n' { changed(settings, template, second) } else { nodes_of(settings, second) };
                 by_any_nodes(of_nodes.lend(&nodes), template, of_input.lend(input), of_text);
             }
-            b'w' => agreed(|| agreement::write(&Template::compiled(template, bits)?, &moment(rest), 512)),
-            _ => agreed(|| agreement::read(&Template::compiled(template, bits)?, of_input.lend(rest))),
+            b'w' => agreed(|| agreement::write(&Template::compiled(module, template, bits)?, &moment(rest), 512)),
+            _ => agreed(|| agreement::read(&Template::compiled(module, template, bits)?, of_input.lend(rest))),
         }
     });
     0
@@ -81,15 +85,15 @@ fn moment(bytes: &[u8]) -> Moment {
 }
 
 /// The nodes of a template; bytes that have none are nodes themselves.
-fn nodes_of(template: &[u8]) -> Vec<u8> {
+fn nodes_of(settings: Settings, template: &[u8]) -> Vec<u8> {
     let mut nodes = [0; NODES];
-    let length = archive::compile(template, &mut nodes);
+    let length = archive::compile_with(settings, template, &mut nodes);
     if length < 0 { template.to_vec() } else { nodes[..length as usize].to_vec() }
 }
 
 /// The nodes of a template, changed at places by three bytes each: the place and the byte that is put there.
-fn changed(template: &[u8], changes: &[u8]) -> Vec<u8> {
-    let mut nodes = nodes_of(template);
+fn changed(settings: Settings, template: &[u8], changes: &[u8]) -> Vec<u8> {
+    let mut nodes = nodes_of(settings, template);
     let length = nodes.len().max(1);
     for change in changes.chunks_exact(3) {
         let place = usize::from(u16::from_le_bytes([change[0], change[1]])) % length;
@@ -111,6 +115,7 @@ fn by_any_nodes(nodes: &[u8], template: &[u8], input: &[u8], of_text: &mut Guard
     let dates = |with, out: &mut archive::Value| archive::date_by_with(with, nodes, template, input, out);
     switched(is_never, all(within, dates));
     write_by_any_nodes(nodes, template, input, of_text);
+    assert!(archive::has_lone_mark(nodes, template) <= 1);
 }
 
 /// A day that its month can never have, where month and day are set and the year is not.
@@ -179,21 +184,23 @@ pub extern "C" fn LLVMFuzzerCustomMutator(data: *mut u8, size: usize, most: usiz
 
 fn change(random: &mut Random, bytes: &mut Vec<u8>) {
     let (template, _) = cut(bytes.get(1..).unwrap_or_default());
+    let [read, written] = [random.pick(b"rR"), random.pick(b"wW")];
     match random.below(9) {
-        0 => *bytes = [b"r".to_vec(), pairs::line(random)].concat(),
-        1 => *bytes = [b"w".to_vec(), moments::line(random)].concat(),
-        2 => *bytes = [b"r".to_vec(), birthdays::line(random)].concat(),
+        0 => *bytes = [vec![read], pairs::line(random)].concat(),
+        1 => *bytes = [vec![written], moments::line(random)].concat(),
+        2 => *bytes = [vec![read], birthdays::line(random)].concat(),
         3 => {
             let line = if random.once_in(2) { birthdays::line(random) } else { pairs::line(random) };
             *bytes = [vec![random.pick(MODES)], pairs::template(random), b"\t".to_vec(), line].concat();
         }
         4 => {
             let input = pairs::input(random, template);
-            *bytes = [b"r", template, b"\t", &input].concat();
+            *bytes = [&[read], template, b"\t", &input].concat();
         }
         _ => {
             let at = random.below(bytes.len() + 1);
-            bytes.splice(at..at, templates::piece(random));
+            let piece = if random.once_in(3) { strewn::marks(random) } else { templates::piece(random) };
+            bytes.splice(at..at, piece);
         }
     }
 }

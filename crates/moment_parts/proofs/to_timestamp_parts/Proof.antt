@@ -13,6 +13,7 @@ use Rattle.base_settings.specs.Limits.{templateLimit, inputLimit}
 use Rattle.base_settings.proofs.Most.{template-most, input-most}
 use Rattle.template_nodes.specs.declared.Node.{Node}
 use Rattle.template_nodes.proofs.Encoding.{parsed-nodes, parsed-room}
+use Rattle.template_nodes.proofs.Nodes.{small-nodes}
 use Rattle.moment_parts.specs.Parts.{answerBy}
 use Rattle.moment_parts.proofs.Limits.{long-template, long-input, bad-text, read-by}
 use Rattle.moment_parts.proofs.to_timestamp_parts.Statement.{statement}
@@ -67,7 +68,7 @@ returns-4 c =
     let within-limits = after-utf8-test .before .before in
     let args = start (within-limits .before .before) .args in
     c .parts-within .ensures
-    ∙ ap (λ (ns : List Node). answerBy (args .set .strict) ns (now (args .t)) (now (args .s))) (parsed-nodes (after-parse .parse-format .ensures))
+    ∙ ap (λ (ns : List Node). answerBy (args .set .strict) ns (now (args .t)) (now (args .s))) (parsed-nodes (after-parse .parse-format .ensures) (small-nodes (args .set .accents) (now (args .t))))
     ∙ read-by _ _ _ (short (within-limits .before .before)) (small within-limits)
     (sym (after-utf8-test .before .are-utf8 .ensures) ∙ not-false _ (after-utf8-test .if3 .left))
 

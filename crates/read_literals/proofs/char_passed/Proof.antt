@@ -9,7 +9,7 @@ use Rattle.read_literals.proofs.char_passed.Tie as tie
 returns : tie.Need-returns
 returns c =
     let p = c .before .before .args .p in
-    ap (λ (n : ℕ). atPlace p (p .at + n)) (c .pg-mblen .ensures .is)
+    ap (λ (n : ℕ). atPlace p (p .at + n)) (c .measure .ensures .is)
 
 pub char-passed-spec : {M : Type 1} → statement M
 char-passed-spec = tie.close (tie.spec (λ c κs. search needs) (λ c. search needs) returns)

@@ -1,5 +1,5 @@
--- `template_nodes::action_step` meets its contract: the suffix is the definition's, and a name of up to five bytes and
--- a suffix of up to two make seven at most. Assumes nothing.
+-- `template_nodes::action_step` meets its contract: the suffix is the definition's, and the step ends after it.
+-- Assumes nothing.
 use mathlib.Core.Path.{_≡_, _∙_, ap}
 use mathlib.Core.Bool.{false}
 use Prim.Native.Nat.{ℕ, _+_, _≤_}
@@ -8,7 +8,6 @@ use borrow.Author.Needs.{needs}
 use denote.Ref.{now}
 use lib.Bits.{bitOr}
 use Rattle.template_patterns.specs.Affixes.{affixLength, bitAt}
-use Rattle.template_patterns.proofs.Affixes.{affix-short}
 use Rattle.template_nodes.specs.Template.{make, pattern}
 use Rattle.template_nodes.proofs.action_step.Statement.{statement}
 use Rattle.template_nodes.proofs.action_step.Tie as tie
@@ -17,11 +16,9 @@ returns : tie.Need-returns
 returns c =
     let suffix = c .before .fmt-suffix-search in
     let next-is = c .past-affix .ensures in
-    let short = affix-short (suffix .result) in
     record {
       is = rw (next-is, suffix .ensures);
       on = omega (arith, next-is);
-      near = omega (arith, next-is, short);
     }
 
 pub action-step-spec : {M : Type 1} → statement M

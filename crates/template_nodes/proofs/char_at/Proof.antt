@@ -1,23 +1,21 @@
--- `template_nodes::char_at` meets its contract: `pg_mblen` gives the length of the character, 1 to 4 bytes.
--- Assumes nothing.
+-- `template_nodes::char_at` meets its contract: `measure` gives the length of the character. Assumes nothing.
 use mathlib.Core.Path.{ap}
 use Prim.Native.Nat.{ℕ, _+_}
 use native.Mathlib.Omega.{arith}
 use borrow.Author.Needs.{needs}
-use Rattle.template_nodes.specs.Template.{literal, make}
+use Rattle.template_nodes.specs.Template.{inMode, literal, make}
 use Rattle.template_nodes.proofs.char_at.Statement.{statement}
 use Rattle.template_nodes.proofs.char_at.Tie as tie
 
 returns : tie.Need-returns
 returns c =
     let args = c .before .before .args in
-    let measured = c .pg-mblen .ensures in
+    let measured = c .measure .ensures in
     record {
-      is = ap (λ (n : ℕ). make (literal (args .kind) (args .at) n) (args .at + n) (args .quoted)) (measured .is);
+      is = ap (λ (n : ℕ). make (inMode (args .accents) (literal (args .kind) (args .at) n)) (args .at + n) (args .quoted)) (measured .is);
       on = omega (arith, measured .some);
-      near = omega (arith, measured .most);
     }
 
 pub char-at-spec : {M : Type 1} → statement M
 char-at-spec =
-    tie.close (tie.spec (λ c κs. search needs) (λ c. search needs) (λ c. search needs) (λ c. search needs) returns)
+    tie.close (tie.spec (λ c κs. search needs) (λ c. search needs) (λ c. omega (arith, c .measure .ensures .within)) (λ c. search needs) returns)

@@ -12,31 +12,34 @@ use Rattle.template_nodes.proofs.Encoding.{node-in, nodes-length}
 use Rattle.template_nodes.proofs.node_at.Statement.{statement}
 use Rattle.template_nodes.proofs.node_at.Tie as tie
 
--- the low byte of the start fits 16 bits
-cast-t9 : tie.Need-cast-t9
-cast-t9 c = omega (arith, c .shared-slice-known .given (6 * c .before .before .args .i))
-
--- the high byte of the start
+-- the high byte of the length
 abbrev at-high : tie.After-shared-slice-known2 → ℕ
 at-high c = 6 * c .before .before .before .args .i + 1
 
 high : (c : tie.After-shared-slice-known2) → getD (now (c .before .before .before .args .c)) (at-high c) 0 < 256
 high c = omega (arith, c .shared-slice-known2 .given (at-high c))
 
--- the high byte fits 16 bits, and so do its product with 256 and the sum with the low byte
-cast-t13 : tie.Need-cast-t13
-cast-t13 c = omega (arith, high c)
+-- it fits 16 bits, and so do its product with 256 and the sum with the low byte
+cast-t12 : tie.Need-cast-t12
+cast-t12 c = omega (arith, high c)
 
-mul-t14 : tie.Need-mul-t14
-mul-t14 c = omega (arith, high c)
+mul-t13 : tie.Need-mul-t13
+mul-t13 c = omega (arith, high c)
 
-add-t15 : tie.Need-add-t15
-add-t15 c = omega (arith, high c, c .before .shared-slice-known .given (6 * c .before .before .before .args .i))
+-- the low byte
+low : (c : tie.After-shared-slice-known3) → let args = c .before .before .before .before .args in getD (now (args .c)) (6 * args .i + 2) 0 < 256
+low c = omega (arith, c .shared-slice-known3 .given (6 * c .before .before .before .before .args .i + 2))
+
+cast-t17 : tie.Need-cast-t17
+cast-t17 c = omega (arith, low c)
+
+add-t18 : tie.Need-add-t18
+add-t18 c = omega (arith, high (c .before), low c)
 
 -- a node
 returns : tie.Need-returns
 returns c =
-    let at-test = c .before .before .before .before .before .before in
+    let at-test = c .before .before .before .before .before .before .before in
     node-in _ (at-test .before .args .i) (at-test .if1 .taken)
 
 -- past the last node
@@ -51,12 +54,14 @@ node-at-spec =
     (tie.spec
     (λ c. search needs)
     (λ c. search needs)
-    cast-t9
     (λ c. search needs)
     (λ c. search needs)
-    cast-t13
-    mul-t14
-    add-t15
+    cast-t12
+    mul-t13
+    (λ c. search needs)
+    (λ c. search needs)
+    cast-t17
+    add-t18
     (λ c. search needs)
     (λ c. search needs)
     (λ c. search needs)

@@ -12,13 +12,13 @@ use Rattle.template_nodes.proofs.parse_format.Statement.{statement}
 use Rattle.template_nodes.proofs.parse_format.Tie as tie
 
 abbrev Inv-loop : tie.InvT-loop
-Inv-loop t out₀ index names n₀ at₀ quoted₀ out n at quoted = (n ≤ at) × (n ≤ 256) × (length out ≡ length out₀) × Read t out₀ out n at quoted
+Inv-loop accents t out₀ index names n₀ at₀ quoted₀ out n at quoted = (n ≤ at) × (n ≤ 256) × (length out ≡ length out₀) × Read accents t out₀ out n at quoted
 
 abbrev μ-loop : tie.MeasureT-loop
-μ-loop t out₀ index names n₀ at₀ quoted₀ out n at quoted = length t - at
+μ-loop accents t out₀ index names n₀ at₀ quoted₀ out n at quoted = length t - at
 
 loop-holds : tie.Need-loop-holds Inv-loop μ-loop
-loop-holds c = (omega arith, omega arith, refl, begun _ _)
+loop-holds c = (omega arith, omega arith, refl, begun _ _ _)
 
 -- there is room for one node more
 put-node-requires : tie.Need-put-node-requires Inv-loop μ-loop
@@ -42,8 +42,8 @@ loop-again c =
       omega arith,
       search needs,
       rw (put, ← in-quotes (now (args .t)) (turn .at) (turn .quoted) plain, ← ap (λ (x : Step). x .quoted) char-is)
-          (kept (now (args .t)) (now (args .out)) (turn .n) (turn .at) (turn .quoted) (after-char .char-at .result)
-          (char-is ∙ plain-step (now (args .t)) (turn .at) (turn .quoted) plain) (search needs) (after-char .char-at .ensures .on) (turn .inv .3)
+          (kept (args .accents) (now (args .t)) (now (args .out)) (turn .n) (turn .at) (turn .quoted) (after-char .char-at .result)
+          (char-is ∙ plain-step (args .accents) (now (args .t)) (turn .at) (turn .quoted) plain) (search needs) (after-char .char-at .ensures .on) (turn .inv .3)
           (omega arith) (ap (λ (x : Step). x .made) char-is)),
     )
 
@@ -72,7 +72,7 @@ loop-again-2 c =
       omega arith,
       search needs,
       rw put
-          (kept (now (args .t)) (now (args .out)) (turn .n) (turn .at) (turn .quoted) (step .result) (step .ensures .is) (search needs)
+          (kept (args .accents) (now (args .t)) (now (args .out)) (turn .n) (turn .at) (turn .quoted) (step .result) (step .ensures .is) (search needs)
           (step .ensures .on) (turn .inv .3) (omega arith) (at-made .if2 .taken)),
     )
 
@@ -89,7 +89,7 @@ loop-again-3 c =
       omega (arith, step .ensures .on),
       search needs,
       search needs,
-      passed (now (args .t)) (now (args .out)) (turn .n) (turn .at) (turn .quoted) (step .result) (step .ensures .is) (search needs)
+      passed (args .accents) (now (args .t)) (now (args .out)) (turn .n) (turn .at) (turn .quoted) (step .result) (step .ensures .is) (search needs)
           (step .ensures .on) (turn .inv .3) (c .if2 .left),
     )
 
@@ -97,7 +97,7 @@ same-length : tie.Need-same-length Inv-loop μ-loop
 same-length c = c .before .loop .inv .2
 
 returns : tie.Need-returns Inv-loop μ-loop
-returns c = let turn = c .before .loop in ended _ _ _ _ _ _ (turn .inv .3) (turn .inv .1) (search needs)
+returns c = let turn = c .before .loop in ended _ _ _ _ _ _ _ (turn .inv .3) (turn .inv .1) (search needs)
 
 pub parse-format-spec : {M : Type 1} → statement M
 parse-format-spec =

@@ -1,10 +1,9 @@
--- `template_nodes::plain_step` meets its contract: the prefix is the definition's; its two bytes at most and the seven
--- of an element make nine. Assumes nothing.
+-- `template_nodes::plain_step` meets its contract: the prefix is the definition's, and what follows it is an element.
+-- Assumes nothing.
 use mathlib.Core.Path.{ap}
 use native.Mathlib.Omega.{arith}
 use borrow.Author.Needs.{needs}
 use borrow.Author.Tests.{lt-ltb, le-ltb}
-use Rattle.template_patterns.proofs.Affixes.{affix-short}
 use Rattle.template_nodes.specs.Template.{plainAt}
 use Rattle.template_nodes.specs.declared.Step.{Step}
 use Rattle.template_nodes.proofs.plain_step.Statement.{statement}
@@ -18,11 +17,9 @@ returns c =
     let prefix = after-start .before .fmt-suffix-search in
     let start-is = after-start .past-affix .ensures in
     let step = c .element-step .ensures in
-    let short = affix-short (prefix .result) in
     record {
       is = rw (← prefix .ensures, ← start-is, lt-ltb _ _ (c .before .if1 .taken)) (step .is);
       on = omega (arith, step .on, start-is);
-      near = omega (arith, step .near, start-is, short);
     }
 
 -- a prefix at the end: it is dropped
@@ -33,11 +30,9 @@ returns-2 c =
     let prefix = after-start .before .fmt-suffix-search in
     let start-is = after-start .past-affix .ensures in
     let next-is = ap (λ (s : Step). s .next) (c .skipped .ensures) in
-    let short = affix-short (prefix .result) in
     record {
       is = rw (← prefix .ensures, ← start-is, le-ltb _ _ (c .before .if1 .left)) (c .skipped .ensures);
       on = omega (arith, next-is, start-is);
-      near = omega (arith, next-is, start-is, short);
     }
 
 pub plain-step-spec : {M : Type 1} → statement M

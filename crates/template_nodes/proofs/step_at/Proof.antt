@@ -1,6 +1,5 @@
 -- `template_nodes::step_at` meets its contract: in quotes there are literals only, as in the definition.
 -- Assumes nothing.
-use native.Mathlib.Omega.{arith}
 use borrow.Author.Needs.{needs}
 use Rattle.template_nodes.specs.Template.{stepAt}
 use Rattle.template_nodes.proofs.step_at.Statement.{statement}
@@ -9,9 +8,7 @@ use Rattle.template_nodes.proofs.step_at.Tie as tie
 -- in quotes
 returns : tie.Need-returns
 unfolding stepAt
-returns c =
-    let step = c .literal-step .ensures in
-    rw (c .before .if1 .taken) (record { is = step .is; on = step .on; near = omega (arith, step .near) })
+returns c = rw (c .before .if1 .taken) (c .literal-step .ensures)
 
 -- outside quotes
 returns-2 : tie.Need-returns-2

@@ -15,7 +15,7 @@ use Rattle.write_text.proofs.text_length.Tie as tie
 
 abbrev Inv-loop : tie.InvT-loop
 Inv-loop table c t m total₀ i₀ total i =
-    (i ≤ length c / 6) × (total ≤ 255 * i) × (total + length (nodesText t m (drop i (nodesIn c))) ≡ length (textIn c t m))
+    (i ≤ length c / 6) × (total ≤ 65535 * i) × (total + length (nodesText t m (drop i (nodesIn c))) ≡ length (textIn c t m))
 
 abbrev μ-loop : tie.MeasureT-loop
 μ-loop table c t m total₀ i₀ total i = length c / 6 - i
@@ -31,7 +31,7 @@ loop-again c =
     let here-is = rw (after-node .node-at .ensures) at (c .node-length .ensures .0) in
     (omega (arith, taken), omega (arith, c .node-length .ensures .1), omega (arith, left-is, here-is, at-loop .loop .inv .2))
 
--- all nodes are measured; 256 nodes of 255 bytes at most are below 65536
+-- all nodes are measured; 256 nodes of 65,535 bytes at most are 16,776,960
 returns : tie.Need-returns Inv-loop μ-loop
 returns c =
     let at-loop = c .before in

@@ -1,5 +1,6 @@
 -- `write_text::write` meets its contract: what is no template is refused, and any other is written by its nodes.
 -- Assumes nothing.
+use mathlib.Core.Bool.{false}
 use mathlib.Core.Path.{_∙_, sym}
 use mathlib.Core.List.{List}
 use Prim.Native.Nat.{ℕ, _*_, _≤_}
@@ -14,7 +15,7 @@ use Rattle.base_settings.proofs.Most.{template-most}
 use Rattle.template_nodes.specs.Bytes.{Parsed}
 use Rattle.template_nodes.specs.Template.{nodesOf}
 use Rattle.template_nodes.proofs.Encoding.{parsed-nodes, parsed-room}
-use Rattle.template_nodes.proofs.Nodes.{count-within}
+use Rattle.template_nodes.proofs.Nodes.{count-within, small-nodes}
 use Rattle.write_text.proofs.Answers.{too-long, not-utf8, by-nodes}
 use Rattle.write_text.proofs.write.Statement.{statement}
 use Rattle.write_text.proofs.write.Tie as tie
@@ -31,7 +32,7 @@ short c = omega arith
 few-bytes : {limit : ℕ} (t : List ℕ) {before after : List ℕ} {r : ℕ} → length t ≤ limit → Parsed (nodesOf t) before after r
     → length (take (6 * r) after) ≤ 6 * limit
 few-bytes t {after = after} {r = r} short p =
-    omega (arith, length-take-le (6 * r) after (parsed-room p), p .count, count-within t)
+    omega (arith, length-take-le (6 * r) after (parsed-room p), p .count, count-within false t)
 
 -- the template is over its limit
 returns : tie.Need-returns
@@ -62,7 +63,7 @@ returns-3 c =
     let args = start within-limit .args in
     by-nodes (args .set) (now (args .t)) (args .m) (now (args .out)) (short within-limit)
     (sym (after-utf8-test .before .is-utf8 .ensures) ∙ not-false _ (after-utf8-test .if2 .left))
-    _ (few-bytes (now (args .t)) (short within-limit) (after-parse .parse-format .ensures)) (parsed-nodes (after-parse .parse-format .ensures))
+    _ (few-bytes (now (args .t)) (short within-limit) (after-parse .parse-format .ensures)) (parsed-nodes (after-parse .parse-format .ensures) (small-nodes false (now (args .t))))
     (after-write .write-by .ensures)
 
 pub write-spec : {M : Type 1} → statement M

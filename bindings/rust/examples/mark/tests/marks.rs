@@ -3,11 +3,15 @@
 use super::answer;
 use crate::marks::{mark, Mark};
 use crate::reach::closing;
-use sorbilgan::{format, Cause, Moment, Template, INPUT_LIMIT};
+use sorbilgan::{format, Cause, Moment, Settings, Template, INPUT_LIMIT};
 
 /// The mark's name, and the text that goes with it.
 fn marked(template: &str, line: impl AsRef<[u8]>) -> (&'static str, Option<String>) {
-    let mark = mark(&Template::compile(template).unwrap(), line.as_ref());
+    marked_with(Settings::new(), template, line)
+}
+
+fn marked_with(settings: Settings, template: &str, line: impl AsRef<[u8]>) -> (&'static str, Option<String>) {
+    let mark = mark(&Template::compile_with(template, settings).unwrap(), line.as_ref());
     let name = mark.name();
     match mark {
         Mark::Otherwise(_, text) => (name, Some(text)),
@@ -145,6 +149,20 @@ fn the_last_literal_is_missing() {
     }
     // spaces that are skipped after a number pay for literals
     assert_eq!(marked(r#"HH24"   ""#, "9   "), with("otherwise", "09   "));
+}
+
+/// With accents a line reaches the end of a template that has more characters, and not of one that has more letters.
+#[test]
+fn the_last_letter_has_accents() {
+    let typed = |line: &str| line.replace('ờ', "o\u{31b}\u{300}");
+    let accents = Settings::new().accents(true);
+    for template in [r#"HH24" giờ""#, r#"HH24" giờ"#, r#"HH24 "giờ""#].map(typed) {
+        let text = typed("09 giờ");
+        assert_eq!(marked_with(accents, &template, &text), alone("ok"), "{template}");
+        assert_eq!(marked_with(accents, &template, "09 giờ"), with("otherwise", &text), "{template}");
+        assert_eq!(marked_with(accents, &template, "09 gi"), with("incomplete", &text), "{template}");
+        assert_eq!(marked(&template, "09 giờ"), with("incomplete", &text), "{template}");
+    }
 }
 
 /// Quotes that do not end, and quotes and backslashes that are characters.

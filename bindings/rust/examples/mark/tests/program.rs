@@ -68,7 +68,7 @@ fn control_characters_of_the_template() {
 
 #[test]
 fn help() {
-    for arguments in [&["--help"][..], &["--json", "--help"], &["--help", "--strict"], &["YYYY", "--help"]] {
+    for arguments in [&["--help"][..], &["--json", "--help"], &["--help", "--strict"], &["--accents", "--help"]] {
         let answer = answer(arguments, "2024\n");
         assert_eq!((answer.status, answer.output(), &*answer.errors), (0, HELP, ""), "{arguments:?}");
     }
@@ -80,7 +80,7 @@ fn wrong_usage() {
     for (arguments, why) in [
         (&[][..], "the template is missing"),
         (&["--json"], "the template is missing"),
-        (&["--strict", "--json"], "the template is missing"),
+        (&["--strict", "--json", "--accents"], "the template is missing"),
         (&["--"], "the template is missing"),
         (&["YYYY", "file", "more"], "there are more arguments than a template and a file"),
         (&["--xml", "YYYY"], "there is no option --xml; a template may begin with - after --"),
@@ -88,7 +88,7 @@ fn wrong_usage() {
         (&["-DD"], "there is no option -DD; a template may begin with - after --"),
     ] {
         let answer = answer(arguments, "2024\n");
-        let usage = "usage: mark [--json] [--strict] TEMPLATE [FILE]; mark --help explains it";
+        let usage = "usage: mark [--accents] [--json] [--strict] TEMPLATE [FILE]; mark --help explains it";
         let wanted = format!("mark: {why}\n{usage}\n");
         assert_eq!((answer.status, answer.output(), &answer.errors), (2, "", &wanted), "{arguments:?}");
     }
@@ -118,6 +118,31 @@ fn strict() {
         let [lenient, strict] = [&["DD.MM.YYYY"][..], &["--strict", "DD.MM.YYYY"]].map(|words| answer(words, lines));
         assert_eq!((lenient.status, lenient.output()), (strict.status, strict.output()));
     }
+}
+
+/// A letter that is typed as several characters is one by the option alone, wherever it is given; the line is then
+/// spelled otherwise. All else is marked as without it.
+#[test]
+fn accents() {
+    let template = r#""thứ"DD.MM"#;
+    let [composed, typed, more] = ["thứ05.03", "thu\u{31b}\u{301}05.03", "thu\u{31b}\u{301}"];
+    let lines = [composed, typed, more].map(|line| format!("{line}\n")).concat();
+    let ok = format!("ok\t0000-03-05 00:00:00\t{composed}\n");
+    let early = "incomplete\tthe line ends before the template does; what was read is written thứ01.01\t";
+    let each = answer(&[template], &lines);
+    let refused = [typed, more].map(|line| format!("7\tno integer at DD\t{line}\n")).concat();
+    assert_eq!((each.status, each.output()), (1, &*format!("{ok}{refused}")));
+
+    let otherwise = format!("otherwise\taccepted, but spelled otherwise; expected {composed}\t{typed}\n");
+    for arguments in [["--accents", template], [template, "--accents"]] {
+        let accents = answer(&arguments, &lines);
+        assert_eq!((accents.status, accents.output()), (0, &*format!("{ok}{otherwise}{early}{more}\n")));
+        assert_eq!(accents.errors, "mark: 3 lines, 1 ok, 1 otherwise, 1 incomplete\n");
+    }
+    // both options at once
+    let both = answer(&["--strict", "--accents", template], "thu\u{31b}\u{301}30.02\nthứ29.02\n");
+    let never = "25\ta day that its month never has\tthu\u{31b}\u{301}30.02\n";
+    assert_eq!(both.output(), format!("{never}ok\t0000-02-29 00:00:00\tthứ29.02\n"));
 }
 
 #[test]

@@ -24,6 +24,18 @@ fn words_of_a_command() {
     assert_eq!(words(r#"--json '"a "DD' b'c d'"#), ["--json", r#""a "DD"#, "bc d"]);
 }
 
+/// What printf prints: `\n` is a newline, and `\u` with four digits a character.
+fn printed(text: &str) -> String {
+    let mut pieces = text.split("\\u");
+    let mut shown = pieces.next().unwrap_or_default().to_string();
+    for piece in pieces {
+        let (code, rest) = piece.split_at(4);
+        shown.push(u32::from_str_radix(code, 16).ok().and_then(char::from_u32).unwrap());
+        shown += rest;
+    }
+    shown.replace("\\n", "\n")
+}
+
 /// `$ printf 'LINES' | cargo run -q --example mark -- ARGUMENTS`; below it are the output, and the counts last.
 #[test]
 fn commands() {
@@ -32,16 +44,16 @@ fn commands() {
     let mut count = 0;
     while let Some(line) = shown.next() {
         let Some(command) = line.strip_prefix("$ printf '") else { continue };
-        let Some((printed, arguments)) = command.split_once("' | cargo run -q --example mark -- ") else { continue };
+        let Some((lines, arguments)) = command.split_once("' | cargo run -q --example mark -- ") else { continue };
         let mut wanted = String::new();
         while let Some(line) = shown.next_if(|line| !line.starts_with("$ ") && !line.starts_with("```")) {
             wanted += &format!("{line}\n");
         }
         let words = words(arguments);
         let arguments: Vec<&str> = words.iter().map(String::as_str).collect();
-        let answer = answer(&arguments, printed.replace("\\n", "\n"));
+        let answer = answer(&arguments, printed(lines));
         assert_eq!(format!("{}{}", answer.output(), answer.errors), wanted, "{arguments:?}");
         count += 1;
     }
-    assert_eq!(count, 3);
+    assert_eq!(count, 5);
 }

@@ -10,7 +10,7 @@ returns c =
     let fourth = c .before .before in
     let third = fourth .before .before .before .before .before in
     let second = third .before .before .before .before .before in
-    let first = second .before .before .before .before .before in
+    let first = second .before .before .before .before in
     let two = put-then _ _ (first .put-field .ensures) (second .put-field2 .ensures) in
     put-then _ _ (put-then _ _ two (third .put-field3 .ensures)) (fourth .put-field4 .ensures)
 
@@ -18,8 +18,8 @@ pub put-fields-spec : {M : Type 1} → statement M
 put-fields-spec =
     tie.close
     (tie.spec
-    (λ c κs. search needs)
     (λ c. search needs)
+    (λ c κs. search needs)
     (λ c κs. search needs)
     (λ c. search needs)
     (λ c κs. search needs)

@@ -1,10 +1,12 @@
 -- `replay::questions::put_nodes` meets its contract: by the invariant, what was put, then the nodes that are left, are
 -- the template's. Assumes nothing.
+use mathlib.Core.Bool.{false}
 use mathlib.Core.Path.{_∙_}
 use Prim.Native.Nat.{_-_}
 use native.Mathlib.Omega.{arith}
 use borrow.Author.Needs.{needs}
 use Rattle.template_nodes.specs.Template.{nodesOf}
+use Rattle.template_nodes.proofs.Nodes.{small-nodes}
 use Rattle.line_buffers.proofs.Puts.{put-size}
 use Rattle.replay.proofs.Nodes.{Listed, begun, ended, more, node-is}
 use Rattle.replay.proofs.questions.put_nodes.Statement.{statement}
@@ -21,7 +23,7 @@ loop-again c =
     let after-node = c .before .before .before .before in
     let at-loop = after-node .before .before .before in
     let parsed = at-loop .before .before .parse-format .ensures in
-    more (at-loop .loop .inv) _ (omega (arith, parsed .count)) (after-node .node-at .ensures ∙ node-is parsed _ (omega arith)) (c .before .before .put-node .ensures)
+    more (at-loop .loop .inv) _ (omega (arith, parsed .count)) (after-node .node-at .ensures ∙ node-is (small-nodes false _) parsed _ (omega arith)) (c .before .before .put-node .ensures)
 
 -- no node is left
 returns : tie.Need-returns Inv-loop μ-loop

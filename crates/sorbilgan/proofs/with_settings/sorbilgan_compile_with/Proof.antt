@@ -43,7 +43,9 @@ returns-3 : tie.Need-returns-3
 returns-3 c =
     let at-test = c .before .before in
     let after-utf8 = at-test .before in
-    parsed _ _ _ (short (after-utf8 .before)) (sym (after-utf8 .is-utf8 .ensures) ∙ not-false _ (at-test .if2 .left)) (c .parse-format .ensures)
+    let set-is = after-utf8 .before .before .before .settings-of .ensures in
+    parsed _ _ _ (short (after-utf8 .before)) (sym (after-utf8 .is-utf8 .ensures) ∙ not-false _ (at-test .if2 .left))
+    (rw set-is at (c .parse-format .ensures))
 
 pub sorbilgan-compile-with-spec : {M : Type 1} → statement M
 sorbilgan-compile-with-spec =
