@@ -49,4 +49,5 @@ compile-once set t short utf8 =
             text-in-both t m (set .accents),
           );
       text = λ m. rw (back set t) (text-in-both t m (set .accents));
+      lone = rw (back set t);
     }

@@ -10,6 +10,8 @@ use Rattle.base_chars.specs.Utf8.{wellFormed}
 use Rattle.moment_instants.specs.ByTemplate.{dateOf, dayBy, instantBy, timestampOf}
 use Rattle.moment_parts.specs.Parts.{partsBy, partsOf}
 use Rattle.template_nodes.specs.Bytes.{nodesIn}
+use Rattle.template_nodes.specs.Joined.{hasLoneMark}
+use Rattle.template_nodes.specs.Template.{nodesBy}
 use Rattle.write_text.specs.Text.{textOf}
 use Rattle.write_text.specs.Writer.{textIn, writtenIn, writtenTo}
 use Rattle.write_pieces.specs.declared.Moment.{Moment}
@@ -22,6 +24,8 @@ pub record SameAnswers (set : Settings) (t : List ℕ) : Type 0 where
   pub day : (s : List ℕ) → dayBy (partsBy set (nodesIn (compiled set t)) t s) ≡ dateOf set t s
   pub written : (m : Moment) (room : ℕ) → writtenIn set (compiled set t) t m room ≡ writtenTo set t m room
   pub text : (m : Moment) → textIn (compiled set t) t m ≡ textOf t m
+  -- and whether a mark counts alone in the template, in the caller's mode
+  pub lone : hasLoneMark t (nodesIn (compiled set t)) ≡ hasLoneMark t (nodesBy (set .accents) t)
 
 -- by every template that is compiled, for every caller
 abbrev pub CompileOnce : Type 0
