@@ -2,6 +2,7 @@
 -- `short-read`: digits that were all read, of a number below 1,000,000,000, are such a number.
 -- `short-not`: where nine digits that matter are followed by one more, there is none.
 -- `short-small`: such a number is below 1,000,000,000.
+-- `short-from`: it ends at its place or after it.
 -- `short-strtol`: where the place moves, it is what strtol reads there.
 use mathlib.Core.Path.{_≡_, _∙_, refl, sym, ap}
 use mathlib.Core.Bool.{true, false}
@@ -51,6 +52,10 @@ module _ (s : List ℕ) (at : ℕ) where
   unfolding shortAt
   short-small =
       by-if (λ (r : Short). r .value < 1000000000) (ltb (number (drop at s)) 1000000000) _ _ (λ e. ltb-true _ _ e) (λ e. omega arith)
+
+  pub short-from : at ≤ shortAt s at .end
+  unfolding shortAt
+  short-from = by-if (λ (r : Short). at ≤ r .end) (ltb (number (drop at s)) 1000000000) _ _ (λ e. omega arith) (λ e. omega arith)
 
   pub short-strtol : (shortAt s at .end ≡ at → ⊥) → strtol s at ≡ answer (pos (shortAt s at .value)) (shortAt s at .end) false
   unfolding shortAt

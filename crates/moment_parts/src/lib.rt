@@ -25,7 +25,6 @@ use moment_time::offset_of;
 use moment_time::second_of;
 use moment_time::time_in_range;
 use read_fields::Fields;
-use read_fields::Reading;
 use read_fields::Verdict;
 use read_fields::field;
 use template_nodes::NODE;
@@ -118,13 +117,11 @@ pub fn moment_of(strict: bool, f: Fields) -> Answer
 }
 
 // The answer once the fields are read.
-fn answered(strict: bool, r: Reading) -> Answer
-    ensures { λ a. ⌜ a ≡ thenFields strict (r .verdict) (r .fields) ⌝ }
+fn answered(strict: bool, verdict: Verdict, f: Fields) -> Answer
+    ensures { λ a. ⌜ a ≡ thenFields strict verdict f ⌝ }
 {
-    let verdict = r.verdict;
-    let fields = r.fields;
     match verdict {
-        Verdict::Read => moment_of(strict, fields),
+        Verdict::Read => moment_of(strict, f),
         Verdict::Refused(why) => Answer::Refused(Unread::By(why)),
     }
 }
@@ -134,7 +131,9 @@ fn parts_within(strict: bool, c: &[u8], t: &[u8], s: &[u8]) -> Answer
     requires { ⌜ length (now s) ≤ 512 ⌝ }
     ensures { λ a. ⌜ a ≡ answerBy strict (nodesIn (now (c .entry))) (now (t .entry)) (now (s .entry)) ⌝ }
 {
-    answered(strict, read_input::dch_from_char(c, t, s))
+    let mut values = [0; 24];
+    let read = read_input::dch_from_char(c, t, s, &mut values);
+    answered(strict, read.verdict, Fields { values })
 }
 
 // The parts of an input by the nodes that any bytes hold. t is the template that they were made from.

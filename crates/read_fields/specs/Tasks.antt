@@ -9,8 +9,7 @@ use lib.Dec.{eqb}
 use Rattle.base_notation.specs.Choice.{if_then_else_}
 use Rattle.base_notation.specs.Text.{utf8}
 use Rattle.base_chars.specs.Fold.{folded}
-use Rattle.template_patterns.specs.Patterns.{nameOf}
-use Rattle.template_patterns.specs.Search.{countFrom}
+use Rattle.template_patterns.specs.Patterns.{nameOf, patternOf}
 use Rattle.read_fields.specs.Fields as F
 use Rattle.read_fields.specs.declared.Task.{Task}
 
@@ -208,13 +207,13 @@ pub record Assigned (k : ℕ) (r : Task) : Type 0 where
 abbrev pub packed : Task → ℕ
 packed t = t .operand * 4096 + t .rule * 256 + t .kind * 32 + t .field
 
--- the tasks of the table's patterns
-unfoldable pub taskTable : List ℕ
-taskTable = map (λ (k : ℕ). packed (taskOf k)) (countFrom 0 112)
+-- the task and the date mode of the pattern number k in one number
+abbrev pub rowOf : ℕ → ℕ
+rowOf k = patternOf k .mode * 65536 + packed (taskOf k)
 
--- DD and dd, IDDD, Month
+-- DD and dd, IDDD, Month; DD is a date of the Gregorian calendar
 pub worked
     : (taskOf 9 ≡ task number F.dd plain 2) × (taskOf 67 ≡ task number F.dd plain 2) × (taskOf 24 ≡ task number F.ddd plain 3)
-    × (taskOf 37 ≡ task word F.mm month monthsFull)
+    × (taskOf 37 ≡ task word F.mm month monthsFull) × (rowOf 9 ≡ 0x12047)
 unfolding taskOf
-worked = (refl, refl, refl, refl)
+worked = (refl, refl, refl, refl, refl)

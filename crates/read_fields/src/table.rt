@@ -1,6 +1,7 @@
 // What reading each pattern does, in table order.
 ghost use mathlib.Core.Path.{_≡_};
-ghost use Rattle.read_fields.specs.Tasks.{Assigned, taskTable};
+ghost use Rattle.template_patterns.specs.Patterns.{patternOf};
+ghost use Rattle.read_fields.specs.Tasks.{Assigned, rowOf};
 use crate::Task;
 
 // The kinds of a task.
@@ -66,142 +67,140 @@ pub const AD_BC_LONG: u8 = 7;
 
 pub const ROMAN_MONTHS: u8 = 8;
 
-// A task in one number: its operand, its rule, its kind and its field have 4, 4, 3 and 5 bits. A row for each pattern.
-const TASKS: [u16; 112] = [
-    0x706c, // A.D.
-    0x5162, // A.M.
-    0x606c, // AD
-    0x4162, // AM
-    0x706c, // B.C.
-    0x606c, // BC
-    0x204f, // CC
-    0x2366, // DAY
-    0x3048, // DDD
-    0x2047, // DD
-    0x3366, // DY
-    0x2366, // Day
-    0x3366, // Dy
-    0x1046, // D
-    0x1451, // FF1
-    0x2451, // FF2
-    0x3451, // FF3
-    0x4451, // FF4
-    0x5451, // FF5
-    0x6451, // FF6
-    0x0020, // FX
-    0x2041, // HH24
-    0x2141, // HH12
-    0x2141, // HH
-    0x3048, // IDDD
-    0x1546, // ID
-    0x204d, // IW
-    0x464b, // IYYY
-    0x374b, // IYY
-    0x274b, // IY
-    0x174b, // I
-    0x1050, // J
-    0x2043, // MI
-    0x2049, // MM
-    0x0269, // MONTH
-    0x1269, // MON
-    0x324a, // MS
-    0x0269, // Month
-    0x1269, // Mon
-    0x21d5, // OF
-    0x5162, // P.M.
-    0x4162, // PM
-    0x1080, // Q
-    0x8469, // RM
-    0x5045, // SSSSS
-    0x4045, // SSSS
-    0x2044, // SS
-    0x20d5, // TZH
-    0x20f6, // TZM
-    0x22d5, // TZ
-    0x6351, // US
-    0x204d, // WW
-    0x104e, // W
-    0x46ab, // Y,YYY
-    0x464b, // YYYY
-    0x374b, // YYY
-    0x274b, // YY
-    0x174b, // Y
-    0x706c, // a.d.
-    0x5162, // a.m.
-    0x606c, // ad
-    0x4162, // am
-    0x706c, // b.c.
-    0x606c, // bc
-    0x204f, // cc
-    0x2366, // day
-    0x3048, // ddd
-    0x2047, // dd
-    0x3366, // dy
-    0x1046, // d
-    0x1451, // ff1
-    0x2451, // ff2
-    0x3451, // ff3
-    0x4451, // ff4
-    0x5451, // ff5
-    0x6451, // ff6
-    0x0020, // fx
-    0x2041, // hh24
-    0x2141, // hh12
-    0x2141, // hh
-    0x3048, // iddd
-    0x1546, // id
-    0x204d, // iw
-    0x464b, // iyyy
-    0x374b, // iyy
-    0x274b, // iy
-    0x174b, // i
-    0x1050, // j
-    0x2043, // mi
-    0x2049, // mm
-    0x0269, // month
-    0x1269, // mon
-    0x324a, // ms
-    0x21d5, // of
-    0x5162, // p.m.
-    0x4162, // pm
-    0x1080, // q
-    0x8469, // rm
-    0x5045, // sssss
-    0x4045, // ssss
-    0x2044, // ss
-    0x20d5, // tzh
-    0x20f6, // tzm
-    0x22d5, // tz
-    0x6351, // us
-    0x204d, // ww
-    0x104e, // w
-    0x46ab, // y,yyy
-    0x464b, // yyyy
-    0x374b, // yyy
-    0x274b, // yy
-    0x174b, // y
-];
-
-// The table is laid out once and lent to what reads by it.
-pub fn tasks() -> [u16; 112]
-    ensures { λ r. ⌜ r ≡ taskTable ⌝ }
+// A pattern's task and its date mode in one number: the mode, the task's operand, rule, kind and field have 2, 4, 4, 3
+// and 5 bits. A match with a number in each arm is a table that is there before a call.
+fn row_of(pattern: u8) -> u32
+    ensures { λ r. ⌜ r ≡ rowOf pattern ⌝ }
 {
-    TASKS
+    match pattern {
+        0 => 0x0706c, // A.D.
+        1 => 0x05162, // A.M.
+        2 => 0x0606c, // AD
+        3 => 0x04162, // AM
+        4 => 0x0706c, // B.C.
+        5 => 0x0606c, // BC
+        6 => 0x0204f, // CC
+        7 => 0x02366, // DAY
+        8 => 0x13048, // DDD
+        9 => 0x12047, // DD
+        10 => 0x03366, // DY
+        11 => 0x02366, // Day
+        12 => 0x03366, // Dy
+        13 => 0x11046, // D
+        14 => 0x01451, // FF1
+        15 => 0x02451, // FF2
+        16 => 0x03451, // FF3
+        17 => 0x04451, // FF4
+        18 => 0x05451, // FF5
+        19 => 0x06451, // FF6
+        20 => 0x00020, // FX
+        21 => 0x02041, // HH24
+        22 => 0x02141, // HH12
+        23 => 0x02141, // HH
+        24 => 0x23048, // IDDD
+        25 => 0x21546, // ID
+        26 => 0x2204d, // IW
+        27 => 0x2464b, // IYYY
+        28 => 0x2374b, // IYY
+        29 => 0x2274b, // IY
+        30 => 0x2174b, // I
+        31 => 0x01050, // J
+        32 => 0x02043, // MI
+        33 => 0x12049, // MM
+        34 => 0x10269, // MONTH
+        35 => 0x11269, // MON
+        36 => 0x0324a, // MS
+        37 => 0x10269, // Month
+        38 => 0x11269, // Mon
+        39 => 0x021d5, // OF
+        40 => 0x05162, // P.M.
+        41 => 0x04162, // PM
+        42 => 0x01080, // Q
+        43 => 0x18469, // RM
+        44 => 0x05045, // SSSSS
+        45 => 0x04045, // SSSS
+        46 => 0x02044, // SS
+        47 => 0x020d5, // TZH
+        48 => 0x020f6, // TZM
+        49 => 0x022d5, // TZ
+        50 => 0x06351, // US
+        51 => 0x1204d, // WW
+        52 => 0x1104e, // W
+        53 => 0x146ab, // Y,YYY
+        54 => 0x1464b, // YYYY
+        55 => 0x1374b, // YYY
+        56 => 0x1274b, // YY
+        57 => 0x1174b, // Y
+        58 => 0x0706c, // a.d.
+        59 => 0x05162, // a.m.
+        60 => 0x0606c, // ad
+        61 => 0x04162, // am
+        62 => 0x0706c, // b.c.
+        63 => 0x0606c, // bc
+        64 => 0x0204f, // cc
+        65 => 0x02366, // day
+        66 => 0x13048, // ddd
+        67 => 0x12047, // dd
+        68 => 0x03366, // dy
+        69 => 0x11046, // d
+        70 => 0x01451, // ff1
+        71 => 0x02451, // ff2
+        72 => 0x03451, // ff3
+        73 => 0x04451, // ff4
+        74 => 0x05451, // ff5
+        75 => 0x06451, // ff6
+        76 => 0x00020, // fx
+        77 => 0x02041, // hh24
+        78 => 0x02141, // hh12
+        79 => 0x02141, // hh
+        80 => 0x23048, // iddd
+        81 => 0x21546, // id
+        82 => 0x2204d, // iw
+        83 => 0x2464b, // iyyy
+        84 => 0x2374b, // iyy
+        85 => 0x2274b, // iy
+        86 => 0x2174b, // i
+        87 => 0x01050, // j
+        88 => 0x02043, // mi
+        89 => 0x12049, // mm
+        90 => 0x10269, // month
+        91 => 0x11269, // mon
+        92 => 0x0324a, // ms
+        93 => 0x021d5, // of
+        94 => 0x05162, // p.m.
+        95 => 0x04162, // pm
+        96 => 0x01080, // q
+        97 => 0x18469, // rm
+        98 => 0x05045, // sssss
+        99 => 0x04045, // ssss
+        100 => 0x02044, // ss
+        101 => 0x020d5, // tzh
+        102 => 0x020f6, // tzm
+        103 => 0x022d5, // tz
+        104 => 0x06351, // us
+        105 => 0x1204d, // ww
+        106 => 0x1104e, // w
+        107 => 0x146ab, // y,yyy
+        108 => 0x1464b, // yyyy
+        109 => 0x1374b, // yyy
+        110 => 0x1274b, // yy
+        111 => 0x1174b, // y
+        _ => 0,
+    }
 }
 
-pub fn task_at(tasks: &[u16; 112], pattern: u8) -> Task
-    requires { ⌜ now tasks ≡ taskTable ⌝ }
+// The date mode of a pattern.
+pub fn mode_at(pattern: u8) -> u8
+    ensures { λ r. ⌜ r ≡ patternOf pattern .mode ⌝ }
+{
+    (row_of(pattern) / 65536) as u8
+}
+
+// What reading a pattern does.
+pub fn task_at(pattern: u8) -> Task
     ensures { λ r. ⌜ Assigned pattern r ⌝ }
 {
-    if pattern >= 112 {
-        return Task {
-            kind: NOTHING,
-            field: 0,
-            rule: 0,
-            operand: 0,
-        };
-    }
-    let x = tasks[pattern as usize];
+    let x = row_of(pattern);
     Task {
         kind: (x / 32 % 8) as usize,
         field: (x % 32) as usize,

@@ -9,3 +9,5 @@ pub mod Turns
 pub mod Own
 -- the digits of a fraction that are kept are 0 to 6
 pub mod Precision
+-- a pattern in the lane
+mod Plainly

@@ -2,7 +2,7 @@
 -- `payable-action`: so after a pattern that was read.
 -- `payable-entered`: so after the spaces before a node.
 -- `payable-literal`: so after a literal.
--- `refused-none`: a pattern that is refused gives no fields.
+-- `payable-node`: so after any node that was read.
 -- `never`: a refusal is not the verdict Read.
 use mathlib.Core.Path.{_≡_, _∙_, refl, sym}
 use mathlib.Core.Bool.{Bool, true, false, _&&_, _||_, true≢false}
@@ -19,11 +19,11 @@ use Rattle.base_refusals.specs.declared.Refusal.the-variants.{MixedDates}
 use Rattle.base_chars.specs.Class.{isSpace, isSeparator}
 use Rattle.read_integers.specs.Suffix.{isFree}
 use Rattle.template_patterns.specs.Patterns.{patternOf}
-use Rattle.template_nodes.specs.Template.{separator, space}
+use Rattle.template_nodes.specs.Template.{action, separator, space}
 use Rattle.template_nodes.specs.declared.Node.{Node}
 use Rattle.read_fields.specs.Fields.{get, isExact, mode, noFields, refuse}
 use Rattle.read_literals.specs.Literals.{Payable, pastField, blankPassed, charPassed, enteredBy, literalPassed, place, skipped}
-use Rattle.read_input.specs.Reader.{actionRead, mixes, pastSpaces, performed, whenRead, withMode}
+use Rattle.read_input.specs.Reader.{actionRead, entered, mixes, nodeRead, pastSpaces, performed, whenRead, withMode}
 use Rattle.read_fields.specs.Tasks.{taskOf}
 use Rattle.read_fields.specs.declared.Fields.{Fields}
 use Rattle.read_fields.specs.declared.Place.{Place}
@@ -60,11 +60,6 @@ module _ (s : List ℕ) where
         let r = performed s n (isFree t n next) (taskOf (n .pattern)) (withMode new f) p in
         by-if P (mixes new (get f mode)) _ _ (λ e. refused (MixedDates (n .pattern))) (λ e. by-verdict P refused r (r .verdict) (done r))
 
-    pub refused-none : (t : List ℕ) (n next : Node) {why : Refusal} → actionRead t s n next f p .verdict ≡ Refused why → actionRead t s n next f p .fields ≡ noFields
-    unfolding pastSpaces
-    refused-none t n next {why} =
-        by-action (λ (r : Reading). r .verdict ≡ Refused why → r .fields ≡ noFields) (λ w e. refl) (λ r v e. absurd (never (sym e ∙ v))) t n next
-
     pub payable-action : (t : List ℕ) (n next : Node) → actionRead t s n next f p .verdict ≡ Read → Payable s (actionRead t s n next f p .place)
     unfolding pastSpaces
     payable-action =
@@ -89,3 +84,12 @@ module _ (s : List ℕ) where
       (λ e. by-if (Payable s) (eqb (n .kind) separator || eqb (n .kind) space) (blankPassed s p) _
       (λ k. by-if (Payable s) (ltb (p .at) (length s) && (isSpace b || isSeparator b)) (place (p .at + 1) (p .extra) false) left (λ t h. pay e) (λ t h. less (p .extra) (pay e)))
       (λ k. by-if (Payable s) (ltb 0 (p .extra)) left (charPassed s n p) (λ t h. less (p .extra) (pay e)) (λ t. pay)))
+
+  -- a node that is read
+  pub payable-node
+      : (n next : Node) (f : Fields) (p : Place) (first : Bool) (t : List ℕ) → Payable s p → (first ≡ true → p .extra ≡ 0)
+      → nodeRead t s n next first f p .verdict ≡ Read → Payable s (nodeRead t s n next first f p .place)
+  unfolding nodeRead entered
+  payable-node n next f p first t pay none =
+      by-if (λ (r : Reading). r .verdict ≡ Read → Payable s (r .place)) (eqb (n .kind) action) _ _ (λ e. payable-action f _ t n next)
+      (λ e v. rw e (payable-literal n _ (payable-entered p first pay none)))

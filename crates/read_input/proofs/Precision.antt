@@ -1,7 +1,7 @@
 -- The digits of a fraction, as fields keep them, are 0 to 6, whatever the nodes and the input. Assumes nothing.
 -- `Precise`: the field has a number from 0 to 6.
 -- `read-precise`: so it is in the fields that any nodes read.
-use mathlib.Core.Path.{_≡_, refl, _∙_, subst}
+use mathlib.Core.Path.{_≡_, refl, _∙_}
 use mathlib.Core.Bool.{Bool, true, false, not, _&&_, _||_}
 use mathlib.Core.List.{List, [], _∷_}
 use Prim.Native.Char.{code}
@@ -15,7 +15,6 @@ use lib.Seq.{getD-set-same, getD-set-other, set-out}
 use Rattle.base_notation.specs.Text.{byteAt}
 use Rattle.base_chars.specs.Class.{isLetter}
 use Rattle.base_notation.proofs.Cases.{by-if, both}
-use Rattle.base_notation.proofs.Table.{entry}
 use Rattle.read_integers.specs.Suffix.{isFree}
 use Rattle.read_integers.specs.declared.Number.{Number}
 use Rattle.read_integers.specs.declared.Number.the-variants.{Read as Integer, Refused as NoInteger}
@@ -23,8 +22,8 @@ use Rattle.template_patterns.specs.Patterns.{patternOf}
 use Rattle.template_nodes.specs.Template.{action}
 use Rattle.template_nodes.specs.declared.Node.{Node}
 use Rattle.read_fields.specs.Fields.{conflicts, get, put, noFields, onward, isZero, mode, clock, yysz, tzsign, tzh, tzm, ff}
-use Rattle.read_fields.specs.Tasks.{number, word, exact, dropped, commaYear, offset, offsetMinutes, fraction, hour12, wholeYear, partYear, oddHour12, hours, noLetter, taskOf, taskTable}
-use Rattle.read_fields.proofs.Assigned.{assigned, unassigned, unpacked}
+use Rattle.read_fields.specs.Tasks.{number, word, exact, dropped, commaYear, offset, offsetMinutes, fraction, hour12, wholeYear, partYear, oddHour12, hours, noLetter, taskOf}
+use Rattle.read_fields.proofs.Assigned.{each-task}
 use Rattle.read_fields.specs.declared.Fields.{Fields}
 use Rattle.read_fields.specs.declared.Place.{Place}
 use Rattle.read_fields.specs.declared.Reading.{Reading}
@@ -73,13 +72,8 @@ abbrev precise : Task → Bool
 precise t = ltb (t .field) 23 && (not (takesNumber t && eqb (t .rule) fraction) || ltb (t .operand) 7)
 
 task-precise : (k : ℕ) → precise (taskOf k) ≡ true
-unfolding taskTable taskOf
-task-precise k = split (ltb k 112) refl
-  where
-    split : (b : Bool) → ltb k 112 ≡ b → precise (taskOf k) ≡ true
-    split true e =
-        subst (λ (t : Task). precise t ≡ true) (assigned k (ltb-true k 112 e) .is) (entry (λ _ x. precise (unpacked x)) 0 taskTable refl k (ltb-true k 112 e))
-    split false e = subst (λ (t : Task). precise t ≡ true) (unassigned k (ltb-false k 112 e) .is) refl
+unfolding taskOf
+task-precise = each-task precise refl refl
 
 -- what else a number notes, and a word; the sign of an offset; the date mode
 noted-precise : (rule width : ℕ) (f : Fields) → (eqb rule fraction ≡ true → width ≤ 6) → Precise f → Precise (noted rule width f)

@@ -1,7 +1,7 @@
 -- The loop over the nodes: what is left, read from where reading is, gives the whole. Assumes nothing.
 -- `begun`: so before the first node.
--- `then-on`: so after literals that were read.
--- `goes-on`, `passes`: so after a pattern that is read, and after a literal.
+-- `then-on`: so after nodes that were read.
+-- `goes-on`, `passes`: so after a pattern that is read, and after any node that is.
 -- `input-ends`, `template-ends`: at the end of the input or of the nodes, what was read is the whole.
 -- `stops`: at a pattern that is refused, the refusal is the whole.
 use mathlib.Core.Path.{_≡_, _∙_, refl, sym, ap}
@@ -18,17 +18,16 @@ use Rattle.base_refusals.specs.declared.Refusal.{Refusal}
 use Rattle.template_nodes.specs.Template.{endNode}
 use Rattle.template_nodes.specs.declared.Node.{Node}
 use Rattle.read_fields.specs.Fields.{noFields, read, onward}
-use Rattle.read_literals.specs.Literals.{Payable, enteredBy, literalPassed, place}
+use Rattle.read_literals.specs.Literals.{Payable, enteredBy, place}
 use Rattle.read_input.specs.Reader.{actionRead, entered, headOf, nodeRead, readAll, readFrom}
 use Rattle.read_fields.specs.Tasks.{exact, taskOf}
-use Rattle.read_input.specs.Turn.{Turned, LiteralsRead}
+use Rattle.read_input.specs.Turn.{Turned}
 use Rattle.read_fields.specs.declared.Fields.{Fields}
-use Rattle.read_input.specs.declared.Passed.{Passed}
 use Rattle.read_fields.specs.declared.Place.{Place}
 use Rattle.read_fields.specs.declared.Reading.{Reading}
 use Rattle.read_fields.specs.declared.Verdict.{Verdict}
 use Rattle.read_fields.specs.declared.Verdict.the-variants.{Read, Refused}
-use Rattle.read_input.proofs.Payable.{payable-action, payable-entered, payable-literal}
+use Rattle.read_input.proofs.Payable.{payable-action, payable-node}
 
 pub begun : (t s : List ℕ) (ns : List Node) → Turned t s ns (readAll t s ns) 0 noFields (place 0 0 false)
 unfolding readAll
@@ -67,11 +66,9 @@ module _ (t s : List ℕ) (ns : List Node) (whole : Reading) (i : ℕ) (f : Fiel
   pub template-ends : length ns ≤ i → read f p ≡ whole
   template-ends h = sym (no-node t s ns i (eqb i 0) f p h) ∙ turned .left
 
-  -- after literals that were read
-  pub then-on : {r : Passed} → LiteralsRead s ns i p r → Turned t s ns whole (r .next) f (r .place)
-  then-on run =
-      let then = run .turned t f in
-      record { within = then .within; none = then .none; payable = then .payable; left = then .left ∙ turned .left }
+  -- what was to be read from here on, and is read up to node j
+  pub then-on : {j : ℕ} {g : Fields} {q : Place} → Turned t s ns (readFrom t s (drop i ns) (eqb i 0) f p) j g q → Turned t s ns whole j g q
+  then-on then = record { within = then .within; none = then .none; payable = then .payable; left = then .left ∙ turned .left }
 
   module _ (h : i < length ns) (l : p .at < length s) (n next : Node) (e : n ≡ getD ns i endNode) (q : next ≡ getD ns (i + 1) endNode) where
     -- what one node reads, and the rest after it, give the whole
@@ -105,9 +102,8 @@ module _ (t s : List ℕ) (ns : List Node) (whole : Reading) (i : ℕ) (f : Fiel
             next-turn r node v
             (rw (← is) at (payable-action s f (enteredBy s (not (eqb (taskOf (n .pattern) .kind) exact)) p) t n next (rw is at v)))
 
-    -- a literal
-    pub passes : (n .kind ≡ 1 → ⊥) → (p′ : Place) → p′ ≡ literalPassed s n (enteredBy s (eqb i 0) p) → Turned t s ns whole (i + 1) f p′
-    unfolding nodeRead entered
-    passes k p′ is =
-        let pay = payable-literal s n _ (payable-entered s p (eqb i 0) (turned .payable) (λ z. turned .none (eqb-true i 0 z))) in
-        next-turn (read f p′) (rw (ne-eqb (n .kind) 1 k, is)) refl (rw is pay)
+    -- a node that is read, whichever it is
+    pub passes : (g : Fields) (q : Place) → read g q ≡ nodeRead t s n next (eqb i 0) f p → Turned t s ns whole (i + 1) g q
+    passes g q is =
+        next-turn (read g q) is refl
+        (rw (← is) at (payable-node s n next f p (eqb i 0) t (turned .payable) (λ z. turned .none (eqb-true i 0 z)) (sym (ap (λ (r : Reading). r .verdict) is))))

@@ -1,8 +1,9 @@
 -- A pattern by the verdict on what it read. Assumes nothing.
 -- `stopped`, `passed`: what is read, by the definition, where the verdict is a refusal and where it is not.
 -- `verdict-refused`, `verdict-read`: an outcome is the reading `r`, of which a refusal needs no fields.
--- `read-is`, `refused-is`: and back: the outcome with its fields, or with none, is `r`.
-use mathlib.Core.Path.{_≡_, _∙_, ap, sym}
+-- `read-is`: and back: the outcome with its fields is `r`.
+-- `whole-went`: an outcome is that of the whole, if the whole is the reading `r`.
+use mathlib.Core.Path.{_≡_, _∙_, ap, subst, sym}
 use mathlib.Core.Bool.{false}
 use mathlib.Core.List.{List}
 use Prim.Native.Nat.{ℕ}
@@ -14,7 +15,6 @@ use Rattle.template_nodes.specs.declared.Node.{Node}
 use Rattle.read_fields.specs.Fields.{fieldsOf, get, mode, noFields, read, readInto, refuse, went}
 use Rattle.read_literals.specs.Literals.{pastField}
 use Rattle.read_input.specs.Reader.{Went, actionRead, mixes, pastSpaces, performed, withMode}
-use Rattle.read_input.specs.Turn.{unread}
 use Rattle.read_fields.specs.Tasks.{taskOf}
 use Rattle.read_fields.specs.declared.Fields.{Fields}
 use Rattle.read_fields.specs.declared.Place.{Place}
@@ -59,5 +59,6 @@ module _ {r : Reading} {o : Outcome} {values : List ℤ} where
   pub read-is : Went r o values → o .verdict ≡ Read → readInto o values ≡ r
   read-is w v = λ i. record { verdict = w .verdict i; fields = w .fields v i; place = w .place i }
 
-  pub refused-is : Went r o values → r .fields ≡ noFields → unread (o .verdict) (o .place) ≡ r
-  refused-is w none = λ i. record { verdict = w .verdict i; fields = sym none i; place = w .place i }
+-- what holds of an outcome for a reading holds for one that is the same
+pub whole-went : {r whole : Reading} {o : Outcome} {values : List ℤ} → Went r o values → r ≡ whole → Went whole o values
+whole-went {o = o} {values = values} went e = subst (λ (w : Reading). Went w o values) e went

@@ -3,5 +3,7 @@
 pub mod Reader
 -- what holds of reading from node to node
 pub mod Turn
+-- what holds of the lane
+pub mod Lane
 -- worked examples
 pub mod Examples

@@ -7,7 +7,7 @@ ghost use lib.ListN.{length};
 ghost use Rattle.read_literals.specs.Literals.{Payable, enteredBy};
 ghost use Rattle.read_input.specs.Reader.{Went, actionRead, mixes, performed, withMode};
 ghost use Rattle.read_fields.specs.Fields.{fieldsOf, readInto};
-ghost use Rattle.read_fields.specs.Tasks.{Assigned, exact, taskOf, taskTable};
+ghost use Rattle.read_fields.specs.Tasks.{Assigned, exact, taskOf};
 use base_refusals::Refusal;
 use read_fields::Outcome;
 use read_fields::Place;
@@ -36,7 +36,7 @@ fn performed(s: &[u8], n: Node, free: bool, task: Task, f: &mut [i32; 24], p: Pl
 }
 
 // Whether a pattern has a date mode, and another was set before.
-fn mixes(new: u8, old: i32) -> bool
+pub fn mixes(new: u8, old: i32) -> bool
     ensures { λ r. ⌜ r ≡ mixes new old ⌝ }
 {
     if new == template_patterns::MODE_NONE {
@@ -45,7 +45,7 @@ fn mixes(new: u8, old: i32) -> bool
     read_integers::from_char_set_int(old, new as i32)
 }
 
-fn with_mode(new: u8, f: &mut [i32; 24])
+pub fn with_mode(new: u8, f: &mut [i32; 24])
     ensures { λ r. ⌜ fieldsOf (now (f .exit)) ≡ withMode new (fieldsOf (now (f .entry))) ⌝ }
 {
     if new != template_patterns::MODE_NONE {
@@ -66,7 +66,7 @@ fn action_read(
     requires { ⌜ Assigned (n .pattern) task × (p .at ≤ length (now s)) × (length (now s) ≤ 512) ⌝ }
     ensures { λ r. ⌜ Went (actionRead (now (t .entry)) (now (s .entry)) n next (fieldsOf (now (f .entry))) p) r (now (f .exit)) ⌝ }
 {
-    let mode = template_patterns::date_mode(n.pattern);
+    let mode = table::mode_at(n.pattern);
     if mixes(mode, state::get(f, field::MODE)) {
         return state::refuse(Refusal::MixedDates { pattern: n.pattern }, p);
     }
@@ -85,7 +85,6 @@ fn action_read(
 
 // A pattern, with the spaces before it.
 pub fn pattern_read(
-    tasks: &[u16; 112],
     t: &[u8],
     s: &[u8],
     n: Node,
@@ -93,10 +92,10 @@ pub fn pattern_read(
     f: &mut [i32; 24],
     p: Place,
 ) -> Outcome
-    requires { ⌜ (now tasks ≡ taskTable) × Payable (now s) p × (p .at ≤ length (now s)) × (length (now s) ≤ 512) ⌝ }
+    requires { ⌜ Payable (now s) p × (p .at ≤ length (now s)) × (length (now s) ≤ 512) ⌝ }
     ensures { λ r. ⌜ Went (actionRead (now (t .entry)) (now (s .entry)) n next (fieldsOf (now (f .entry))) (enteredBy (now (s .entry)) (not (eqb (taskOf (n .pattern) .kind) exact)) p)) r (now (f .exit)) ⌝ }
 {
-    let task = table::task_at(tasks, n.pattern);
+    let task = table::task_at(n.pattern);
     let q = read_literals::entered(s, task.kind != table::EXACT, p);
     action_read(t, s, n, next, task, f, q)
 }

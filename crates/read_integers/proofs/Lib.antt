@@ -5,5 +5,7 @@ pub mod Setting
 pub mod Ranges
 -- each answer of the code is the definition's, and what was read ends within the input
 pub mod Numbers
+-- few digits right at a place
+pub mod FewDigits
 -- a number that is refused names its own pattern
 pub mod Own

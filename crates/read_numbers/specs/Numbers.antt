@@ -53,13 +53,16 @@ noted rule width f =
     else if eqb rule fraction then put f ff (pos width)
     else f
 
+-- a number that was read from n bytes goes into its field
+abbrev pub withNumber : Task → ℤ → ℕ → Fields → Fields
+withNumber task z n f = noted (task .rule) (task .operand) (put f (task .field) (kept (task .rule) z n))
+
 -- a number goes into its field, unless that was set to another value; an ordinal suffix is skipped
 unfoldable pub storedNumber : List ℕ → Node → Task → Number → Fields → Place → Reading
 storedNumber s n task (Refused why) f p = refuse why f p
 storedNumber s n task (Read z next) f p =
     if conflicts (get f (task .field)) z then refuse (Conflict (n .pattern)) f p
-    else read (noted (task .rule) (task .operand) (put f (task .field) (kept (task .rule) z (next - p .at))))
-    (atPlace p (pastOrdinal s next (n .accents) (n .suffix)))
+    else read (withNumber task z (next - p .at) f) (atPlace p (pastOrdinal s next (n .accents) (n .suffix)))
 
 -- the number at a place: with a comma, or of a width
 abbrev pub numberOf : List ℕ → Node → Bool → Task → ℕ → Number

@@ -9,7 +9,7 @@ ghost use lib.ListN.{length};
 ghost use Rattle.read_integers.specs.Number.{Found as Numbered, Inside};
 ghost use Rattle.base_wrapping.specs.Wrap.{_⊗_};
 ghost use Rattle.read_fields.specs.Fields.{fieldsOf, readInto};
-ghost use Rattle.read_numbers.specs.Numbers.{kept, missing, nearIfShort, noted, numberOf, readDropped, readNumber, storedNumber, sundayFirst};
+ghost use Rattle.read_numbers.specs.Numbers.{kept, missing, nearIfShort, noted, numberOf, readDropped, readNumber, storedNumber, sundayFirst, withNumber};
 use base_refusals::Refusal;
 use read_fields::Outcome;
 use read_fields::Place;
@@ -100,6 +100,15 @@ fn noted(rule: usize, width: u8, f: &mut [i32; 24])
     }
 }
 
+// A number that was read from n bytes goes into its field.
+pub fn put_number(task: Task, z: i32, n: usize, f: &mut [i32; 24])
+    requires { ⌜ task .field < 24 ⌝ }
+    ensures { λ r. ⌜ fieldsOf (now (f .exit)) ≡ withNumber task z n (fieldsOf (now (f .entry))) ⌝ }
+{
+    state::put(f, task.field, kept(task.rule, z, n));
+    noted(task.rule, task.operand, f);
+}
+
 // A number goes into its field, unless that was set to another value; an ordinal suffix is skipped.
 fn stored_number(
     s: &[u8],
@@ -118,8 +127,7 @@ fn stored_number(
             if state::holds_other(f, task.field, value) {
                 return state::refuse(Refusal::Conflict { pattern: n.pattern }, p);
             }
-            state::put(f, task.field, kept(task.rule, value, next - p.at));
-            noted(task.rule, task.operand, f);
+            put_number(task, value, next - p.at, f);
             state::read(state::at_place(p, read_integers::skip_th(s, next, n.accents, n.suffix)))
         }
     }

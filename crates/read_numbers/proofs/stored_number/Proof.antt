@@ -7,7 +7,6 @@ use denote.Ref.{now}
 use mir.Facts.{toZ-ofZ}
 use mir.Syntax.{w32}
 use mir.Val.{SFits}
-use Rattle.base_wrapping.proofs.Fits.{returned}
 use Rattle.read_fields.proofs.Held.{answered}
 use Rattle.read_numbers.specs.Numbers.{storedNumber}
 use Rattle.read_numbers.proofs.stored_number.Statement.{statement}
@@ -45,10 +44,8 @@ returns-3 : tie.Need-returns-3
 unfolding storedNumber
 returns-3 c =
     let after-place = c .before in
-    let after-noted = after-place .before .before in
-    let after-put = after-noted .before .before in
-    let after-kept = after-put .before in
-    let not-other = after-kept .before .before .before in
+    let after-put = after-place .before .before in
+    let not-other = after-put .before .before .before in
     let after-test = not-other .before in
     let at-read = after-test .before .before in
     let args = at-read .before .before .before .before .args in
@@ -58,9 +55,7 @@ returns-3 c =
       c .read .ensures,
       after-place .at-place .ensures,
       after-place .before .skip-th .ensures .is,
-      after-noted .noted .ensures,
-      after-put .put .ensures,
-      returned (after-kept .kept .ok) (after-kept .kept .ensures),
+      after-put .put-number .ensures,
       toZ-ofZ (value-fits at-read),
     )
 
@@ -74,9 +69,7 @@ stored-number-spec =
     (λ c κs. search needs)
     (λ c κs. search needs)
     returns
-    (λ c. let later = moved-on (c .before .before .before .before .before) in omega arith)
-    (λ c κs. search needs)
-    (λ c κs. search needs)
+    (λ c. let later = moved-on (c .before .before .before .before) in omega arith)
     (λ c κs. search needs)
     (λ c κs. search needs)
     (λ c κs. search needs)

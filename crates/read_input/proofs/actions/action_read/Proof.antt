@@ -19,7 +19,7 @@ tested : (c : tie.After-mixes) →
     c .mixes .result ≡ mixes (patternOf (args .n .pattern) .mode) (get (fieldsOf (now (args .f))) mode)
 tested c =
     let set-before = c .before .get in
-    simp (returned (set-before .ok) (set-before .ensures), c .before .before .before .date-mode .ensures) at (c .mixes .ensures)
+    simp (returned (set-before .ok) (set-before .ensures), c .before .before .before .mode-at .ensures) at (c .mixes .ensures)
 
 -- what was read
 is : (c : tie.After-performed) →
@@ -32,7 +32,7 @@ is c =
     let after-free = after-mode .before .before in
     let at-mode = after-free .before .before .before .before .before in
     let at-start = at-mode .before .before .before in
-    rw (← after-free .is-free .ensures, ← at-start .pre .0 .is, ← at-mode .date-mode .ensures, ← after-mode .with-mode .ensures) (c .performed .ensures)
+    rw (← after-free .is-free .ensures, ← at-start .pre .0 .is, ← at-mode .mode-at .ensures, ← after-mode .with-mode .ensures) (c .performed .ensures)
 
 -- where the date mode was tested: it is not mixed with another
 abbrev not-mixed : tie.After-performed → tie.Else1

@@ -15,7 +15,7 @@ action-read-requires c κs =
     let after-task = after-spaces .before .before in
     let at-start = after-task .before .before .before in
     let args = at-start .args in
-    let within = entered-within (now (args .s)) (args .p) (not (eqb (after-task .task-at .result .kind) 1)) (at-start .pre .2) in
+    let within = entered-within (now (args .s)) (args .p) (not (eqb (after-task .task-at .result .kind) 1)) (at-start .pre .1) in
     (after-task .task-at .ensures, rw (after-spaces .entered .ensures) within, search needs)
 
 returns : tie.Need-returns
