@@ -133,7 +133,8 @@ fn parts_within(strict: bool, c: &[u8], t: &[u8], s: &[u8]) -> Answer
 {
     let mut values = [0; 24];
     let read = read_input::dch_from_char(c, t, s, &mut values);
-    answered(strict, read.verdict, Fields { values })
+    let verdict = read.verdict;
+    answered(strict, verdict, Fields { values })
 }
 
 // The parts of an input by the nodes that any bytes hold. t is the template that they were made from.

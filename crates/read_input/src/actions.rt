@@ -84,14 +84,7 @@ fn action_read(
 }
 
 // A pattern, with the spaces before it.
-pub fn pattern_read(
-    t: &[u8],
-    s: &[u8],
-    n: Node,
-    next: Node,
-    f: &mut [i32; 24],
-    p: Place,
-) -> Outcome
+pub fn pattern_read(t: &[u8], s: &[u8], n: Node, next: Node, f: &mut [i32; 24], p: Place) -> Outcome
     requires { ⌜ Payable (now s) p × (p .at ≤ length (now s)) × (length (now s) ≤ 512) ⌝ }
     ensures { λ r. ⌜ Went (actionRead (now (t .entry)) (now (s .entry)) n next (fieldsOf (now (f .entry))) (enteredBy (now (s .entry)) (not (eqb (taskOf (n .pattern) .kind) exact)) p)) r (now (f .exit)) ⌝ }
 {

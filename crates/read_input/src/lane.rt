@@ -99,7 +99,13 @@ fn number_taken(
     if !takes(c, t, i, n, task.operand as usize, count) {
         return left(p);
     }
-    if !number_put(table::mode_at(n.pattern), task, digits.value as i32, count, f) {
+    if !number_put(
+        table::mode_at(n.pattern),
+        task,
+        digits.value as i32,
+        count,
+        f,
+    ) {
         return left(p);
     }
     let place = read_literals::past_field(
@@ -155,14 +161,7 @@ fn node_taken(c: &[u8], t: &[u8], s: &[u8], i: usize, f: &mut [i32; 24], p: Plac
 }
 
 // One node after another from a node on, up to a pattern that the lane leaves, or the end of the input or of the nodes.
-pub fn lane(
-    c: &[u8],
-    t: &[u8],
-    s: &[u8],
-    f: &mut [i32; 24],
-    from: usize,
-    place: Place,
-) -> Passed
+pub fn lane(c: &[u8], t: &[u8], s: &[u8], f: &mut [i32; 24], from: usize, place: Place) -> Passed
     requires { ⌜ (from ≤ length (nodesIn (now c))) × (from ≡ 0 → place .extra ≡ 0) × Payable (now s) place × (length (now s) ≤ 512) ⌝ }
     ensures { λ r. ⌜ LaneRead (now (t .entry)) (now (s .entry)) (nodesIn (now (c .entry))) from place (now (f .entry)) r (now (f .exit)) ⌝ }
 {

@@ -1,6 +1,6 @@
 -- `moment_parts::parts_within` meets its contract: what is read is what the definition reads; a refusal needs no fields.
 -- Assumes nothing.
-use mathlib.Core.Path.{_≡_, _∙_, refl, sym, ap}
+use mathlib.Core.Path.{_≡_, _∙_, refl, ap}
 use mathlib.Core.Bool.{Bool}
 use mathlib.Core.List.{List}
 use borrow.Author.Needs.{needs}
@@ -21,8 +21,12 @@ by-verdict : (strict : Bool) (r : Reading) {o : Outcome} {values : List ℤ} →
 by-verdict strict r went Read e = ap (thenFields strict Read) (went .fields e)
 by-verdict strict r went (Refused why) e = refl
 
+same-answer : (strict : Bool) (r : Reading) {o : Outcome} {values : List ℤ} → Went r o values
+    → thenFields strict (o .verdict) (fieldsOf values) ≡ thenFields strict (r .verdict) (r .fields)
+same-answer strict r {o} went = by-verdict strict r went (o .verdict) refl ∙ ap (λ (v : Verdict). thenFields strict v (r .fields)) (went .verdict)
+
 returns : tie.Need-returns
-returns c = ?
+returns c = c .answered .ensures ∙ same-answer _ _ (c .before .dch-from-char .ensures)
 
 pub parts-within-spec : {M : Type 1} → statement M
 parts-within-spec = tie.close (tie.spec (λ c κs. search needs) (λ c κs. search needs) returns)

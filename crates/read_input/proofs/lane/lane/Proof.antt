@@ -64,7 +64,7 @@ loop-again c =
     let inv = at-loop here .loop .inv in (
       omega (arith, inv .0),
       passes _ _ _ _ _ _ _ (inv .1) (one-left here) (omega (arith, here .if1 .left)) _ _ refl refl _ _
-      (after-node .node-taken .ensures .taken (not-false _ (taken .if2 .left))),
+          (after-node .node-taken .ensures .taken (not-false _ (taken .if2 .left))),
     )
 
 -- the template ended
