@@ -16,6 +16,9 @@ ghost use Rattle.base_chars.specs.Utf8.{begins, sequence, wellFormed, Pa
 pub fn is_space_c(b: u8) -> bool
     ensures { λ r. ⌜ r ≡ isSpace b ⌝ }
 {
+    if b' ' < b {
+        return false;
+    }
     b == b' ' || (9 <= b && b <= 13)
 }
 

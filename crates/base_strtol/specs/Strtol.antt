@@ -2,14 +2,14 @@
 use mathlib.Core.Path.{_≡_, refl}
 use mathlib.Core.Bool.{Bool, true, false, _||_}
 use mathlib.Core.List.{List, []}
-use Prim.Native.Nat.{ℕ, _+_, _-_, _^_, min}
+use Prim.Native.Nat.{ℕ, _+_, _-_, _^_, _<_, min}
 use Prim.Native.Char.{code}
 use lib.Dec.{eqb, ltb}
 use lib.IntN.{ℤ, pos, negsuc, negℤ}
-use lib.ListN.{drop}
+use lib.ListN.{length, drop}
 use Rattle.base_notation.specs.Choice.{if_then_else_}
 use Rattle.base_notation.specs.Text.{byteAt, utf8}
-use Rattle.base_chars.specs.Class.{classOf}
+use Rattle.base_chars.specs.Class.{classOf, isDigit}
 use Rattle.base_strtol.specs.Runs.{leading, spaces, digits, number, numberFrom}
 use Rattle.base_strtol.specs.declared.Run.{Run}
 use Rattle.base_strtol.specs.declared.Short.{Short}
@@ -62,6 +62,11 @@ unfoldable pub shortAt : List ℕ → ℕ → Short
 shortAt s at =
     let t = drop at s in
     if ltb (number t) 1000000000 then record { value = number t; end = at + digits t } else record { value = 0; end = at }
+
+-- two digits are at a place, and then a byte that is no digit
+abbrev pub Pair : List ℕ → ℕ → Type 0
+Pair s at =
+    (at + 1 + 1 < length s) × (isDigit (byteAt s at) ≡ true) × (isDigit (byteAt s (at + 1)) ≡ true) × (isDigit (byteAt s (at + 1 + 1)) ≡ false)
 
 -- unfolds all that a number is computed by, for worked examples
 unfoldable pub strtol-computes : ℕ

@@ -21,7 +21,9 @@ pub const OFFSET: usize = 6;
 
 pub const OFFSET_MINUTES: usize = 7;
 
-// The rules for a number; any other keeps it as it is.
+// The rules for a number. PLAIN keeps it as it is and notes nothing.
+pub const PLAIN: usize = 0;
+
 pub const HOUR12: usize = 1;
 
 pub const MILLIS: usize = 2;
