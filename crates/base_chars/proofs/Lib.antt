@@ -10,9 +10,9 @@ pub mod Sets
 pub mod Characters
 -- the row of Unicode's table that a first byte picks
 pub mod Rows
--- several bytes in one range, tested at once
-pub mod Runs
 -- the sequence that a list begins with: its length, and what follows it
 pub mod Sequences
 -- well-formed texts: taken apart, joined, and walked from character to character
 pub mod WellFormed
+-- the high bits of bytes, as one number: what lies below the lowest of them is ASCII
+pub mod HighBits

@@ -2,7 +2,7 @@
 use mathlib.Core.Path.{_≡_, refl}
 use mathlib.Core.Bool.{Bool, true, false, _&&_}
 use mathlib.Core.List.{List, [], _∷_, map}
-use Prim.Native.Nat.{ℕ, zero, suc, pred, _≤_}
+use Prim.Native.Nat.{ℕ, zero, suc, pred, _+_, _*_, _≤_}
 use lib.Dec.{ltb}
 use lib.ListN.{length, drop, replicate}
 use Rattle.base_notation.specs.Choice.{if_then_else_}
@@ -49,10 +49,19 @@ wellFormedAfter zero (b ∷ s) =
 abbrev pub wellFormed : List ℕ → Bool
 wellFormed s = wellFormedAfter 0 s
 
--- what is left from the place on is well-formed exactly when the whole list is
-pub record Passed (s : List ℕ) (at : ℕ) : Type 0 where
-  pub within : at ≤ length s
-  pub same : wellFormed (drop at s) ≡ wellFormed s
+-- the text from the second place on is well-formed exactly when the text from the first on is
+pub record Passed (s : List ℕ) (from at : ℕ) : Type 0 where
+  pub forward : from ≤ at
+  pub same : wellFormed (drop at s) ≡ wellFormed (drop from s)
+
+-- the bytes as one number, the first the lowest, each 0x80 if its high bit is set and 0 if it is ASCII
+unfoldable pub highBits : List ℕ → ℕ
+highBits [] = 0
+highBits (b ∷ s) = highBits s * 256 + (if ltb b 0x80 then 0 else 0x80)
+
+pub second-and-third : highBits (utf8 "gà ") ≡ 0x808000
+unfolding highBits
+second-and-third = refl
 
 -- texts of characters of 1, 2, 3 and 4 bytes
 pub texts : (wellFormed [] ≡ true) × (wellFormed (utf8 "ngày 05") ≡ true) × (wellFormed (utf8 "€𝄞") ≡ true)

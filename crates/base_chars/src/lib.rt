@@ -2,15 +2,16 @@
 ghost use mathlib.Core.List.{[], _∷_};
 ghost use mathlib.Core.Path.{_≡_};
 ghost use mathlib.Core.Bool.{_||_};
-ghost use Prim.Native.Nat.{_+_, _<_, _≤_};
-ghost use lib.ListN.{length, drop, replicate};
+ghost use Prim.Native.Nat.{_+_, _/_, _<_, _≤_};
+ghost use lib.Count.{trailingZeros};
+ghost use lib.ListN.{length, take, drop};
 ghost use Rattle.base_notation.specs.Choice.{if_then_else_};
 ghost use Rattle.base_chars.specs.Character.{lead, Measured};
 ghost use Rattle.base_chars.specs.Class.{isSpace, isDigit, isLetter, isSeparator};
 ghost use Rattle.base_chars.specs.Fold.{folded as foldedByte, raised as raisedByte};
 ghost use Rattle.base_chars.specs.Range.{_‥_};
 ghost use Rattle.base_chars.specs.Sets.{inSet};
-ghost use Rattle.base_chars.specs.Utf8.{begins, sequence, wellFormed, Passed};
+ghost use Rattle.base_chars.specs.Utf8.{begins, sequence, wellFormed, highBits, Passed};
 
 // C's isspace in the C locale.
 pub fn is_space_c(b: u8) -> bool
@@ -197,45 +198,101 @@ fn sequence_at(s: &[u8], at: usize) -> usize
     }
 }
 
-// Whether the eight bytes from a place on are all ASCII.
-fn eight_ascii(s: &[u8], at: usize) -> bool
-    requires { ⌜ at + 8 ≤ length (now s) ⌝ }
-    ensures { λ r. ⌜ r ≡ begins (replicate 8 (0x00 ‥ 0x7f)) (drop at (now (s .entry))) ⌝ }
+// A byte as a number of 64 bits.
+fn wide(b: u8) -> u64
+    ensures { λ r. ⌜ (r ≡ b) × (r < 256) ⌝ }
 {
-    let high = s[at + 4] | (s[at + 5] | (s[at + 6] | s[at + 7]));
-    (s[at] | (s[at + 1] | (s[at + 2] | (s[at + 3] | high)))) < 0x80
+    b as u64
 }
 
-// The place after the blocks of eight ASCII bytes in front.
-fn ascii_blocks(s: &[u8]) -> usize
-    ensures { λ r. ⌜ Passed (now (s .entry)) r ⌝ }
+// The high bits of the eight bytes from a place on, as one number. The first byte is the lowest.
+fn high_bits(s: &[u8], at: usize) -> u64
+    requires { ⌜ at + 8 ≤ length (now s) ⌝ }
+    ensures { λ r. ⌜ r ≡ highBits (take 8 (drop at (now (s .entry)))) ⌝ }
 {
-    let mut i = 0;
-    while 8 <= s.len() - i {
-        if eight_ascii(s, i) {
-            i += 8;
-        } else {
+    let word = wide(s[at])
+        + wide(s[at + 1]) * 0x100
+        + wide(s[at + 2]) * 0x10000
+        + wide(s[at + 3]) * 0x1000000
+        + wide(s[at + 4]) * 0x100000000
+        + wide(s[at + 5]) * 0x10000000000
+        + wide(s[at + 6]) * 0x1000000000000
+        + wide(s[at + 7]) * 0x100000000000000;
+    word & 0x8080808080808080
+}
+
+// How many bytes of a number are 0 below the lowest that is not 0: 8 if all are 0.
+fn zero_bytes(word: u64) -> usize
+    ensures { λ r. ⌜ (r ≡ trailingZeros 64 word / 8) × (r ≤ 8) ⌝ }
+{
+    (u64::trailing_zeros(word) / 8) as usize
+}
+
+// The place after the ASCII bytes from `at` on, which are tested one by one.
+fn after_bytes(s: &[u8], at: usize) -> usize
+    ensures { λ r. ⌜ Passed (now (s .entry)) at r ⌝ }
+{
+    let mut i = at;
+    while i < s.len() {
+        if 0x80 <= s[i] {
             return i;
         }
+        i += 1;
     }
     i
+}
+
+// The same where fewer than eight bytes are left. The last eight are tested, without those before `at`.
+fn after_last(s: &[u8], at: usize) -> usize
+    requires { ⌜ (at ≤ length (now s)) × (length (now s) < at + 8) ⌝ }
+    ensures { λ r. ⌜ Passed (now (s .entry)) at r ⌝ }
+{
+    if s.len() < 8 {
+        return after_bytes(s, at);
+    }
+    let left = s.len() - at;
+    if left == 0 {
+        return at;
+    }
+    let high = high_bits(s, s.len() - 8) >> (64 - 8 * left);
+    at + zero_bytes(high)
+}
+
+// The place after the ASCII bytes from `at` on, which are tested eight at a time. It may lie beyond the end.
+fn after_ascii(s: &[u8], at: usize) -> usize
+    requires { ⌜ at ≤ length (now s) ⌝ }
+    ensures { λ r. ⌜ Passed (now (s .entry)) at r ⌝ }
+{
+    if at < s.len() {
+        if 0x80 <= s[at] {
+            return at;
+        }
+    }
+    let mut i = at;
+    while 8 <= s.len() - i {
+        let high = high_bits(s, i);
+        if high != 0 {
+            return i + zero_bytes(high);
+        }
+        i += 8;
+    }
+    after_last(s, i)
 }
 
 // Whether `s` is well-formed UTF-8, as a Rust `str` is: no overlong form, no surrogate, nothing above U+10FFFF.
 pub fn is_utf8(s: &[u8]) -> bool
     ensures { λ r. ⌜ r ≡ wellFormed (now (s .entry)) ⌝ }
 {
-    let mut i = ascii_blocks(s);
-    while i < s.len() {
-        if s[i] < 0x80 {
-            i += 1;
-        } else {
-            let n = sequence_at(s, i);
-            if n == 0 {
-                return false;
-            }
-            i += n;
+    let mut i = 0;
+    loop {
+        let next = after_ascii(s, i);
+        if s.len() <= next {
+            return true;
         }
+        let n = sequence_at(s, next);
+        if n == 0 {
+            return false;
+        }
+        i = next + n;
     }
-    true
 }
