@@ -1,5 +1,5 @@
 -- A number in the lane. Assumes nothing.
--- `plainly`: a pattern without prefix or suffix, before FX, reads digits right at the place as this number, if they are
+-- `plainly`: a pattern without an ordinal suffix, before FX, reads digits right at the place as this number, if they are
 -- as many as its width or it is free, and if neither field nor date mode was set to another value.
 -- `is-taken`: the same of what the code has.
 -- `is-left`: a pattern that is left changes nothing.
@@ -19,7 +19,7 @@ use Rattle.base_notation.proofs.Cases.{by-if}
 use Rattle.base_strtol.specs.Strtol.{shortAt}
 use Rattle.base_strtol.specs.declared.Short.{Short}
 use Rattle.read_integers.specs.Number.{numberAt}
-use Rattle.read_integers.specs.Suffix.{isFree, pastOrdinal}
+use Rattle.read_integers.specs.Suffix.{isFree, ordinal, pastOrdinal}
 use Rattle.read_integers.specs.declared.Number.{Number}
 use Rattle.read_integers.specs.declared.Number.the-variants.{Read}
 use Rattle.read_integers.proofs.FewDigits.{few-digits, few-no-space}
@@ -59,7 +59,7 @@ module _ (t s : List ℕ) (n next : Node) (f : Fields) (p : Place) where
   abbrev end : ℕ
   end = shortAt s (p .at) .end
 
-  module _ (kind : task .kind ≡ number) (bare : n .suffix ≡ 0) (inexact : p .fx ≡ 0) (moved : end ≡ p .at → ⊥)
+  module _ (kind : task .kind ≡ number) (bare : ordinal (n .suffix) ≡ false) (inexact : p .fx ≡ 0) (moved : end ≡ p .at → ⊥)
       (wide : isFree t n next ≡ false → end - p .at ≡ task .operand)
       (unmixed : mixes new (get f mode) ≡ false)
       (alone : conflicts (get f (task .field)) value ≡ false)
@@ -111,7 +111,7 @@ module _ (t s : List ℕ) (n next : Node) (before : List ℤ) (p : Place) {after
     (d-is : d ≡ shortAt s (p .at)) (task-is : task ≡ taskOf (n .pattern)) (new-is : new ≡ patternOf (n .pattern) .mode)
   where
     pub is-taken
-        : task .kind ≡ number → n .suffix ≡ 0 → p .fx ≡ 0 → (d .end ≡ p .at → ⊥) → (eqb (d .end - p .at) (task .operand) || isFree t n next) ≡ true
+        : task .kind ≡ number → ordinal (n .suffix) ≡ false → p .fx ≡ 0 → (d .end ≡ p .at → ⊥) → (eqb (d .end - p .at) (task .operand) || isFree t n next) ≡ true
         → NumberPut new task (pos (d .value)) (d .end - p .at) before put after → put ≡ true
         → after-spaces ≡ pastField s (place (d .end) 0 false)
         → read (fieldsOf after) after-spaces ≡ actionRead t s n next (fieldsOf before) (enteredBy s (not (eqb (taskOf (n .pattern) .kind) exact)) p)

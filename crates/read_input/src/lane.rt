@@ -2,10 +2,10 @@
 //
 // Nearly all that is read goes this way. A number that has its width in digits is the same whether the width is free or
 // fixed, so what follows the pattern is looked up for other counts alone. A digit right at the place says that no
-// spaces are before the number. At anything else (a prefix or suffix, FX, a space or a sign before the number, a word,
-// a number past nine digits, a field that was set to another value, mixed date modes) the lane ends before the node,
-// and has changed nothing for it: `pattern_read` reads that node, and the lane goes on after it.
-ghost use mathlib.Core.Bool.{_||_};
+// spaces are before the number. At anything else (an ordinal suffix, FX, a space or a sign before the number, a word, a
+// number past nine digits, a field that was set to another value, mixed date modes) the lane ends before the node, and
+// has changed nothing for it: `pattern_read` reads that node, and the lane goes on after it.
+ghost use mathlib.Core.Bool.{false, _||_};
 ghost use mathlib.Core.Path.{_≡_};
 ghost use Prim.Native.Nat.{_+_, _<_, _≤_};
 ghost use lib.Dec.{eqb};
@@ -13,7 +13,7 @@ ghost use lib.ListN.{length, getD};
 ghost use Rattle.template_nodes.specs.Bytes.{nodesIn};
 ghost use Rattle.template_nodes.specs.Template.{endNode};
 ghost use Rattle.read_literals.specs.Literals.{Payable};
-ghost use Rattle.read_integers.specs.Suffix.{isFree};
+ghost use Rattle.read_integers.specs.Suffix.{isFree, ordinal};
 ghost use Rattle.read_fields.specs.Tasks.{Assigned, number};
 ghost use Rattle.read_input.specs.Lane.{LaneRead, NodeTook, NumberPut, Took, leftAt};
 use crate::actions;
@@ -22,6 +22,7 @@ use read_fields::Task;
 use read_fields::field;
 use read_fields::state;
 use read_fields::table;
+use read_integers::ORDINAL;
 use template_nodes::FN_ACTION;
 use template_nodes::NODE;
 use template_nodes::Node;
@@ -86,7 +87,7 @@ fn number_taken(
     f: &mut [i32; 24],
     p: Place,
 ) -> Taken
-    requires { ⌜ (i < length (nodesIn (now c))) × (length (now s) ≤ 512) × Assigned (n .pattern) task × (task .kind ≡ number) × (n .suffix ≡ 0) × (p .fx ≡ 0) ⌝ }
+    requires { ⌜ (i < length (nodesIn (now c))) × (length (now s) ≤ 512) × Assigned (n .pattern) task × (task .kind ≡ number) × (ordinal (n .suffix) ≡ false) × (p .fx ≡ 0) ⌝ }
     ensures { λ r. ⌜ Took (now (t .entry)) (now (s .entry)) n (getD (nodesIn (now (c .entry))) (i + 1) endNode) (now (f .entry)) p r (now (f .exit)) ⌝ }
 {
     let at = p.at;
@@ -132,7 +133,7 @@ fn pattern_taken(
     requires { ⌜ (i < length (nodesIn (now c))) × (length (now s) ≤ 512) ⌝ }
     ensures { λ r. ⌜ Took (now (t .entry)) (now (s .entry)) n (getD (nodesIn (now (c .entry))) (i + 1) endNode) (now (f .entry)) p r (now (f .exit)) ⌝ }
 {
-    if n.suffix != 0 {
+    if n.suffix & ORDINAL != 0 {
         return left(p);
     }
     if p.fx != 0 {

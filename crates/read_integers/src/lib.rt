@@ -16,7 +16,7 @@ pub enum Number {
 }
 
 // The suffix bits of an ordinal: TH and th.
-const ORDINAL: u8 = template_patterns::SUFFIX_TH | template_patterns::SUFFIX_TH_SMALL;
+pub const ORDINAL: u8 = template_patterns::SUFFIX_TH | template_patterns::SUFFIX_TH_SMALL;
 
 // Whether what comes after the pattern `n` of the template `t` is no digit.
 pub fn is_next_separator(t: &[u8], n: Node, next: Node) -> bool

@@ -10,8 +10,7 @@ use Rattle.base_strtol.proofs.is_pair.Tie as tie
 returns-5 : tie.Need-returns-5
 returns-5 c e =
     let second = c .before .before in
-    let first = second .before .before .before in
-    (
+    let first = second .before .before .before in (
       omega (arith, first .before .before .before .if2 .left),
       sym (first .before .is-digit-c .ensures) ∙ not-false _ (first .if3 .left),
       sym (second .before .is-digit-c2 .ensures) ∙ not-false _ (second .if4 .left),

@@ -3,9 +3,10 @@
 use mathlib.Core.Path.{_≡_, _∙_}
 use Prim.Native.Nat.{ℕ}
 use borrow.Author.Needs.{needs}
+use denote.Ref.{now}
 use lib.IntN.{ℤ}
 use mir.Facts.{toZ-ofZ}
-use Rattle.read_fields.specs.Fields.{put}
+use Rattle.read_fields.specs.Fields.{fieldsOf, put}
 use Rattle.read_fields.specs.declared.Fields.{Fields}
 use Rattle.read_fields.specs.declared.Task.{Task}
 use Rattle.read_numbers.specs.Numbers.{kept, noted, withNumber}
@@ -20,7 +21,9 @@ plain task z n f e = rw e
 returns : tie.Need-returns
 returns c =
     let is-plain = c .before .before in
-    rw (toZ-ofZ (is-plain .before .before .fits .z)) at (c .put .ensures) ∙ plain _ _ _ _ (is-plain .if1 .taken)
+    let at-start = is-plain .before .before in
+    let args = at-start .args in
+    rw (toZ-ofZ (at-start .fits .z)) at (c .put .ensures) ∙ plain (args .task) (args .z) (args .n) (fieldsOf (now (args .f))) (is-plain .if1 .taken)
 
 returns-2 : tie.Need-returns-2
 returns-2 c = rw (toZ-ofZ (c .before .before .before .before .fits .z)) at (c .put-by-rule .ensures)

@@ -12,7 +12,7 @@ number-taken-requires c κs =
     let inexact = after-task .before in
     let bare = inexact .before .before in
     let pre = bare .before .before .before .before .before .pre in
-    (pre .0, pre .1, after-task .task-at .ensures, a-number .if3 .left, bare .if1 .left, inexact .if2 .left)
+    (pre .0, pre .1, after-task .task-at .ensures, a-number .if3 .left, rw (bare .if1 .left) refl, inexact .if2 .left)
 
 pub pattern-taken-spec : {M : Type 1} → statement M
 pattern-taken-spec =
