@@ -3,19 +3,22 @@
 -- as many as its width or it is free, and if neither field nor date mode was set to another value.
 -- `is-taken`: the same of what the code has.
 -- `is-left`: a pattern that is left changes nothing.
--- `of-pattern`, `of-literal`: a node by its kind.
+-- `of-pattern`, `of-literal`, `of-character`: what is left after a node, by its kind.
+-- `settled`: a place without skipped spaces, before FX.
 use mathlib.Core.Path.{_≡_, _∙_, refl, sym, ap}
 use mathlib.Core.Bool.{Bool, true, false, not, _||_, false≢true, true≢false}
 use mathlib.Core.List.{List}
-use Prim.Native.Nat.{ℕ, _+_, _-_}
+use Prim.Native.Nat.{ℕ, _+_, _-_, _<_}
 use native.Mathlib.Nat.{add-zero}
+use native.Mathlib.Omega.{arith}
 use borrow.Author.Tests.{eqb-true, eq-eqb, ne-eqb}
 use lib.Dec.{eqb}
 use lib.IntN.{ℤ, pos}
-use lib.ListN.{getD}
+use lib.ListN.{length, getD}
 use lib.Seq.{getD-set-other}
 use Rattle.base_notation.specs.Choice.{if_then_else_}
 use Rattle.base_notation.proofs.Cases.{by-if}
+use Rattle.base_accents.specs.Accents.{measureOf}
 use Rattle.base_strtol.specs.Strtol.{shortAt}
 use Rattle.base_strtol.specs.declared.Short.{Short}
 use Rattle.read_integers.specs.Number.{numberAt}
@@ -37,8 +40,10 @@ use Rattle.read_numbers.specs.Numbers.{storedNumber, withNumber}
 use Rattle.read_numbers.specs.Year.{commaYearAt}
 use Rattle.read_literals.specs.Literals.{enteredBy, literalPassed, pastField, place}
 use Rattle.read_input.specs.Reader.{actionRead, byKind, entered, mixes, nodeRead, performed, withMode}
-use Rattle.read_input.specs.Lane.{NodeTook, NumberPut, Took, leftAt}
+use Rattle.read_input.specs.Lane.{NumberPut, Took, leftAt}
 use Rattle.read_input.specs.declared.lane.Taken.{Taken}
+use Rattle.read_input.specs.Turn.{Turned}
+use Rattle.read_input.proofs.Turns.{passes}
 use Rattle.read_input.proofs.Verdicts.{passed}
 
 -- the date mode leaves every other field
@@ -123,15 +128,25 @@ module _ (t s : List ℕ) (n next : Node) (before : List ℤ) (p : Place) {after
         (ap (λ (g : Fields). read g (pastField s (place end 0 false))) (put-is .put held)
         ∙ plainly t s n next (fieldsOf before) p (rw task-is at kind) bare inexact (rw d-is at moved) wide (put-is .unmixed held) (put-is .alone held))
 
--- node i of the nodes ns
-module _ (t s : List ℕ) (ns : List Node) (i : ℕ) (p : Place) {before after : List ℤ} {r : Taken} (n : Node) (e : n ≡ getD ns i endNode) where
-  pub of-pattern : n .kind ≡ 1 → Took t s n (getD ns (i + 1) endNode) before p r after → NodeTook t s ns i before p r after
-  unfolding nodeRead entered
-  of-pattern k took =
-      record { left = λ l. (took .left l, rw (← e) k); taken = λ l. rw (← e, eq-eqb (n .kind) 1 k) (took .taken l) }
+-- node i of the nodes ns, where something of the input is left
+module _ (t s : List ℕ) (ns : List Node) (whole : Reading) (i : ℕ) (f : Fields) (p : Place) (turned : Turned t s ns whole i f p) (h : i < length ns) (l : p .at < length s)
+    (n : Node) (e : n ≡ getD ns i endNode)
+  where
+    pub of-pattern
+        : n .kind ≡ 1 → {g : Fields} {q : Place} → read g q ≡ actionRead t s n (getD ns (i + 1) endNode) f (enteredBy s (not (eqb (taskOf (n .pattern) .kind) exact)) p)
+        → Turned t s ns whole (i + 1) g q
+    unfolding nodeRead entered
+    of-pattern k is = passes t s ns whole i f p turned h l n (getD ns (i + 1) endNode) e refl _ _ (rw (eq-eqb (n .kind) 1 k) is)
 
-  pub of-literal
-      : (n .kind ≡ 1 → ⊥) → r .taken ≡ true → r .place ≡ literalPassed s n (enteredBy s (eqb i 0) p) → after ≡ before → NodeTook t s ns i before p r after
-  unfolding nodeRead entered
-  of-literal k yes-taken place-is same =
-      record { left = λ l. absurd (true≢false (sym yes-taken ∙ l)); taken = λ l. rw (← e, ne-eqb (n .kind) 1 k, place-is, same) refl }
+    pub of-literal : (n .kind ≡ 1 → ⊥) → Turned t s ns whole (i + 1) f (literalPassed s n (enteredBy s (eqb i 0) p))
+    unfolding nodeRead entered
+    of-literal k = passes t s ns whole i f p turned h l n (getD ns (i + 1) endNode) e refl _ _ (rw (ne-eqb (n .kind) 1 k) refl)
+
+    -- a character for which no skipped space can pay
+    pub of-character : (at : ℕ) → p ≡ place at 0 false → n .kind ≡ 2 → (i ≡ 0 → ⊥) → Turned t s ns whole (i + 1) f (place (at + measureOf (n .accents) s at) 0 false)
+    unfolding literalPassed
+    of-character at q k later = rw (q, ne-eqb i 0 later, k) at (of-literal (λ z. absurd (omega (arith, k, z))))
+
+-- a place without skipped spaces, before FX
+pub settled : (p : Place) → p .extra ≡ 0 → p .fx ≡ 0 → p ≡ place (p .at) 0 false
+settled p e x = λ i. record { at = p .at; extra = e i; fx = x i }

@@ -2,7 +2,7 @@
 use mathlib.Core.Path.{_≡_}
 use mathlib.Core.Bool.{Bool, true, false, not}
 use mathlib.Core.List.{List}
-use Prim.Native.Nat.{ℕ, _+_, _≤_, _<_}
+use Prim.Native.Nat.{ℕ, _≤_, _<_}
 use lib.Dec.{eqb}
 use lib.IntN.{ℤ}
 use lib.ListN.{length, drop, getD}
@@ -10,11 +10,13 @@ use Rattle.template_nodes.specs.Template.{action, endNode}
 use Rattle.template_nodes.specs.declared.Node.{Node}
 use Rattle.read_fields.specs.Fields.{conflicts, fieldsOf, get, mode, read}
 use Rattle.read_fields.specs.Tasks.{exact, taskOf}
+use Rattle.read_fields.specs.declared.Fields.{Fields}
 use Rattle.read_fields.specs.declared.Place.{Place}
+use Rattle.read_fields.specs.declared.Reading.{Reading}
 use Rattle.read_fields.specs.declared.Task.{Task}
 use Rattle.read_numbers.specs.Numbers.{withNumber}
-use Rattle.read_literals.specs.Literals.{enteredBy}
-use Rattle.read_input.specs.Reader.{actionRead, mixes, nodeRead, readFrom, withMode}
+use Rattle.read_literals.specs.Literals.{enteredBy, place}
+use Rattle.read_input.specs.Reader.{actionRead, mixes, readFrom, withMode}
 use Rattle.read_input.specs.Turn.{Turned}
 use Rattle.read_input.specs.declared.lane.Passed.{Passed}
 use Rattle.read_input.specs.declared.lane.Taken.{Taken}
@@ -36,11 +38,20 @@ pub record Took (t s : List ℕ) (n next : Node) (before : List ℤ) (p : Place)
   pub taken : r .taken ≡ true
       → read (fieldsOf after) (r .place) ≡ actionRead t s n next (fieldsOf before) (enteredBy s (not (eqb (taskOf (n .pattern) .kind) exact)) p)
 
--- the same of node i, where only a pattern is left
-pub record NodeTook (t s : List ℕ) (ns : List Node) (i : ℕ) (before : List ℤ) (p : Place) (r : Taken) (after : List ℤ) : Type 0 where
-  pub left : r .taken ≡ false → (after ≡ before) × (getD ns i endNode .kind ≡ action)
-  pub taken : r .taken ≡ true
-      → read (fieldsOf after) (r .place) ≡ nodeRead t s (getD ns i endNode) (getD ns (i + 1) endNode) (eqb i 0) (fieldsOf before) p
+-- the next node and the place, where no skipped space is left
+abbrev pub passedAt : ℕ → ℕ → Passed
+passedAt next at = record { next = next; place = place at 0 false }
+
+-- characters are read from node i on, whatever the template and the fields are
+pub record CharsRead (s : List ℕ) (ns : List Node) (i : ℕ) (p : Place) (r : Passed) : Type 0 where
+  pub on : i ≤ r .next
+  pub turned : (t : List ℕ) (f : Fields) (whole : Reading) → Turned t s ns whole i f p → Turned t s ns whole (r .next) f (r .place)
+
+-- node i is read, and perhaps some after it; only a pattern is left
+pub record NodeTook (t s : List ℕ) (ns : List Node) (i : ℕ) (before : List ℤ) (p : Place) (r : Passed) (after : List ℤ) : Type 0 where
+  pub on : i ≤ r .next
+  pub left : r .next ≡ i → getD ns i endNode .kind ≡ action
+  pub turned : (whole : Reading) → Turned t s ns whole i (fieldsOf before) p → Turned t s ns whole (r .next) (fieldsOf after) (r .place)
 
 -- nodes are read from node i on, up to a pattern or the end of the input or of the nodes
 pub record LaneRead (t s : List ℕ) (ns : List Node) (i : ℕ) (p : Place) (before : List ℤ) (r : Passed) (after : List ℤ) : Type 0 where

@@ -12,10 +12,10 @@ ghost use lib.Dec.{eqb};
 ghost use lib.ListN.{length, getD};
 ghost use Rattle.template_nodes.specs.Bytes.{nodesIn};
 ghost use Rattle.template_nodes.specs.Template.{endNode};
-ghost use Rattle.read_literals.specs.Literals.{Payable};
+ghost use Rattle.read_literals.specs.Literals.{Payable, enteredBy, literalPassed};
 ghost use Rattle.read_integers.specs.Suffix.{isFree, ordinal};
 ghost use Rattle.read_fields.specs.Tasks.{Assigned, number};
-ghost use Rattle.read_input.specs.Lane.{LaneRead, NodeTook, NumberPut, Took, leftAt};
+ghost use Rattle.read_input.specs.Lane.{CharsRead, LaneRead, NodeTook, NumberPut, Took, leftAt, passedAt};
 use crate::actions;
 use read_fields::Place;
 use read_fields::Task;
@@ -24,6 +24,7 @@ use read_fields::state;
 use read_fields::table;
 use read_integers::ORDINAL;
 use template_nodes::FN_ACTION;
+use template_nodes::FN_CHAR;
 use template_nodes::NODE;
 use template_nodes::Node;
 
@@ -31,6 +32,18 @@ use template_nodes::Node;
 pub struct Passed {
     pub next: usize,
     pub place: Place,
+}
+
+// The same where no skipped space is left.
+fn reached(next: usize, at: usize) -> Passed
+    ensures { λ r. ⌜ r ≡ passedAt next at ⌝ }
+{
+    let place = Place {
+        at,
+        extra: 0,
+        fx: 0,
+    };
+    Passed { next, place }
 }
 
 // Whether the lane took a pattern, and the place after it.
@@ -146,19 +159,62 @@ fn pattern_taken(
     number_taken(c, t, s, i, n, task, f, p)
 }
 
-// Node i, a literal or a pattern.
-fn node_taken(c: &[u8], t: &[u8], s: &[u8], i: usize, f: &mut [i32; 24], p: Place) -> Taken
+// Characters from a node on, one after another, where no skipped space can pay for them.
+fn chars_passed(c: &[u8], s: &[u8], from: usize, place: Place) -> Passed
+    requires { ⌜ (from ≤ length (nodesIn (now c))) × (from ≡ 0 → ⊥) × (place .extra ≡ 0) × (place .fx ≡ 0) ⌝ }
+    ensures { λ r. ⌜ CharsRead (now (s .entry)) (nodesIn (now (c .entry))) from place r ⌝ }
+{
+    let count = c.len() / NODE;
+    let mut at = place.at;
+    let mut i = from;
+    while i < count {
+        if s.len() <= at {
+            return reached(i, at);
+        }
+        let n = template_nodes::node_at(c, i);
+        if n.kind != FN_CHAR {
+            return reached(i, at);
+        }
+        at += base_accents::measure(s, at, n.accents);
+        i += 1;
+    }
+    reached(i, at)
+}
+
+// A literal, node i, and the characters after it.
+fn literal_taken(c: &[u8], s: &[u8], i: usize, n: Node, p: Place) -> Passed
     requires { ⌜ (i < length (nodesIn (now c))) × Payable (now s) p × (p .at ≤ length (now s)) × (length (now s) ≤ 512) ⌝ }
+    ensures { λ r. ⌜ CharsRead (now (s .entry)) (nodesIn (now (c .entry))) (i + 1) (literalPassed (now (s .entry)) n (enteredBy (now (s .entry)) (eqb i 0) p)) r ⌝ }
+{
+    let q = read_literals::literal_read(s, n, i == 0, p);
+    if n.kind == FN_CHAR {
+        if q.extra == 0 {
+            if q.fx == 0 {
+                return chars_passed(c, s, i + 1, q);
+            }
+        }
+    }
+    Passed {
+        next: i + 1,
+        place: q,
+    }
+}
+
+// Node i: a pattern that is read or left, or a literal and the characters after it.
+fn node_taken(c: &[u8], t: &[u8], s: &[u8], i: usize, f: &mut [i32; 24], p: Place) -> Passed
+    requires { ⌜ (i < length (nodesIn (now c))) × (i ≡ 0 → p .extra ≡ 0) × Payable (now s) p × (p .at < length (now s)) × (length (now s) ≤ 512) ⌝ }
     ensures { λ r. ⌜ NodeTook (now (t .entry)) (now (s .entry)) (nodesIn (now (c .entry))) i (now (f .entry)) p r (now (f .exit)) ⌝ }
 {
     let n = template_nodes::node_at(c, i);
     if n.kind == FN_ACTION {
-        return pattern_taken(c, t, s, i, n, f, p);
+        let r = pattern_taken(c, t, s, i, n, f, p);
+        if r.taken {
+            let place = r.place;
+            return Passed { next: i + 1, place };
+        }
+        return Passed { next: i, place: p };
     }
-    Taken {
-        taken: true,
-        place: read_literals::literal_read(s, n, i == 0, p),
-    }
+    literal_taken(c, s, i, n, p)
 }
 
 // One node after another from a node on, up to a pattern that the lane leaves, or the end of the input or of the nodes.
@@ -175,11 +231,11 @@ pub fn lane(c: &[u8], t: &[u8], s: &[u8], f: &mut [i32; 24], from: usize, place:
             return Passed { next: i, place: p };
         }
         let r = node_taken(c, t, s, i, f, p);
-        if !r.taken {
-            return Passed { next: i, place: p };
+        if r.next == i {
+            return r;
         }
         p = r.place;
-        i += 1;
+        i = r.next;
     }
     Passed { next: i, place: p }
 }

@@ -1,10 +1,9 @@
 -- `read_input::lane::lane` meets its contract: the invariant is that what is left, read from where reading is, gives what
 -- was to be read. Assumes nothing.
-use mathlib.Core.Path.{refl}
+use mathlib.Core.Path.{_≡_, refl}
 use Prim.Native.Nat.{_-_, _≤_, _<_}
 use native.Mathlib.Omega.{arith}
 use borrow.Author.Needs.{needs}
-use borrow.Author.Tests.{not-true, not-false}
 use denote.Ref.{now}
 use lib.Dec.{eqb}
 use lib.ListN.{length, drop}
@@ -13,7 +12,6 @@ use Rattle.template_nodes.proofs.Encoding.{nodes-length}
 use Rattle.read_fields.specs.Fields.{fieldsOf}
 use Rattle.read_input.specs.Reader.{readFrom}
 use Rattle.read_input.specs.Turn.{Turned}
-use Rattle.read_input.proofs.Turns.{passes}
 use Rattle.read_input.proofs.lane.lane.Statement.{statement}
 use Rattle.read_input.proofs.lane.lane.Tie as tie
 
@@ -46,26 +44,23 @@ module _ (c : tie.Else1 Inv-loop μ-loop) where
 node-taken-requires : tie.Need-node-taken-requires Inv-loop μ-loop
 node-taken-requires c κs =
     let here = c .before in
-    (one-left here, at-loop here .loop .inv .1 .payable, omega (arith, here .if1 .left), search needs)
+    let inv = at-loop here .loop .inv in
+    (one-left here, inv .1 .none, inv .1 .payable, omega (arith, here .if1 .left), search needs)
 
 -- a pattern that is left
 returns-2 : tie.Need-returns-2 Inv-loop μ-loop
 returns-2 c =
     let after-node = c .before .before in
     let inv = at-loop (after-node .before .before) .loop .inv in
-    let left = after-node .node-taken .ensures .left (not-true _ (c .if2 .taken)) in
-    record { on = inv .0; turned = rw (left .0) (inv .1); stops = λ h l. left .1 }
+    let took = after-node .node-taken .ensures in
+    record { on = omega (arith, inv .0, took .on); turned = took .turned _ (inv .1); stops = λ h l. rw (c .if2 .taken) (took .left (c .if2 .taken)) }
 
 loop-again : tie.Need-loop-again Inv-loop μ-loop
 loop-again c =
-    let taken = c .before in
-    let after-node = taken .before .before in
-    let here = after-node .before .before in
-    let inv = at-loop here .loop .inv in (
-      omega (arith, inv .0),
-      passes _ _ _ _ _ _ _ (inv .1) (one-left here) (omega (arith, here .if1 .left)) _ _ refl refl _ _
-          (after-node .node-taken .ensures .taken (not-false _ (taken .if2 .left))),
-    )
+    let after-node = c .before .before .before in
+    let inv = at-loop (after-node .before .before) .loop .inv in
+    let took = after-node .node-taken .ensures in
+    (omega (arith, inv .0, took .on), took .turned _ (inv .1))
 
 -- the template ended
 returns-3 : tie.Need-returns-3 Inv-loop μ-loop
@@ -78,6 +73,13 @@ returns-3 c =
       stops = λ h l. absurd (omega (arith, c .loop-test .left, nodes-length (now (args .c)), h));
     }
 
+loop-less : tie.Need-loop-less Inv-loop μ-loop
+loop-less c =
+    let not-left = c .before in
+    let after-node = not-left .before .before in
+    let in-loop = after-node .before .before .before in
+    omega (arith, not-left .if2 .left, after-node .node-taken .ensures .on, in-loop .loop-test .taken)
+
 pub lane-spec : {M : Type 1} → statement M
 lane-spec =
     tie.close
@@ -88,7 +90,6 @@ lane-spec =
     returns
     node-taken-requires
     returns-2
-    (λ c. search needs)
-    (λ c. omega arith)
+    loop-less
     loop-again
     returns-3)
