@@ -116,14 +116,19 @@ fn lead_of(b: u8) -> usize
     if b < 0xf8 { 4 } else { 1 }
 }
 
-// PostgreSQL's pg_utf_mblen of the character at `s[i]`, cut at the end of `s`. Past the end it is 0.
+// PostgreSQL's pg_utf_mblen of the character at `s[i]`, cut at the end of `s`. Past the end it is 0. Most characters are
+// one byte.
 pub fn pg_mblen(s: &[u8], i: usize) -> usize
     ensures { λ r. ⌜ Measured (now (s .entry)) i r ⌝ }
 {
     if s.len() <= i {
         return 0;
     }
-    let n = lead_of(s[i]);
+    let b = s[i];
+    if b < 0xc0 {
+        return 1;
+    }
+    let n = lead_of(b);
     let left = s.len() - i;
     if n <= left { n } else { left }
 }
