@@ -62,7 +62,7 @@ fn left(place: Place) -> Taken
 }
 
 // A number that was read from n bytes goes into its field, with the pattern's date mode; unless the field or the mode
-// was set to another value.
+// was set to another value. Most numbers are put as they are.
 fn number_put(mode: u8, task: Task, z: i32, n: usize, f: &mut [i32; 24]) -> bool
     requires { ⌜ task .field < 24 ⌝ }
     ensures { λ r. ⌜ NumberPut mode task z n (now (f .entry)) r (now (f .exit)) ⌝ }
@@ -74,6 +74,10 @@ fn number_put(mode: u8, task: Task, z: i32, n: usize, f: &mut [i32; 24]) -> bool
         return false;
     }
     actions::with_mode(mode, f);
+    if task.rule == table::PLAIN {
+        state::put(f, task.field, z);
+        return true;
+    }
     read_numbers::put_number(task, z, n, f);
     true
 }

@@ -100,20 +100,8 @@ fn noted(rule: usize, width: u8, f: &mut [i32; 24])
     }
 }
 
-// A number that was read from n bytes goes into its field. Most are put as they are.
+// A number that was read from n bytes goes into its field.
 pub fn put_number(task: Task, z: i32, n: usize, f: &mut [i32; 24])
-    requires { ⌜ task .field < 24 ⌝ }
-    ensures { λ r. ⌜ fieldsOf (now (f .exit)) ≡ withNumber task z n (fieldsOf (now (f .entry))) ⌝ }
-{
-    if task.rule == table::PLAIN {
-        state::put(f, task.field, z);
-        return;
-    }
-    put_by_rule(task, z, n, f);
-}
-
-// The same by the task's rule, whichever it is.
-fn put_by_rule(task: Task, z: i32, n: usize, f: &mut [i32; 24])
     requires { ⌜ task .field < 24 ⌝ }
     ensures { λ r. ⌜ fieldsOf (now (f .exit)) ≡ withNumber task z n (fieldsOf (now (f .entry))) ⌝ }
 {
