@@ -2,6 +2,8 @@
 
 -- the answer to a template and an input: the parts of a moment, or a refusal
 pub mod Parts
+-- the moment of plain fields
+pub mod Plain
 -- the number of each refusal
 pub mod Report
 -- the range of each part, what its marks say, and the numbers of refusals

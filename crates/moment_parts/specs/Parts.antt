@@ -1,4 +1,5 @@
 -- The parts answer: limits and UTF-8 first, then the fields that are read, then the moment that they make.
+use mathlib.Core.Path.{_≡_}
 use mathlib.Core.Bool.{Bool, true, false, not, _&&_, _||_}
 use mathlib.Core.List.{List, []}
 use Prim.Native.Nat.{ℕ}
@@ -88,6 +89,10 @@ thenFields strict (Stopped why) f = refusedBy why
 -- what the nodes of a template t make of an input
 abbrev pub answerBy : Bool → List Node → List ℕ → List ℕ → Answer
 answerBy strict ns t s = let r = readAll t s ns in thenFields strict (r .verdict) (r .fields)
+
+-- a verdict and fields make that answer, whatever the strict switch
+abbrev pub Makes : Verdict → Fields → List Node → List ℕ → List ℕ → Type 0
+Makes verdict f ns t s = (strict : Bool) → thenFields strict verdict f ≡ answerBy strict ns t s
 
 -- the parts of an input within its limit
 unfoldable pub partsRead : Bool → List Node → List ℕ → List ℕ → Answer

@@ -1,11 +1,14 @@
 // The parts of a moment from the fields that a template read: do_to_timestamp of PostgreSQL's formatting.c.
+mod plain;
+
 ghost use mathlib.Core.Path.{_≡_};
 ghost use mathlib.Core.Bool.{_&&_};
 ghost use Prim.Native.Nat.{_≤_};
 ghost use lib.ListN.{length};
+ghost use Rattle.read_fields.specs.Fields.{fieldsOf, noFields};
 ghost use Rattle.base_chars.specs.Utf8.{wellFormed};
 ghost use Rattle.template_nodes.specs.Bytes.{nodesIn};
-ghost use Rattle.moment_parts.specs.Parts.{answerBy, checkedMoment, momentOf, partsBy, partsOf, thenFields};
+ghost use Rattle.moment_parts.specs.Parts.{Makes, checkedMoment, momentOf, partsBy, partsOf, thenFields};
 ghost use Rattle.moment_parts.specs.Report.{unreadReport};
 use base_refusals::Refusal;
 use base_refusals::Report;
@@ -24,6 +27,8 @@ use moment_time::minute_of;
 use moment_time::offset_of;
 use moment_time::second_of;
 use moment_time::time_in_range;
+pub use plain::has_plain_moment;
+pub use plain::plain_parts;
 use read_fields::Fields;
 use read_fields::Verdict;
 use read_fields::field;
@@ -126,29 +131,28 @@ fn answered(strict: bool, verdict: Verdict, f: Fields) -> Answer
     }
 }
 
-// The parts of an input that is UTF-8 and within its limit.
-fn parts_within(strict: bool, c: &[u8], t: &[u8], s: &[u8]) -> Answer
-    requires { ⌜ length (now s) ≤ 512 ⌝ }
-    ensures { λ a. ⌜ a ≡ answerBy strict (nodesIn (now (c .entry))) (now (t .entry)) (now (s .entry)) ⌝ }
+// What is read of an input that is UTF-8 and within its limit goes into fields that are lent, all absent at first.
+fn fields_within(c: &[u8], t: &[u8], s: &[u8], f: &mut [i32; 24]) -> Verdict
+    requires { ⌜ (length (now s) ≤ 512) × (fieldsOf (now f) ≡ noFields) ⌝ }
+    ensures { λ r. ⌜ Makes r (fieldsOf (now (f .exit))) (nodesIn (now (c .entry))) (now (t .entry)) (now (s .entry)) ⌝ }
 {
-    let mut values = [0; 24];
-    let read = read_input::dch_from_char(c, t, s, &mut values);
-    let verdict = read.verdict;
-    answered(strict, verdict, Fields { values })
+    let read = read_input::dch_from_char(c, t, s, f);
+    read.verdict
 }
 
-// The parts of an input by the nodes that any bytes hold. t is the template that they were made from.
-pub fn parts_by(set: Settings, c: &[u8], t: &[u8], s: &[u8]) -> Answer
-    ensures { λ a. ⌜ a ≡ partsBy set (nodesIn (now (c .entry))) (now (t .entry)) (now (s .entry)) ⌝ }
+// The fields of an input by the nodes that any bytes hold. t is the template that they were made from.
+pub fn fields_by(set: Settings, c: &[u8], t: &[u8], s: &[u8], f: &mut [i32; 24]) -> Verdict
+    requires { ⌜ fieldsOf (now f) ≡ noFields ⌝ }
+    ensures { λ r. ⌜ thenFields (set .strict) r (fieldsOf (now (f .exit))) ≡ partsBy set (nodesIn (now (c .entry))) (now (t .entry)) (now (s .entry)) ⌝ }
 {
     let limit = base_settings::input_limit(set);
     if limit < s.len() {
-        return Answer::Refused(Unread::By(Refusal::TooLong));
+        return Verdict::Refused(Refusal::TooLong);
     }
     if !base_chars::is_utf8(s) {
-        return Answer::Refused(Unread::By(Refusal::NotUtf8));
+        return Verdict::Refused(Refusal::NotUtf8);
     }
-    parts_within(set.strict, c, t, s)
+    fields_within(c, t, s, f)
 }
 
 fn are_utf8(t: &[u8], s: &[u8]) -> bool
@@ -160,20 +164,38 @@ fn are_utf8(t: &[u8], s: &[u8]) -> bool
     base_chars::is_utf8(s)
 }
 
-// The parts of an input by a template.
-pub fn to_timestamp_parts(set: Settings, t: &[u8], s: &[u8]) -> Answer
-    ensures { λ a. ⌜ a ≡ partsOf set (now (t .entry)) (now (s .entry)) ⌝ }
+// The fields of an input by a template.
+pub fn fields_of(set: Settings, t: &[u8], s: &[u8], f: &mut [i32; 24]) -> Verdict
+    requires { ⌜ fieldsOf (now f) ≡ noFields ⌝ }
+    ensures { λ r. ⌜ thenFields (set .strict) r (fieldsOf (now (f .exit))) ≡ partsOf set (now (t .entry)) (now (s .entry)) ⌝ }
 {
     if base_settings::template_limit(set) < t.len() {
-        return Answer::Refused(Unread::By(Refusal::TooLong));
+        return Verdict::Refused(Refusal::TooLong);
     }
     if base_settings::input_limit(set) < s.len() {
-        return Answer::Refused(Unread::By(Refusal::TooLong));
+        return Verdict::Refused(Refusal::TooLong);
     }
     if !are_utf8(t, s) {
-        return Answer::Refused(Unread::By(Refusal::NotUtf8));
+        return Verdict::Refused(Refusal::NotUtf8);
     }
     let mut nodes = [0u8; NODES];
     let end = NODE * template_nodes::parse_format(set.accents, t, &mut nodes);
-    parts_within(set.strict, &nodes[..end], t, s)
+    fields_within(&nodes[..end], t, s, f)
+}
+
+// The parts of an input by the nodes that any bytes hold, and by a template.
+pub fn parts_by(set: Settings, c: &[u8], t: &[u8], s: &[u8]) -> Answer
+    ensures { λ a. ⌜ a ≡ partsBy set (nodesIn (now (c .entry))) (now (t .entry)) (now (s .entry)) ⌝ }
+{
+    let mut values = [0; 24];
+    let verdict = fields_by(set, c, t, s, &mut values);
+    answered(set.strict, verdict, Fields { values })
+}
+
+pub fn to_timestamp_parts(set: Settings, t: &[u8], s: &[u8]) -> Answer
+    ensures { λ a. ⌜ a ≡ partsOf set (now (t .entry)) (now (s .entry)) ⌝ }
+{
+    let mut values = [0; 24];
+    let verdict = fields_of(set, t, s, &mut values);
+    answered(set.strict, verdict, Fields { values })
 }

@@ -1,36 +1,12 @@
--- `moment_parts::parts_by` meets its contract: the limit is tested first, then UTF-8, as in the definition.
+-- `moment_parts::parts_by` meets its contract: the answer is what the verdict and the fields of `fields_by` make.
 -- Assumes nothing.
-use mathlib.Core.Path.{_∙_, sym}
-use native.Mathlib.Omega.{arith}
+use mathlib.Core.Path.{_∙_}
 use borrow.Author.Needs.{needs}
-use borrow.Author.Tests.{not-true, not-false}
-use Rattle.base_settings.proofs.Most.{input-most}
-use Rattle.moment_parts.proofs.Limits.{input-bad, input-good, input-long, input-within}
 use Rattle.moment_parts.proofs.parts_by.Statement.{statement}
 use Rattle.moment_parts.proofs.parts_by.Tie as tie
 
--- the input is over its limit
 returns : tie.Need-returns
-returns c = input-long _ _ _ _ (omega arith)
-
--- the input is not UTF-8
-returns-2 : tie.Need-returns-2
-returns-2 c =
-    input-bad _ _ _ _ (sym (c .before .is-utf8 .ensures) ∙ not-true _ (c .if2 .taken)) ∙ input-within _ _ _ _ (omega arith)
-
--- within it an input has at most 512 bytes
-parts-within-requires : tie.Need-parts-within-requires
-parts-within-requires c κs =
-    let args = c .before .before .before .before .before .before .before .args in
-    omega (arith, input-most (args .set))
-
--- the input is read
-returns-3 : tie.Need-returns-3
-returns-3 c =
-    let at-test = c .before in
-    c .parts-within .ensures
-    ∙ input-good _ _ _ _ (sym (at-test .before .is-utf8 .ensures) ∙ not-false _ (at-test .if2 .left))
-    ∙ input-within _ _ _ _ (omega arith)
+returns c = c .answered .ensures ∙ c .before .fields-by .ensures
 
 pub parts-by-spec : {M : Type 1} → statement M
-parts-by-spec = tie.close (tie.spec (λ c κs. search needs) returns (λ c κs. search needs) returns-2 parts-within-requires returns-3)
+parts-by-spec = tie.close (tie.spec (λ c κs. search needs) (λ c κs. search needs) returns)

@@ -1,5 +1,5 @@
--- `moment_parts::parts_within` meets its contract: what is read is what the definition reads; a refusal needs no fields.
--- Assumes nothing.
+-- `moment_parts::fields_within` meets its contract: what is read is what the definition reads; a refusal needs no
+-- fields. Assumes nothing.
 use mathlib.Core.Path.{_≡_, _∙_, refl, ap}
 use mathlib.Core.Bool.{Bool}
 use mathlib.Core.List.{List}
@@ -12,8 +12,8 @@ use Rattle.read_fields.specs.declared.Reading.{Reading}
 use Rattle.read_fields.specs.declared.Verdict.{Verdict}
 use Rattle.read_fields.specs.declared.Verdict.the-variants.{Read, Refused}
 use Rattle.read_input.specs.Reader.{Went}
-use Rattle.moment_parts.proofs.parts_within.Statement.{statement}
-use Rattle.moment_parts.proofs.parts_within.Tie as tie
+use Rattle.moment_parts.proofs.fields_within.Statement.{statement}
+use Rattle.moment_parts.proofs.fields_within.Tie as tie
 
 -- the answer by the verdict: only what was read needs its fields
 by-verdict : (strict : Bool) (r : Reading) {o : Outcome} {values : List ℤ} → Went r o values → (v : Verdict) → o .verdict ≡ v
@@ -26,7 +26,7 @@ same-answer : (strict : Bool) (r : Reading) {o : Outcome} {values : List ℤ} �
 same-answer strict r {o} went = by-verdict strict r went (o .verdict) refl ∙ ap (λ (v : Verdict). thenFields strict v (r .fields)) (went .verdict)
 
 returns : tie.Need-returns
-returns c = c .answered .ensures ∙ same-answer _ _ (c .before .dch-from-char .ensures)
+returns c = λ strict. same-answer strict _ (c .dch-from-char .ensures)
 
-pub parts-within-spec : {M : Type 1} → statement M
-parts-within-spec = tie.close (tie.spec (λ c κs. search needs) (λ c κs. search needs) returns)
+pub fields-within-spec : {M : Type 1} → statement M
+fields-within-spec = tie.close (tie.spec (λ c κs. search needs) returns)
