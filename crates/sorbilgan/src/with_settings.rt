@@ -13,10 +13,10 @@ use template_nodes::NODE;
 pub extern "C" fn sorbilgan_parts_with(settings: u32, t: &[u8], s: &[u8], out: &mut [i64; 15]) -> u8
     ensures { λ r. ⌜ Recorded (partsRecord (partsOf (settingsOf settings) (now (t .entry)) (now (s .entry)))) (now (out .exit)) r ⌝ }
 {
-    sorbilgan_records::put_parts(
-        moment_parts::to_timestamp_parts(settings_of(settings), t, s),
-        out,
-    )
+    let set = settings_of(settings);
+    let mut f = [0; 24];
+    let verdict = moment_parts::fields_of(set, t, s, &mut f);
+    sorbilgan_records::put_read(set.strict, verdict, &f, out)
 }
 
 // The microseconds of that moment since 1970-01-01.
@@ -73,10 +73,10 @@ pub extern "C" fn sorbilgan_parts_by_with(
 ) -> u8
     ensures { λ r. ⌜ Recorded (partsRecord (partsBy (settingsOf settings) (nodesIn (now (nodes .entry))) (now (t .entry)) (now (s .entry)))) (now (out .exit)) r ⌝ }
 {
-    sorbilgan_records::put_parts(
-        moment_parts::parts_by(settings_of(settings), nodes, t, s),
-        out,
-    )
+    let set = settings_of(settings);
+    let mut f = [0; 24];
+    let verdict = moment_parts::fields_by(set, nodes, t, s, &mut f);
+    sorbilgan_records::put_read(set.strict, verdict, &f, out)
 }
 
 #[no_mangle]

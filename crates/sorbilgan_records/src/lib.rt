@@ -4,13 +4,18 @@ ghost use mathlib.Core.List.{[], _∷_, _++_};
 ghost use lib.IntN.{pos};
 ghost use lib.ListN.{replicate};
 ghost use Rattle.sorbilgan_records.specs.Records.{Recorded, accepted, dateTimeEntries, dayRecord, instantRecord, partsRecord, reportEntries, valueRecord};
+ghost use Rattle.moment_parts.specs.Parts.{momentOf, thenFields};
+ghost use Rattle.read_fields.specs.Fields.{fieldsOf};
 use base_refusals::NO_PATTERN;
 use base_refusals::Report;
 use moment_instants::Day;
 use moment_instants::Instant;
 use moment_parts::Answer;
 use moment_parts::Parts;
+use moment_parts::Unread;
 use moment_time::Offset;
+use read_fields::Fields;
+use read_fields::Verdict;
 
 pub fn put_value(r: Report, value: i64, out: &mut [i64; 5]) -> u8
     ensures { λ n. ⌜ Recorded (valueRecord r value) (now (out .exit)) n ⌝ }
@@ -97,5 +102,25 @@ pub fn put_parts(answer: Answer, out: &mut [i64; 15]) -> u8
             }
         }
         Answer::Refused(why) => put_refusal(moment_parts::report_of(why), out),
+    }
+}
+
+// The moment that fields make. Plain fields need no answer in between.
+fn put_fields(strict: bool, f: &[i32; 24], out: &mut [i64; 15]) -> u8
+    ensures { λ n. ⌜ Recorded (partsRecord (momentOf strict (fieldsOf (now (f .entry))))) (now (out .exit)) n ⌝ }
+{
+    if moment_parts::has_plain_moment(f) {
+        return put_moment(moment_parts::plain_parts(f), 0, 0, out);
+    }
+    put_parts(moment_parts::moment_of(strict, Fields { values: *f }), out)
+}
+
+// What a verdict and the fields that were read make.
+pub fn put_read(strict: bool, verdict: Verdict, f: &[i32; 24], out: &mut [i64; 15]) -> u8
+    ensures { λ n. ⌜ Recorded (partsRecord (thenFields strict verdict (fieldsOf (now (f .entry))))) (now (out .exit)) n ⌝ }
+{
+    match verdict {
+        Verdict::Read => put_fields(strict, f, out),
+        Verdict::Refused(why) => put_refusal(moment_parts::report_of(Unread::By(why)), out),
     }
 }
