@@ -16,8 +16,6 @@ import tables
 from targets import targets
 
 BENCH = "bench/target/release/bench"
-# of these the instructions are counted
-COUNTED = ("library", "ported Rust")
 CALLS = 640
 ROUNDS = 7
 
@@ -69,10 +67,9 @@ def instructions():
     counted = []
     for name in output(BENCH, "names").splitlines():
         kind, peer, given = name.split("\t")
-        if peer.startswith(COUNTED):
-            more, less = (collected(kind, peer, given, calls) for calls in (2 * CALLS, CALLS))
-            counted.append(f"{name}\t{(more - less) / CALLS}")
-    tables.show("Instructions a call, counted by valgrind's callgrind", counted)
+        more, less = (collected(kind, peer, given, calls) for calls in (2 * CALLS, CALLS))
+        counted.append(f"{name}\t{(more - less) / CALLS}")
+    return tables.show("Instructions a call, counted by valgrind's callgrind", counted)
 
 
 def document(program, archive):
@@ -82,11 +79,11 @@ def document(program, archive):
     print("## A call\n")
     measured = times()
     print("## Instructions\n")
-    instructions()
+    counted = instructions()
     print(f"## The line program\n\nThe program with SHA-256 {checksum(program)}.., ", end="")
     lines_a_second = lines.show(BENCH, program)
     print("## Targets\n\nHow many times as fast, on the input where it is least so.\n")
-    print("\n".join(targets(measured, lines_a_second)), end="\n\n")
+    print("\n".join(targets(measured, counted, lines_a_second)), end="\n\n")
     with open("bench/reasons.md") as reasons:
         print(reasons.read(), end="")
 

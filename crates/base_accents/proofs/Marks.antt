@@ -1,6 +1,6 @@
 -- Laws of marks. Assumes nothing.
--- `mark-bytes`: the ranges of a mark's two bytes. `mark-there`: both are within the text. `ascii-no-mark`: ASCII is no
--- mark.
+-- `mark-bytes`: the ranges of a mark's two bytes. `mark-there`: both are within the text. `low-no-mark`: below 0xcc none
+-- begins.
 -- `marks-on`, `marks-stop`: where a mark is, the marks from there on are two bytes more than those after it; where none
 -- is, there are none. `no-marks`: where there are none, no mark is.
 -- `marks-within`: the marks in front are within the text. `marks-done`: after them no mark follows.
@@ -75,9 +75,9 @@ marks-kept (b ∷ c ∷ u) v h =
     ]) refl
 
 module _ (s : List ℕ) (at : ℕ) where
-  pub ascii-no-mark : byteAt s at ≤ 0x7f → markAt s at ≡ false
+  pub low-no-mark : byteAt s at < 0xcc → markAt s at ≡ false
   unfolding markAt
-  ascii-no-mark h = rw (ne-eqb (byteAt s at) 0xcc (omega arith), ne-eqb (byteAt s at) 0xcd (omega arith))
+  low-no-mark h = rw (ne-eqb (byteAt s at) 0xcc (omega arith), ne-eqb (byteAt s at) 0xcd (omega arith))
 
   pub mark-there : markAt s at ≡ true → at + 1 < length s
   unfolding markAt

@@ -4,7 +4,7 @@
 -- `mark-left`, `measure-left`: what is at a place is at the front of what is left from there on.
 -- `letter-whole`: after a letter with its marks no mark follows. `mark-char`, `mark-alone`: a mark has two bytes, and
 -- where a character begins it counts alone. `plain-one`: a byte of ASCII that is no letter is one
--- character in both modes.
+-- character in both modes. `ascii-one`: so is any byte of ASCII before one that begins no mark.
 use mathlib.Core.Path.{_≡_, refl}
 use mathlib.Core.Bool.{Bool, true, false, _&&_, and-false}
 use mathlib.Core.List.{List}
@@ -16,11 +16,11 @@ use lib.ListN.{length, drop, length-drop}
 use lib.Seq.{drop-drop, getD-drop}
 use Rattle.base_notation.specs.Text.{byteAt}
 use Rattle.base_notation.proofs.Cases.{by-if}
-use Rattle.base_chars.specs.Character.{charLength}
+use Rattle.base_chars.specs.Character.{charLength, lead}
 use Rattle.base_chars.specs.Class.{isLetter}
 use Rattle.base_chars.proofs.Characters.{lead-one, lead-two, measure}
 use Rattle.base_accents.specs.Accents.{Counted, letterAt, markAt, marks, measureOf}
-use Rattle.base_accents.proofs.Marks.{MarkBytes, mark-bytes, mark-there, marks-done, marks-within, no-marks}
+use Rattle.base_accents.proofs.Marks.{MarkBytes, mark-bytes, low-no-mark, mark-there, marks-done, marks-stop, marks-within, no-marks}
 
 pub count : (accents : Bool) (s : List ℕ) (at : ℕ) → Counted accents s at (measureOf accents s at)
 unfolding measureOf
@@ -73,6 +73,13 @@ module _ (s : List ℕ) (at : ℕ) where
   unfolding measureOf letterAt charLength
   plain-one accents h small e =
       rw (lt-ltb (byteAt s at) 0x80 small, e, and-false accents) (omega (arith, lead-one (byteAt s at) (omega arith)))
+
+  -- a byte of ASCII before one that begins no mark is a character by itself
+  pub ascii-one : (accents : Bool) → at < length s → byteAt s at < 0x80 → byteAt s (at + 1) < 0xcc → measureOf accents s at ≡ 1
+  unfolding measureOf charLength
+  ascii-one accents h small next =
+      let one : min (lead (byteAt s at)) (length s - at) ≡ 1 = omega (arith, lead-one (byteAt s at) (omega arith)) in
+      rw one (by-if (λ (k : ℕ). k ≡ 1) (accents && letterAt s at) _ 1 (λ e. rw (marks-stop s (at + 1) (low-no-mark s (at + 1) next)) refl) (λ e. refl))
 
   -- a mark has two bytes, and counts alone where a character begins
   module _ (e : markAt s at ≡ true) where

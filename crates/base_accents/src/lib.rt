@@ -85,3 +85,17 @@ pub fn measure(s: &[u8], at: usize, accents: bool) -> usize
     }
     base_chars::pg_mblen(s, at)
 }
+
+// The same. Most characters are a byte of ASCII before one that begins no mark: one byte in both modes.
+pub fn measure_usual(s: &[u8], at: usize, accents: bool) -> usize
+    ensures { λ r. ⌜ Counted accents (now (s .entry)) at r ⌝ }
+{
+    if at < s.len() {
+        if s[at] < 0x80 {
+            if base_notation::byte_at(s, at + 1) < FIRST_LOW {
+                return 1;
+            }
+        }
+    }
+    measure(s, at, accents)
+}

@@ -179,7 +179,7 @@ fn chars_passed(c: &[u8], s: &[u8], from: usize, place: Place) -> Passed
         if n.kind != FN_CHAR {
             return reached(i, at);
         }
-        at += base_accents::measure(s, at, n.accents);
+        at += base_accents::measure_usual(s, at, n.accents);
         i += 1;
     }
     reached(i, at)

@@ -9,7 +9,7 @@ use borrow.Author.Tests.{not-true}
 use lib.Dec.{eqb}
 use Rattle.base_notation.proofs.Cases.{neither}
 use Rattle.base_accents.specs.Accents.{markAt}
-use Rattle.base_accents.proofs.Marks.{ascii-no-mark}
+use Rattle.base_accents.proofs.Marks.{low-no-mark}
 use Rattle.template_nodes.specs.Joined.{hasLoneMark, isMark, noneAlone}
 use Rattle.template_nodes.specs.Template.{action, nodesBy, nodesOf}
 use Rattle.template_nodes.specs.declared.Node.{Node}
@@ -34,11 +34,11 @@ module _ (t : List ℕ) {y mo d h mi sec us : ℕ} (is : IsMoment y mo d h mi se
   node-clear n v (a-literal l) e = rw (literal-text t now n l) (l .begins v ∙ rw (l .no-action) at e)
   node-clear n v (a-pattern k) e =
       let spelled = piece-spelled now (caseOf (n .pattern)) (pieceOf (n .pattern)) (omega (arith, k .reads .piece)) in
-      rw (pattern-text t now n k) (ascii-no-mark _ 0 (spelled-written is (k .some) spelled .ascii v))
+      rw (pattern-text t now n k) (low-no-mark _ 0 (omega (arith, spelled-written is (k .some) spelled .ascii v)))
 
   text-clear : (ns : List Node) → AllSound t ns → hasLoneMark t ns ≡ false → markAt (nodesText t now ns) 0 ≡ false
   unfolding nodesText hasLoneMark
-  text-clear [] a e = ascii-no-mark [] 0 (omega arith)
+  text-clear [] a e = low-no-mark [] 0 (omega arith)
   text-clear (n ∷ ns) a e = node-clear n (nodesText t now ns) (a .0) (neither (isMark t n) _ e .0)
 
   none-alone : (ns : List Node) → AllSound t ns → hasLoneMark t ns ≡ false → AllClear t now ns

@@ -18,7 +18,7 @@ use Rattle.base_notation.specs.Choice.{if_then_else_}
 use Rattle.base_notation.specs.Text.{byteAt}
 use Rattle.base_notation.proofs.Cases.{both, by-if}
 use Rattle.base_accents.specs.Accents.{markAt, measureOf}
-use Rattle.base_accents.proofs.Marks.{ascii-no-mark}
+use Rattle.base_accents.proofs.Marks.{low-no-mark}
 use Rattle.base_accents.proofs.Measures.{char-first, count, mark-left, measure-left, plain-one}
 use Rattle.base_accents.proofs.Texts.{mark-kept, measure-kept, past-character, whole-character}
 use Rattle.base_chars.specs.Character.{charLength, lead}
@@ -58,7 +58,7 @@ pub record Alike (t : List ℕ) (n : Node) (x : List ℕ) : Type 0 where
 pub one-byte : {t : List ℕ} {n : Node} {x : List ℕ} (a : Alike t n x) → a .b < 0x80 → isLetter (a .b) ≡ false → n .len ≡ 1
 one-byte {n = n} {x = x} a small e =
     let text : x ++ [] ≡ a .b ∷ a .others ++ [] = rw (a .is) in
-    sym (a .long [] (λ m. ascii-no-mark [] 0 (omega arith)))
+    sym (a .long [] (λ m. low-no-mark [] 0 (omega arith)))
     ∙ rw text (plain-one (a .b ∷ a .others ++ []) 0 (n .accents) (omega arith) small e)
 
 -- a literal: one character of the template

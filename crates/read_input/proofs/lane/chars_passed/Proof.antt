@@ -55,7 +55,7 @@ loop-again c =
       omega (arith, at-loop .loop .inv .0),
       omega arith,
       λ t f whole turned.
-          rw (c .measure .ensures .is)
+          rw (c .measure-usual .ensures .is)
           (of-character t (now (at-start .args .s)) nodes whole (at-loop .loop .i) f _ (at-loop .loop .inv .2 t f whole turned) one-left (omega (arith, here .if1 .left))
           _ (at-node .node-at .ensures) (at-loop .loop .at) refl (a-character .if2 .left) later),
     )
@@ -73,7 +73,7 @@ chars-passed-spec =
     (λ c κs. search needs)
     (λ c. ends (c .before .before .before .before .before .before) (c .reached2 .ensures))
     (λ c κs. search needs)
-    (λ c. let within = c .measure .ensures .within in search needs)
+    (λ c. let within = c .measure-usual .ensures .within in search needs)
     (λ c. search needs)
     (λ c. omega arith)
     loop-again
