@@ -6,7 +6,6 @@ ghost use lib.ListN.{length, getD};
 ghost use Rattle.base_notation.specs.Choice.{if_then_else_};
 ghost use lib.Seq.{sets};
 ghost use Rattle.template_patterns.specs.Affixes.{affixLength};
-ghost use Rattle.template_patterns.specs.Search.{nameTable, indexTable};
 ghost use Rattle.template_nodes.specs.Template.{Placed, Stepped, actionAt, charAt, character, elementAt, endNode, isQuotedChar, kindOf, literalAt, nodesBy, plainAt, skip, stepAt};
 ghost use Rattle.template_nodes.specs.Joined.{hasLoneMark, isMark};
 ghost use Rattle.template_nodes.specs.Bytes.{Parsed, bytesOf, modeBit, nodesIn};
@@ -176,50 +175,36 @@ fn action_step(accents: bool, t: &[u8], at: usize, prefix: u8, number: usize, le
 }
 
 // A pattern, or a literal, before which the prefix is dropped.
-fn element_step(
-    accents: bool,
-    index: &[i8; 128],
-    names: &[u8; 560],
-    t: &[u8],
-    at: usize,
-    prefix: u8,
-) -> Step
-    requires { ⌜ (now index ≡ indexTable) × (now names ≡ nameTable) × (at < length (now t)) × (length (now t) ≤ 256) ⌝ }
+fn element_step(accents: bool, t: &[u8], at: usize, prefix: u8) -> Step
+    requires { ⌜ (at < length (now t)) × (length (now t) ≤ 256) ⌝ }
     ensures { λ r. ⌜ Stepped at (elementAt accents (now (t .entry)) at prefix) r ⌝ }
 {
-    match template_patterns::fmt_index_search(index, names, t, at) {
+    match template_patterns::fmt_index_search(t, at) {
         Found::Pattern { number, len } => action_step(accents, t, at, prefix, number, len),
         Found::Nothing => literal_step(accents, t, at, false),
     }
 }
 
-fn plain_step(accents: bool, index: &[i8; 128], names: &[u8; 560], t: &[u8], at: usize) -> Step
-    requires { ⌜ (now index ≡ indexTable) × (now names ≡ nameTable) × (at < length (now t)) × (length (now t) ≤ 256) ⌝ }
+fn plain_step(accents: bool, t: &[u8], at: usize) -> Step
+    requires { ⌜ (at < length (now t)) × (length (now t) ≤ 256) ⌝ }
     ensures { λ r. ⌜ Stepped at (plainAt accents (now (t .entry)) at) r ⌝ }
 {
     let prefix = template_patterns::fmt_suffix_search(t, at, true);
     let start = past_affix(at, prefix);
     if start < t.len() {
-        return element_step(accents, index, names, t, start, prefix);
+        return element_step(accents, t, start, prefix);
     }
     skipped(start, false)
 }
 
-fn step_at(
-    accents: bool,
-    index: &[i8; 128],
-    names: &[u8; 560],
-    t: &[u8],
-    at: usize,
-    quoted: bool,
-) -> Step
-    requires { ⌜ (now index ≡ indexTable) × (now names ≡ nameTable) × (at < length (now t)) × (length (now t) ≤ 256) ⌝ }
+fn step_at(accents: bool, t: &[u8], at: usize, quoted: bool) -> Step
+    requires { ⌜ (at < length (now t)) × (length (now t) ≤ 256) ⌝ }
     ensures { λ r. ⌜ Stepped at (stepAt accents (now (t .entry)) at quoted) r ⌝ }
 {
     if quoted {
         return literal_step(accents, t, at, true);
     }
-    plain_step(accents, index, names, t, at)
+    plain_step(accents, t, at)
 }
 
 // Whether a character in quotes is just that: neither the end of them nor a backslash.
@@ -288,8 +273,6 @@ pub fn parse_format(accents: bool, t: &[u8], out: &mut [u8]) -> usize
     requires { ⌜ (length (now t) ≤ 256) × (1536 ≤ length (now out)) ⌝ }
     ensures { λ r. ⌜ Parsed (nodesBy accents (now (t .entry))) (now (out .entry)) (now (out .exit)) r ⌝ }
 {
-    let index = template_patterns::dch_index();
-    let names = template_patterns::dch_names();
     let mut n: usize = 0;
     let mut at: usize = 0;
     let mut quoted = false;
@@ -300,7 +283,7 @@ pub fn parse_format(accents: bool, t: &[u8], out: &mut [u8]) -> usize
             n += 1;
             at = s.next;
         } else {
-            let s = step_at(accents, &index, &names, t, at, quoted);
+            let s = step_at(accents, t, at, quoted);
             if s.made {
                 put_node(out, n, s.node);
                 n += 1;

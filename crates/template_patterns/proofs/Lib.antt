@@ -5,7 +5,9 @@ pub mod Rows
 pub mod Names
 -- the prefix or suffix at a place
 pub mod Affixes
--- the search from the index's entry on finds the first pattern
+-- a name and the bytes at a place compared as numbers
+pub mod Keys
+-- the search from the first name with the same first byte on finds the first pattern
 pub mod Search
 -- the sets of patterns that are read as digits, have a date mode, or are in small letters or title case
 pub mod Sets

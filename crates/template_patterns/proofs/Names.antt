@@ -1,8 +1,7 @@
 -- The names of the patterns, by one computed test each, and a name compared byte after byte. Assumes nothing.
 -- `name-length`: a name has 1 to 5 bytes. `name-is`: the names and the patterns have the same name at a number.
--- `at-letter`, `at-space`: a byte of a name's row is the name's, or a space past it. `row-head`: a row's first byte.
--- `matches-on`, `matches-not`, `matches-all`: a name is at a place if each byte is the same.
--- `matches-by-length`: it is there exactly if `lengthAt` is not 0.
+-- `at-letter`, `at-space`: a byte of a name's row is the name's, or a space past it.
+-- `matches-not`: a name is not at a place where a byte is another.
 -- `name-there`: a pattern's name that is at a place is in the text whole, as its bytes from there on.
 use mathlib.Core.Path.{_≡_, refl, _∙_, sym, ap}
 use mathlib.Core.Bool.{Bool, true, false, _&&_, not}
@@ -11,18 +10,17 @@ use Prim.Native.Nat.{ℕ, suc, _+_, _*_, _<_, _≤_}
 use native.Mathlib.Nat.{add-suc}
 use native.Mathlib.Numerals.{add-one}
 use native.Mathlib.Omega.{arith}
-use borrow.Author.Tests.{ne-eqb, eq-eqb, eqb-true, eqb-false, leb-true, ltb-true, ltb-false, not-true}
+use borrow.Author.Tests.{ne-eqb, eqb-true, eqb-false, leb-true, ltb-true, ltb-false, not-true}
 use lib.Dec.{eqb, leb, ltb}
-use lib.ListN.{length, getD, drop, drop-of-length-le, List·getD-map}
+use lib.ListN.{length, getD, drop, List·getD-map}
 use lib.Seq.{drop-cons}
 use Rattle.base_notation.proofs.Bytes.{byte-within}
 use Rattle.base_notation.proofs.Cases.{both}
 use Rattle.base_notation.proofs.Table.{allFrom, entry}
-use Rattle.base_notation.specs.Choice.{if_then_else_}
 use Rattle.base_notation.specs.Text.{byteAt}
 use Rattle.template_patterns.specs.Patterns.{Pattern, patterns, names, nameOf, patternOf}
 use Rattle.template_patterns.specs.Rows.{filled}
-use Rattle.template_patterns.specs.Search.{matchesAt, lengthAt, nameTable}
+use Rattle.template_patterns.specs.Search.{matchesAt, nameTable}
 use Rattle.template_patterns.proofs.Rows.{row-byte, in-name, past-name}
 
 -- the name of number k, by either table
@@ -74,22 +72,6 @@ module _ (k : ℕ) (here : k < 112) where
       split true q = let in-it = ltb-true _ _ q in (in-it, name-byte j h ∙ in-name 5 (nameOf k) j in-it)
       split false q = absurd (n (name-byte j h ∙ past-name 5 (nameOf k) j (ltb-false _ _ q) h))
 
-  -- a row begins with the name's first byte
-  pub row-head : getD nameTable (5 * k) 0 ≡ head k
-  row-head =
-      let same : 5 * k + 0 ≡ 5 * k = omega arith in
-      rw same at (name-byte 0 (omega arith)) ∙ in-name 5 (nameOf k) 0 (name-length .0)
-
-  -- a name is at a place exactly if `lengthAt` is not 0
-  pub matches-by-length : (t : List ℕ) (at : ℕ) → (0 < lengthAt (nameOf k) t at → (matchesAt (nameOf k) t at ≡ true) × (lengthAt (nameOf k) t at ≡ length (nameOf k)))
-      × (lengthAt (nameOf k) t at ≤ 0 → matchesAt (nameOf k) t at ≡ false)
-  matches-by-length t at = by (matchesAt (nameOf k) t at)
-    where
-      by : (b : Bool) → (0 < (if b then length (nameOf k) else 0) → (b ≡ true) × ((if b then length (nameOf k) else 0) ≡ length (nameOf k)))
-          × ((if b then length (nameOf k) else 0) ≤ 0 → b ≡ false)
-      by true = ((λ h. (refl, refl)), (λ h. absurd (omega (arith, h, name-length))))
-      by false = ((λ h. absurd (omega (arith, h))), (λ h. refl))
-
 -- one byte of the comparison
 matchesAt-step : (name t : List ℕ) (at j : ℕ) → j < length name → matchesAt (drop j name) t (at + j) ≡ (eqb (byteAt t (at + j)) (getD name j 0) && matchesAt (drop (j + 1) name) t (at + (j + 1)))
 matchesAt-step name t at j h =
@@ -100,14 +82,6 @@ module _ (name t : List ℕ) (at j : ℕ) where
   -- the byte is another: the name is not there
   pub matches-not : j < length name → (byteAt t (at + j) ≡ getD name j 0 → ⊥) → matchesAt (drop j name) t (at + j) ≡ false
   matches-not h n = rw (matchesAt-step name t at j h, ne-eqb _ _ n)
-
-  -- the byte is the name's: on to the next
-  pub matches-on : j < length name → byteAt t (at + j) ≡ getD name j 0 → matchesAt (drop j name) t (at + j) ≡ matchesAt (drop (j + 1) name) t (at + (j + 1))
-  matches-on h e = rw (matchesAt-step name t at j h, eq-eqb _ _ e)
-
-  -- no byte is left: the name is there
-  pub matches-all : length name ≤ j → matchesAt (drop j name) t (at + j) ≡ true
-  matches-all h = rw (drop-of-length-le name h)
 
 -- a name is in t from a place on, and the rest of t after it
 pub record There (name t : List ℕ) (at : ℕ) : Type 0 where

@@ -1,76 +1,29 @@
--- The search from the index's entry on finds the first pattern of the whole table. Assumes nothing.
--- `index-entry`: the table's entry for a byte. `entry-of`: it is -1 or the number of a pattern.
+-- The search from the first name with the same first byte on finds the first pattern of the whole table.
+-- Assumes nothing.
 -- `begins`: the first pattern is the first from that number on. `next`: a name that is not there is passed over.
 -- `found`: a name that is there is found. `none-on`: a name that begins with another byte ends the search.
 -- `none-outside`: nothing is found if no name begins with the byte. `head-range`: a first byte is 33 to 125.
 -- `found-range`, `found-name`: what is found is one of the 112 patterns, with a name of 1 to 5 bytes that is there.
 use mathlib.Core.Path.{_≡_, refl, _∙_, sym, ap}
-use mathlib.Core.Bool.{Bool, true, false, _&&_, _||_, not, true≢false}
-use mathlib.Core.List.{List, [], _∷_, map}
+use mathlib.Core.Bool.{Bool, true, false, _&&_, _||_, not}
+use mathlib.Core.List.{List, [], _∷_}
 use Prim.Native.Nat.{ℕ, zero, suc, _+_, _-_, _<_, _≤_}
 use native.Mathlib.Nat.{add-zero, zero-add, add-suc, suc-add, le-of-suc-le-suc, not-suc-le-zero, le-refl}
 use native.Mathlib.Numerals.{add-one}
 use native.Mathlib.Omega.{arith}
 use borrow.Author.Tests.{eqb-true, eqb-false, leb-true, ltb-true, le-leb}
-use lib.Dec.{T, eqb, leb, ltb}
-use lib.IntN.{ℤ, pos, negsuc, natAbs}
-use lib.Signed.{ltZ, nonNeg}
-use mir.Syntax.{w8}
-use mir.Val.{SFits}
-use lib.ListN.{length, getD, drop, length-drop, List·getD-map}
+use lib.Dec.{eqb, leb, ltb}
+use lib.ListN.{length, getD, drop, length-drop}
 use lib.Seq.{drop-cons, drop-length, getD-drop}
 use Rattle.base_notation.proofs.Cases.{both}
 use Rattle.base_notation.proofs.Table.{allFrom, entry}
 use Rattle.base_notation.specs.Choice.{if_then_else_}
 use Rattle.base_notation.specs.Text.{byteAt}
 use Rattle.template_patterns.specs.Patterns.{names, nameOf}
-use Rattle.template_patterns.specs.Search.{matchesAt, firstAt, firstWith, patternAt, startOf, countFrom, indexOf, indexTable}
+use Rattle.template_patterns.specs.Search.{matchesAt, firstAt, firstWith, patternAt, startOf}
 use Rattle.template_patterns.specs.declared.Found.{Found}
 use Rattle.template_patterns.specs.declared.Found.the-variants.{Pattern, Nothing}
 use Rattle.template_patterns.proofs.Names.{name-is, name-length, head, matches-not}
-
--- ---- the index
--- the i-th of the numbers from k on
-counted : (k n i : ℕ) → i < n → getD (countFrom k n) i 0 ≡ k + i
-counted k zero i h = absurd (not-suc-le-zero h)
-counted k (suc n) zero h = sym (add-zero k)
-counted k (suc n) (suc i) h = counted (suc k) n i (le-of-suc-le-suc h) ∙ omega (arith, suc-add k i, add-suc k i)
-
--- within a list the default does not matter
-within : {A : Type 0} (l : List A) (i : ℕ) (d e : A) → i < length l → getD l i d ≡ getD l i e
-within [] i d e h = absurd (not-suc-le-zero h)
-within (x ∷ xs) zero d e h = refl
-within (x ∷ xs) (suc i) d e h = within xs i d e (le-of-suc-le-suc h)
-
--- the entry of a byte
-pub index-entry : (c : ℕ) → c < 128 → getD indexTable c (pos 0) ≡ indexOf c
-unfolding indexTable
-index-entry c h =
-    within (map indexOf (countFrom 0 128)) c (pos 0) (indexOf 0) h ∙ List·getD-map indexOf (countFrom 0 128) c 0
-    ∙ ap indexOf (counted 0 128 c h ∙ zero-add c)
-
--- the computed test
-abbrev isEntry : ℤ → Bool
-isEntry (pos k) = ltb k 112
-isEntry (negsuc n) = eqb n 0
-
--- an entry and what is done with it: it is -1, or the number of a pattern
-pub record Entry (z : ℤ) : Type 0 where
-  pub fits : SFits w8 z
-  pub none : ltZ z (pos 0) ≡ true → startOf z ≡ 112
-  pub number : ltZ z (pos 0) ≡ false → T (nonNeg z) × (natAbs z < 112) × (natAbs z ≡ startOf z)
-
-an-entry : (z : ℤ) → isEntry z ≡ true → Entry z
-an-entry (pos k) e =
-    let in-table : k < 112 = ltb-true _ _ e in
-    record { fits = omega arith; none = λ q. absurd (let below-zero : k < 0 = ltb-true _ _ q in omega arith); number = λ q. (tt, in-table, refl) }
-an-entry (negsuc n) e =
-    let minus-one : n ≡ 0 = eqb-true _ _ e in
-    record { fits = omega arith; none = λ q. refl; number = λ q. absurd (true≢false q) }
-
-pub entry-of : (c : ℕ) → c < 128 → Entry (indexOf c)
-unfolding indexTable indexOf
-entry-of c h = an-entry (indexOf c) (rw (index-entry c h) at (entry (λ (c : ℕ) (z : ℤ). isEntry z) (pos 0) indexTable refl c h))
 
 -- x is the number of the first name that begins with c, counted from k, or past the last
 record First (k c : ℕ) (ns : List (List ℕ)) (x : ℕ) : Type 0 where
@@ -79,12 +32,12 @@ record First (k c : ℕ) (ns : List (List ℕ)) (x : ℕ) : Type 0 where
   own : (i : ℕ) → k + i ≡ x → i < length ns → byteAt (getD ns i []) 0 ≡ c
   others : (i : ℕ) → k + i < x → byteAt (getD ns i []) 0 ≡ c → ⊥
 
-first-is : (ns : List (List ℕ)) (k c : ℕ) → k + length ns ≡ 112 → First k c ns (startOf (firstWith k c ns))
-first-is [] k c e =
+first-is : (ns : List (List ℕ)) (k c : ℕ) → First k c ns (firstWith k c ns)
+first-is [] k c =
     record { from = omega arith; to = omega arith; own = λ i h l. absurd (not-suc-le-zero l); others = λ i h. absurd (omega (arith, h)) }
-first-is (n ∷ ns) k c e = split (eqb (byteAt n 0) c) refl (first-is ns (suc k) c (omega arith))
+first-is (n ∷ ns) k c = split (eqb (byteAt n 0) c) refl (first-is ns (suc k) c)
   where
-    split : (b : Bool) → eqb (byteAt n 0) c ≡ b → First (suc k) c ns (startOf (firstWith (suc k) c ns)) → First k c (n ∷ ns) (startOf (if b then pos k else firstWith (suc k) c ns))
+    split : (b : Bool) → eqb (byteAt n 0) c ≡ b → First (suc k) c ns (firstWith (suc k) c ns) → First k c (n ∷ ns) (if b then k else firstWith (suc k) c ns)
     split true q f =
         record {
           from = omega arith;
@@ -93,7 +46,7 @@ first-is (n ∷ ns) k c e = split (eqb (byteAt n 0) c) refl (first-is ns (suc k)
           others = λ i h. absurd (omega (arith, h));
         }
     split false q f =
-        let x = startOf (firstWith (suc k) c ns) in
+        let x = firstWith (suc k) c ns in
         record {
           from = omega (arith, f .from);
           to = omega (arith, f .to);
@@ -154,12 +107,12 @@ module _ (t : List ℕ) (at : ℕ) where
   none-outside n = ends 0 (omega arith) (λ j b. n j)
 
   -- the number where the search begins
-  start : First 0 (byteAt t at) names (startOf (indexOf (byteAt t at)))
-  unfolding indexOf
-  start = first-is names 0 (byteAt t at) refl
+  start : First 0 (byteAt t at) names (startOf (byteAt t at))
+  unfolding startOf
+  start = first-is names 0 (byteAt t at)
 
   -- the names before it are passed over
-  pub begins : (x : ℕ) → x ≡ startOf (indexOf (byteAt t at)) → (x ≤ 112) × (patternAt t at ≡ firstAt x (drop x names) t at)
+  pub begins : (x : ℕ) → x ≡ startOf (byteAt t at) → (x ≤ 112) × (patternAt t at ≡ firstAt x (drop x names) t at)
   unfolding patternAt
   begins x e =
       let first : First 0 (byteAt t at) names x = rw e start in
@@ -175,7 +128,7 @@ module _ (t : List ℕ) (at : ℕ) where
   next k p e = rw (drop-cons names k [] p, name-is k, e, add-one k)
 
   -- the search ends where a name begins with another byte
-  pub none-on : (x k : ℕ) → x ≡ startOf (indexOf (byteAt t at)) → k < 112 → x ≤ k → (head k ≡ byteAt t at → ⊥) → firstAt k (drop k names) t at ≡ Nothing
+  pub none-on : (x k : ℕ) → x ≡ startOf (byteAt t at) → k < 112 → x ≤ k → (head k ≡ byteAt t at → ⊥) → firstAt k (drop k names) t at ≡ Nothing
   none-on x k e p l n =
       let first : First 0 (byteAt t at) names x = rw e start in
       let own : head x ≡ byteAt t at = sym (ap (λ (n : List ℕ). byteAt n 0) (name-is x)) ∙ first .own x (zero-add x) (omega arith) in

@@ -5,8 +5,10 @@ pub mod Patterns
 pub mod Cases
 -- names laid out in rows of equal width
 pub mod Rows
--- the pattern at a place of a template, and the index by first byte
+-- the pattern at a place of a template, and where the search for it starts
 pub mod Search
+-- names as numbers, compared at once
+pub mod Numbers
 -- the prefixes and suffixes of a pattern
 pub mod Affixes
 -- the words of each list

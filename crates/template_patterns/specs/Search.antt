@@ -1,10 +1,9 @@
 -- The pattern at a place of a template.
 use mathlib.Core.Path.{_≡_, refl}
 use mathlib.Core.Bool.{Bool, true, _&&_}
-use mathlib.Core.List.{List, [], _∷_, map}
+use mathlib.Core.List.{List, [], _∷_}
 use Prim.Native.Nat.{ℕ, zero, suc, _+_}
 use lib.Dec.{eqb}
-use lib.IntN.{ℤ, pos, negsuc}
 use lib.ListN.{length}
 use Rattle.base_notation.specs.Choice.{if_then_else_}
 use Rattle.base_notation.specs.Text.{utf8, byteAt}
@@ -27,19 +26,14 @@ firstAt k (n ∷ ns) t at = if matchesAt n t at then Pattern k (length n) else f
 unfoldable pub patternAt : List ℕ → ℕ → Found
 patternAt t at = firstAt 0 names t at
 
--- the number of the first name that begins with the byte c, counted from k; -1 if none does
-abbrev pub firstWith : ℕ → ℕ → List (List ℕ) → ℤ
-firstWith k c [] = negsuc 0
-firstWith k c (n ∷ ns) = if eqb (byteAt n 0) c then pos k else firstWith (suc k) c ns
+-- the number of the first name that begins with the byte c, counted from k; past the last if none does
+abbrev pub firstWith : ℕ → ℕ → List (List ℕ) → ℕ
+firstWith k c [] = k
+firstWith k c (n ∷ ns) = if eqb (byteAt n 0) c then k else firstWith (suc k) c ns
 
--- the index's entry for a byte
-unfoldable pub indexOf : ℕ → ℤ
-indexOf c = firstWith 0 c names
-
--- an entry as a pattern's number; past the last pattern for -1
-abbrev pub startOf : ℤ → ℕ
-startOf (pos k) = k
-startOf (negsuc n) = 112
+-- where the search for a pattern that begins with a byte starts
+unfoldable pub startOf : ℕ → ℕ
+startOf c = firstWith 0 c names
 
 -- the length of the name if it is at a place, else 0
 abbrev pub lengthAt : List ℕ → List ℕ → ℕ → ℕ
@@ -54,16 +48,12 @@ abbrev pub countFrom : ℕ → ℕ → List ℕ
 countFrom k zero = []
 countFrom k (suc n) = k ∷ countFrom (suc k) n
 
--- for each byte below 128, the number of the first pattern that begins with it, or -1
-unfoldable pub indexTable : List ℤ
-indexTable = map indexOf (countFrom 0 128)
-
 -- the longer of HH24 and HH is found at place 1; no pattern begins with a space
 pub worked : (patternAt (utf8 " HH24:MI") 1 ≡ Pattern 21 4) × (patternAt (utf8 "HH:MI") 0 ≡ Pattern 23 2) × (patternAt (utf8 " HH24") 0 ≡ Nothing)
 unfolding patternAt
 worked = (refl, refl, refl)
 
--- 21 is the first name that begins with H, and none begins with E
-pub firsts : (indexOf 72 ≡ pos 21) × (indexOf 69 ≡ negsuc 0)
-unfolding indexOf
+-- 21 is the first name that begins with H, and none of the 112 begins with E
+pub firsts : (startOf 72 ≡ 21) × (startOf 69 ≡ 112)
+unfolding startOf
 firsts = (refl, refl)

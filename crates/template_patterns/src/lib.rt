@@ -1,20 +1,22 @@
 // The tables of PostgreSQL's formatting.c: date patterns, the prefixes and suffixes of one, and word lists.
+mod numbers;
 mod tables;
 
 pub use tables::WordList;
-pub use tables::dch_index;
 pub use tables::dch_names;
 pub use tables::longest;
 pub use tables::months_full;
 pub use tables::words;
 ghost use mathlib.Core.Path.{_≡_};
-ghost use Prim.Native.Nat.{_<_, _+_, _*_};
+ghost use Prim.Native.Nat.{_<_, _≤_, _+_, _/_, _%_, _^_};
+ghost use lib.Dec.{eqb};
 ghost use lib.ListN.{length};
 ghost use mathlib.Core.Bool.{true, false};
 ghost use mathlib.Core.List.{[], _∷_};
 ghost use Rattle.template_patterns.specs.Cases.{caseOf};
-ghost use Rattle.template_patterns.specs.Patterns.{nameOf, patternOf};
-ghost use Rattle.template_patterns.specs.Search.{indexOf, indexTable, lengthAt, nameTable, patternAt, startOf};
+ghost use Rattle.template_patterns.specs.Numbers.{Key, packed};
+ghost use Rattle.template_patterns.specs.Patterns.{patternOf};
+ghost use Rattle.template_patterns.specs.Search.{patternAt};
 ghost use Rattle.template_patterns.specs.Affixes.{bitAt};
 
 // The date modes.
@@ -38,57 +40,68 @@ pub enum Found {
     Nothing,
 }
 
-// The length of the name in row k, if it is at a place of the template, else 0.
-fn match_length(names: &[u8; 560], k: usize, t: &[u8], at: usize) -> usize
-    requires { ⌜ (now names ≡ nameTable) × (k < 112) × (at < length (now t)) ⌝ }
-    ensures { λ r. ⌜ r ≡ lengthAt (nameOf k) (now (t .entry)) at ⌝ }
+// Four bytes as a number, the first the lowest.
+fn four(a: u8, b: u8, c: u8, d: u8) -> u32
+    ensures { λ r. ⌜ r ≡ packed (a ∷ b ∷ c ∷ d ∷ []) ⌝ }
 {
-    let mut j: usize = 0;
-    while j < 5 {
-        let c = names[5 * k + j];
-        if c == b' ' {
-            return j;
-        }
-        if base_notation::byte_at(t, at + j) != c {
-            return 0;
-        }
-        j += 1;
-    }
-    5
+    a as u32 + b as u32 * 0x100 + c as u32 * 0x10000 + d as u32 * 0x1000000
 }
 
-// The number of the first pattern whose name begins with a byte, 112 if there is none.
-fn search_start(index: &[i8; 128], c: u8) -> usize
-    requires { ⌜ (now index ≡ indexTable) × (c < 128) ⌝ }
-    ensures { λ r. ⌜ r ≡ startOf (indexOf c) ⌝ }
+// The five bytes from a place on as a number.
+fn five(t: &[u8], at: usize) -> u64
+    requires { ⌜ at + 5 ≤ length (now t) ⌝ }
+    ensures { λ r. ⌜ Key (now (t .entry)) at r ⌝ }
 {
-    let first = index[c as usize];
-    if first < 0 {
-        return 112;
+    four(t[at], t[at + 1], t[at + 2], t[at + 3]) as u64 + t[at + 4] as u64 * 0x100000000
+}
+
+// The same where at most four are left, with zeros for those past the end.
+fn last_four(t: &[u8], at: usize) -> u64
+    requires { ⌜ (at < length (now t)) × (length (now t) < at + 5) ⌝ }
+    ensures { λ r. ⌜ Key (now (t .entry)) at r ⌝ }
+{
+    let b = base_notation::byte_at(t, at + 1);
+    let c = base_notation::byte_at(t, at + 2);
+    let d = base_notation::byte_at(t, at + 3);
+    t[at] as u64 + four(b, c, d, 0) as u64 * 0x100
+}
+
+fn key_at(t: &[u8], at: usize) -> u64
+    requires { ⌜ at < length (now t) ⌝ }
+    ensures { λ r. ⌜ Key (now (t .entry)) at r ⌝ }
+{
+    if 5 <= t.len() - at {
+        return five(t, at);
     }
-    first as usize
+    last_four(t, at)
+}
+
+// Whether the bits of a name are the lowest of a key.
+fn begins(key: u64, name: u64) -> bool
+    requires { ⌜ name < 2 ^ 46 ⌝ }
+    ensures { λ r. ⌜ r ≡ eqb (key % 2 ^ (name / 2 ^ 40)) (name % 2 ^ (name / 2 ^ 40)) ⌝ }
+{
+    let bits = 1u64 << (name >> 40);
+    key % bits == name % bits
 }
 
 // The first pattern in table order whose name is at a place of the template.
-pub fn fmt_index_search(index: &[i8; 128], names: &[u8; 560], t: &[u8], at: usize) -> Found
-    requires { ⌜ (now index ≡ indexTable) × (now names ≡ nameTable) × (at < length (now t)) ⌝ }
+pub fn fmt_index_search(t: &[u8], at: usize) -> Found
+    requires { ⌜ at < length (now t) ⌝ }
     ensures { λ r. ⌜ r ≡ patternAt (now (t .entry)) at ⌝ }
 {
-    let c = t[at];
-    if c <= b' ' {
+    let mut k = numbers::first_of(t[at]);
+    if k == 112 {
         return Found::Nothing;
     }
-    if c >= b'~' {
-        return Found::Nothing;
-    }
-    let mut k = search_start(index, c);
+    let key = key_at(t, at);
     while k < 112 {
-        if names[5 * k] != c {
+        let name = numbers::name_of(k);
+        if name % 256 != key % 256 {
             return Found::Nothing;
         }
-        let n = match_length(names, k, t, at);
-        if n > 0 {
-            return Found::Pattern { number: k, len: n };
+        if begins(key, name) {
+            return Found::Pattern { number: k, len: (name >> 43) as usize };
         }
         k += 1;
     }

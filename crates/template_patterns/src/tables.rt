@@ -1,6 +1,6 @@
-// The tables: names of patterns, the index by first byte, and word lists.
+// The tables: names of patterns, and word lists.
 ghost use mathlib.Core.Path.{_≡_};
-ghost use Rattle.template_patterns.specs.Search.{indexTable, nameTable};
+ghost use Rattle.template_patterns.specs.Search.{nameTable};
 ghost use Rattle.template_patterns.specs.Words.{longest as longestOf, wordTable, wordsOf};
 ghost use Rattle.template_patterns.specs.declared.tables.WordList.the-variants.{MonthsFull};
 
@@ -14,138 +14,6 @@ const DCH_NAMES: [u8; 560] = *b"\
     ff1  ff2  ff3  ff4  ff5  ff6  fx   hh24 hh12 hh   iddd id   iw   iyyy \
     iyy  iy   i    j    mi   mm   monthmon  ms   of   p.m. pm   q    rm   \
     sssssssss ss   tzh  tzm  tz   us   ww   w    y,yyyyyyy yyy  yy   y    ";
-
-// For each byte, the number of the first pattern that begins with it, or -1.
-const DCH_INDEX: [i8; 128] = [
-    -1,
-    -1,
-    -1,
-    -1,
-    -1,
-    -1,
-    -1,
-    -1,
-    -1,
-    -1,
-    -1,
-    -1,
-    -1,
-    -1,
-    -1,
-    -1,
-    -1,
-    -1,
-    -1,
-    -1,
-    -1,
-    -1,
-    -1,
-    -1,
-    -1,
-    -1,
-    -1,
-    -1,
-    -1,
-    -1,
-    -1,
-    -1,
-    -1,
-    -1,
-    -1,
-    -1,
-    -1,
-    -1,
-    -1,
-    -1,
-    -1,
-    -1,
-    -1,
-    -1,
-    -1,
-    -1,
-    -1,
-    -1,
-    -1,
-    -1,
-    -1,
-    -1,
-    -1,
-    -1,
-    -1,
-    -1,
-    -1,
-    -1,
-    -1,
-    -1,
-    -1,
-    -1,
-    -1,
-    -1,
-    -1,
-    0,
-    4,
-    6,
-    7,
-    -1,
-    14,
-    -1,
-    21,
-    24,
-    31,
-    -1,
-    -1,
-    32,
-    -1,
-    39,
-    40,
-    42,
-    43,
-    44,
-    47,
-    50,
-    -1,
-    51,
-    -1,
-    53,
-    -1,
-    -1,
-    -1,
-    -1,
-    -1,
-    -1,
-    -1,
-    58,
-    62,
-    64,
-    65,
-    -1,
-    70,
-    -1,
-    77,
-    80,
-    87,
-    -1,
-    -1,
-    88,
-    -1,
-    93,
-    94,
-    96,
-    97,
-    98,
-    101,
-    104,
-    -1,
-    105,
-    -1,
-    107,
-    -1,
-    -1,
-    -1,
-    -1,
-    -1,
-    -1,
-];
 
 // The word lists in small letters, nine bytes a word, filled with spaces.
 const WORDS_MONTHS_FULL: [u8; 108] =
@@ -227,15 +95,8 @@ pub fn words(list: WordList) -> [u8; 108]
     }
 }
 
-// The two tables are laid out once and lent to the search.
 pub fn dch_names() -> [u8; 560]
     ensures { λ r. ⌜ r ≡ nameTable ⌝ }
 {
     DCH_NAMES
-}
-
-pub fn dch_index() -> [i8; 128]
-    ensures { λ r. ⌜ r ≡ indexTable ⌝ }
-{
-    DCH_INDEX
 }

@@ -12,10 +12,10 @@ use Rattle.template_nodes.proofs.parse_format.Statement.{statement}
 use Rattle.template_nodes.proofs.parse_format.Tie as tie
 
 abbrev Inv-loop : tie.InvT-loop
-Inv-loop accents t out₀ index names n₀ at₀ quoted₀ out n at quoted = (n ≤ at) × (n ≤ 256) × (length out ≡ length out₀) × Read accents t out₀ out n at quoted
+Inv-loop accents t out₀ n₀ at₀ quoted₀ out n at quoted = (n ≤ at) × (n ≤ 256) × (length out ≡ length out₀) × Read accents t out₀ out n at quoted
 
 abbrev μ-loop : tie.MeasureT-loop
-μ-loop accents t out₀ index names n₀ at₀ quoted₀ out n at quoted = length t - at
+μ-loop accents t out₀ n₀ at₀ quoted₀ out n at quoted = length t - at
 
 loop-holds : tie.Need-loop-holds Inv-loop μ-loop
 loop-holds c = (omega arith, omega arith, refl, begun _ _ _)
@@ -34,7 +34,7 @@ loop-again c =
     let after-char = c .before .before .before .before in
     let at-test = after-char .before in
     let at-loop = at-test .before .before .before in
-    let args = at-loop .before .before .before .before .before .args in
+    let args = at-loop .before .before .before .args in
     let turn = at-loop .loop in
     let plain = sym (at-test .before .is-quoted-char .ensures) ∙ at-test .if1 .taken in
     let char-is = after-char .char-at .ensures .is in (
@@ -46,12 +46,6 @@ loop-again c =
           (char-is ∙ plain-step (args .accents) (now (args .t)) (turn .at) (turn .quoted) plain) (search needs) (after-char .char-at .ensures .on) (turn .inv .3)
           (omega arith) (ap (λ (x : Step). x .made) char-is)),
     )
-
--- the tables are those of the patterns
-step-at-requires : tie.Need-step-at-requires Inv-loop μ-loop
-step-at-requires c κs =
-    let after-names = c .before .before .before .before .before .before in
-    (after-names .before .dch-index .ensures, after-names .dch-names .ensures, search needs, search needs)
 
 put-node-requires-2 : tie.Need-put-node-requires-2 Inv-loop μ-loop
 put-node-requires-2 c κs = omega arith
@@ -65,8 +59,8 @@ loop-again-2 c =
     let put = c .before .before .put-node2 .ensures in
     let at-made = c .before .before .before .before in
     let step = at-made .before .step-at in
-    let at-loop = at-made .before .before .before .before .before .before .before in
-    let args = at-loop .before .before .before .before .before .args in
+    let at-loop = at-made .before .before .before .before .before in
+    let args = at-loop .before .before .before .args in
     let turn = at-loop .loop in (
       omega (arith, step .ensures .on),
       omega arith,
@@ -83,8 +77,8 @@ loop-less-3 c = omega (arith, c .before .step-at .ensures .on)
 loop-again-3 : tie.Need-loop-again-3 Inv-loop μ-loop
 loop-again-3 c =
     let step = c .before .step-at in
-    let at-loop = c .before .before .before .before .before .before .before in
-    let args = at-loop .before .before .before .before .before .args in
+    let at-loop = c .before .before .before .before .before in
+    let args = at-loop .before .before .before .args in
     let turn = at-loop .loop in (
       omega (arith, step .ensures .on),
       search needs,
@@ -105,8 +99,6 @@ parse-format-spec =
     (tie.spec
     Inv-loop
     μ-loop
-    (λ c κs. search needs)
-    (λ c κs. search needs)
     loop-holds
     (λ c κs. search needs)
     (λ c κs. search needs)
@@ -114,7 +106,7 @@ parse-format-spec =
     (λ c. search needs)
     loop-less
     loop-again
-    step-at-requires
+    (λ c κs. search needs)
     put-node-requires-2
     (λ c. search needs)
     loop-less-2
