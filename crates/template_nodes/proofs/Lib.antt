@@ -5,6 +5,10 @@ pub mod Steps
 pub mod Encoding
 -- a template has at most one node for each byte, with small bits
 pub mod Nodes
+-- a pattern first and then a literal is a step
+pub mod Elements
+-- bytes that are nodes by themselves
+pub mod Singles
 -- the invariant of the compiler's loop
 pub mod Turns
 -- every template is covered by its nodes

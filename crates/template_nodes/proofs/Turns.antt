@@ -1,6 +1,7 @@
 -- The compiler's loop. The invariant (`Read`): the nodes stored so far, then those of what is left of the template, are
 -- the template's. `begun`: so it is at first. `kept`, `passed`: so it stays by a step that makes a node, by one that
--- makes none.
+-- makes none. `turned`: so it stays by either.
+-- `put-one`: a step puts one node at most.
 -- `ended`: at the template's end the buffer holds the template's nodes.
 -- `plain-step`, `in-quotes`: a plain character in quotes is a step, which stays in quotes. Assumes nothing.
 use mathlib.Core.Path.{_≡_, _∙_, refl, sym, ap}
@@ -13,8 +14,8 @@ use lib.Dec.{eqb}
 use lib.ListN.{length, drop, length-append}
 use lib.Seq.{sets}
 use Rattle.base_notation.specs.Text.{byteAt}
-use Rattle.base_notation.proofs.Cases.{both}
-use Rattle.template_nodes.specs.Bytes.{Parsed, bytesOf, encoded}
+use Rattle.base_notation.proofs.Cases.{both, by-if}
+use Rattle.template_nodes.specs.Bytes.{Parsed, Put, bytesOf, encoded}
 use Rattle.template_nodes.specs.Template.{character, charAt, charPlace, isQuotedChar, literalAt, stepAt, madeBy, nodesBy, nodesFrom}
 use Rattle.template_nodes.specs.declared.Node.{Node}
 use Rattle.template_nodes.specs.declared.Step.{Step}
@@ -32,6 +33,10 @@ pub record Read (accents : Bool) (t before after : List ℕ) (n at : ℕ) (quote
 pub begun : (accents : Bool) (t before : List ℕ) → Read accents t before before 0 0 false
 unfolding nodesBy encoded
 begun accents t before = record { fuel = length t; done = []; enough = omega arith; size = refl; stored = refl; whole = refl }
+
+-- a step puts one node at most
+pub put-one : (s : Step) (before after : List ℕ) (i r : ℕ) → Put s before after i r → r ≤ i + 1
+put-one s before after i r put = rw (put .count) (by-if (λ (n : ℕ). n ≤ i + 1) (s .made) (i + 1) i (λ e. omega arith) (λ e. omega arith))
 
 -- at the end nothing is left
 pub after-end : (accents : Bool) (t : List ℕ) (fuel at : ℕ) (quoted : Bool) → length t ≤ at → nodesFrom accents fuel t at quoted ≡ []
@@ -90,3 +95,11 @@ module _ (accents : Bool) (t before : List ℕ) (n at : ℕ) (quoted : Bool) (s 
     pub passed : s .made ≡ false → Read accents t before after n (s .next) (s .quoted)
     passed m =
         turn (r .fuel) (r .done) (r .enough) (r .whole) after n (rw (m, append-nil) (r .size)) (rw (m, append-nil) (r .stored))
+
+    -- by either, as the node of the step was put
+    pub turned : 6 * n + 6 ≤ length before → (out : List ℕ) (m : ℕ) → Put s after out n m → Read accents t before out m (s .next) (s .quoted)
+    turned room out m put = split (s .made) refl
+      where
+        split : (q : Bool) → s .made ≡ q → Read accents t before out m (s .next) (s .quoted)
+        split true q = rw (put .is, put .count, q) (kept room q)
+        split false q = rw (put .is, put .count, q) (passed q)

@@ -5,10 +5,12 @@ use mathlib.Core.List.{List, [], _∷_, _++_}
 use Prim.Native.Nat.{ℕ, zero, suc, _+_, _*_, _/_, _%_, _≤_}
 use lib.Dec.{leb}
 use lib.ListN.{length, drop}
+use lib.Seq.{sets}
 use Rattle.base_notation.specs.Choice.{if_then_else_}
 use Rattle.base_notation.specs.Text.{byteAt}
 use Rattle.template_nodes.specs.Template.{character, inMode, literal, pattern}
 use Rattle.template_nodes.specs.declared.Node.{Node}
+use Rattle.template_nodes.specs.declared.Step.{Step}
 
 -- the bits of a prefix and a suffix are below 128; the bit of the accents mode is above them
 abbrev pub modeBit : ℕ
@@ -50,6 +52,11 @@ pub record Parsed (ns : List Node) (before after : List ℕ) (r : ℕ) : Type 0 
   pub is : after ≡ encoded ns ++ drop (6 * length ns) before
   pub count : r ≡ length ns
   pub few : r ≤ 256
+
+-- the buffer with the node of a step put as number i, if the step made one; r is how many nodes there are then
+pub record Put (s : Step) (before after : List ℕ) (i r : ℕ) : Type 0 where
+  pub is : after ≡ (if s .made then sets before (6 * i) (bytesOf (s .node)) else before)
+  pub count : r ≡ (if s .made then i + 1 else i)
 
 -- two nodes, and five bytes over
 pub worked : nodesIn (encoded (pattern 0 4 54 1 ∷ literal character 200 2 ∷ []) ++ 7 ∷ 7 ∷ 7 ∷ 7 ∷ 7 ∷ []) ≡ pattern 0 4 54 1 ∷ literal character 200 2 ∷ []

@@ -1,7 +1,7 @@
 -- The nodes of a template, as parse_format of formatting.c makes them; in the accents mode a letter with its accents is
 -- one character. Every node says in which mode it was made.
 use mathlib.Core.Path.{_≡_}
-use mathlib.Core.Bool.{Bool, true, false, not, _&&_}
+use mathlib.Core.Bool.{Bool, true, false, not, _&&_, _||_}
 use mathlib.Core.List.{List, [], _∷_, _++_}
 use Prim.Native.Nat.{ℕ, zero, suc, _+_, _<_, _≤_}
 use Prim.Native.Char.{code}
@@ -83,6 +83,10 @@ escapes t at quoted = eqb (byteAt t at) backslash && (if quoted then ltb (at + 1
 -- a character in quotes that neither ends them nor makes the next one plain
 abbrev pub isQuotedChar : List ℕ → ℕ → Bool → Bool
 isQuotedChar t at quoted = quoted && (not (eqb (byteAt t at) quote) && not (eqb (byteAt t at) backslash))
+
+-- a byte below 64 that is a node by itself wherever it is outside quotes: a space, or a separator but for a quote
+abbrev pub isSingle : ℕ → Bool
+isSingle b = ltb b 64 && ((isSpace b || isSeparator b) && not (eqb b quote))
 
 -- where the literal character is
 unfoldable pub charPlace : List ℕ → ℕ → Bool → ℕ

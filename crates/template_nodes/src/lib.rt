@@ -1,14 +1,21 @@
 // The template compiler: parse_format of PostgreSQL's formatting.c for dates.
+mod kinds;
+mod marks;
+
+pub use marks::has_lone_mark;
 ghost use mathlib.Core.Path.{_≡_};
-ghost use Prim.Native.Nat.{_+_, _*_, _%_, _<_, _≤_};
+ghost use Prim.Native.Nat.{_+_, _*_, _/_, _%_, _<_, _≤_};
 ghost use mathlib.Core.Bool.{true, false};
+ghost use mathlib.Core.List.{[], _∷_};
 ghost use lib.ListN.{length, getD};
 ghost use Rattle.base_notation.specs.Choice.{if_then_else_};
 ghost use lib.Seq.{sets};
+ghost use Rattle.base_accents.specs.Accents.{Counted};
 ghost use Rattle.template_patterns.specs.Affixes.{affixLength};
-ghost use Rattle.template_nodes.specs.Template.{Placed, Stepped, actionAt, charAt, character, elementAt, endNode, isQuotedChar, kindOf, literalAt, nodesBy, plainAt, skip, stepAt};
-ghost use Rattle.template_nodes.specs.Joined.{hasLoneMark, isMark};
-ghost use Rattle.template_nodes.specs.Bytes.{Parsed, bytesOf, modeBit, nodesIn};
+ghost use Rattle.template_patterns.specs.Search.{patternAt};
+ghost use Rattle.template_nodes.specs.Template.{Placed, Stepped, charAt, endNode, inMode, isQuotedChar, literal, literalAt, nodesBy, skip};
+ghost use Rattle.template_nodes.specs.Elements.{Made, Rested, elementFrom, elementIn, namedAt, nowhere, restAt};
+ghost use Rattle.template_nodes.specs.Bytes.{Parsed, Put, bytesOf, modeBit, nodesIn};
 use template_patterns::Found;
 
 // The kinds of a node.
@@ -68,26 +75,18 @@ fn skipped(next: usize, quoted: bool) -> Step
     }
 }
 
-fn kind_of(b: u8) -> u8
-    ensures { λ r. ⌜ r ≡ kindOf b ⌝ }
+// The length of the character at a place in a mode. Outside the accents mode a byte of ASCII is one.
+fn length_at(accents: bool, t: &[u8], at: usize) -> usize
+    requires { ⌜ at < length (now t) ⌝ }
+    ensures { λ r. ⌜ Counted accents (now (t .entry)) at r ⌝ }
 {
-    if base_chars::is_separator_char(b) {
-        return FN_SEPARATOR;
+    if accents {
+        return base_accents::measure(t, at, true);
     }
-    if base_chars::is_space_c(b) {
-        return FN_SPACE;
+    if t[at] < 0x80 {
+        return 1;
     }
-    FN_CHAR
-}
-
-// The kind of a literal: in quotes a plain character, outside by its first byte.
-fn literal_kind(quoted: bool, b: u8) -> u8
-    ensures { λ r. ⌜ r ≡ (if quoted then character else kindOf b) ⌝ }
-{
-    if quoted {
-        return FN_CHAR;
-    }
-    kind_of(b)
+    base_accents::measure(t, at, false)
 }
 
 // One character as a node.
@@ -95,7 +94,7 @@ fn char_at(accents: bool, t: &[u8], at: usize, kind: u8, quoted: bool) -> Step
     requires { ⌜ (at < length (now t)) × (length (now t) ≤ 256) ⌝ }
     ensures { λ r. ⌜ Stepped at (charAt accents (now (t .entry)) at kind quoted) r ⌝ }
 {
-    let n = base_accents::measure(t, at, accents);
+    let n = length_at(accents, t, at);
     let node = Node {
         start: at as u8,
         len: n as u16,
@@ -142,7 +141,13 @@ fn literal_step(accents: bool, t: &[u8], at: usize, quoted: bool) -> Step
         return skipped(at + 1, !quoted);
     }
     let place = char_place(t, at, quoted);
-    char_at(accents, t, place, literal_kind(quoted, t[place]), quoted)
+    char_at(
+        accents,
+        t,
+        place,
+        kinds::literal_kind(quoted, t[place]),
+        quoted,
+    )
 }
 
 fn past_affix(at: usize, bit: u8) -> usize
@@ -152,59 +157,82 @@ fn past_affix(at: usize, bit: u8) -> usize
     if bit == 0 { at } else { at + 2 }
 }
 
+// What is outside quotes at a place: a pattern with the bits of its prefix and suffix, and where what comes after it
+// is; or, where none is found, the place of the literal, after a prefix that is dropped.
+pub struct Element {
+    pub found: bool,
+    pub start: u8,
+    pub len: u16,
+    pub number: u8,
+    pub bits: u8,
+    pub next: usize,
+}
+
+fn no_pattern(next: usize) -> Element
+    ensures { λ r. ⌜ r ≡ nowhere next ⌝ }
+{
+    Element {
+        found: false,
+        start: 0,
+        len: 0,
+        number: 0,
+        bits: 0,
+        next,
+    }
+}
+
 // A pattern whose name is at a place, and the suffix after it.
-fn action_step(accents: bool, t: &[u8], at: usize, prefix: u8, number: usize, len: usize) -> Step
+fn named(t: &[u8], at: usize, prefix: u8, number: usize, len: usize) -> Element
     requires { ⌜ (at ≤ 255) × (number < 112) × (1 ≤ len) × (len ≤ 5) ⌝ }
-    ensures { λ r. ⌜ Stepped at (actionAt accents (now (t .entry)) at prefix number len) r ⌝ }
+    ensures { λ r. ⌜ Made at (namedAt (now (t .entry)) at prefix number len) r ⌝ }
 {
     let suffix = template_patterns::fmt_suffix_search(t, at + len, false);
-    let node = Node {
+    Element {
+        found: true,
         start: at as u8,
         len: len as u16,
-        kind: FN_ACTION,
-        pattern: number as u8,
-        suffix: prefix | suffix,
-        accents,
-    };
-    Step {
-        made: true,
-        node,
+        number: number as u8,
+        bits: prefix | suffix,
         next: past_affix(at + len, suffix),
-        quoted: false,
     }
 }
 
-// A pattern, or a literal, before which the prefix is dropped.
-fn element_step(accents: bool, t: &[u8], at: usize, prefix: u8) -> Step
+// A pattern, or none, after a prefix.
+fn element_after(t: &[u8], at: usize, prefix: u8) -> Element
     requires { ⌜ (at < length (now t)) × (length (now t) ≤ 256) ⌝ }
-    ensures { λ r. ⌜ Stepped at (elementAt accents (now (t .entry)) at prefix) r ⌝ }
+    ensures { λ r. ⌜ Made at (elementIn (patternAt (now (t .entry)) at) (now (t .entry)) at prefix) r ⌝ }
 {
     match template_patterns::fmt_index_search(t, at) {
-        Found::Pattern { number, len } => action_step(accents, t, at, prefix, number, len),
-        Found::Nothing => literal_step(accents, t, at, false),
+        Found::Pattern { number, len } => named(t, at, prefix, number, len),
+        Found::Nothing => no_pattern(at),
     }
 }
 
-fn plain_step(accents: bool, t: &[u8], at: usize) -> Step
+// What is at a place. In quotes there is no pattern.
+fn element_at(t: &[u8], at: usize, quoted: bool) -> Element
     requires { ⌜ (at < length (now t)) × (length (now t) ≤ 256) ⌝ }
-    ensures { λ r. ⌜ Stepped at (plainAt accents (now (t .entry)) at) r ⌝ }
+    ensures { λ r. ⌜ Made at (elementFrom (now (t .entry)) at quoted) r ⌝ }
 {
+    if quoted {
+        return no_pattern(at);
+    }
     let prefix = template_patterns::fmt_suffix_search(t, at, true);
     let start = past_affix(at, prefix);
     if start < t.len() {
-        return element_step(accents, t, start, prefix);
+        return element_after(t, start, prefix);
     }
-    skipped(start, false)
+    no_pattern(start)
 }
 
-fn step_at(accents: bool, t: &[u8], at: usize, quoted: bool) -> Step
-    requires { ⌜ (at < length (now t)) × (length (now t) ≤ 256) ⌝ }
-    ensures { λ r. ⌜ Stepped at (stepAt accents (now (t .entry)) at quoted) r ⌝ }
+// A literal, or nothing at the end.
+fn rest_step(accents: bool, t: &[u8], at: usize, quoted: bool) -> Step
+    requires { ⌜ length (now t) ≤ 256 ⌝ }
+    ensures { λ r. ⌜ Rested (length (now (t .entry))) at (restAt accents (now (t .entry)) at quoted) r ⌝ }
 {
-    if quoted {
-        return literal_step(accents, t, at, true);
+    if at < t.len() {
+        return literal_step(accents, t, at, quoted);
     }
-    plain_step(accents, t, at)
+    skipped(at, quoted)
 }
 
 // Whether a character in quotes is just that: neither the end of them nor a backslash.
@@ -229,18 +257,48 @@ fn last_byte(suffix: u8, accents: bool) -> u8
     if accents { bits + MODE } else { bits }
 }
 
-// Puts a node's bytes into the array of nodes.
-fn put_node(out: &mut [u8], i: usize, n: Node)
+// Puts the six bytes of a node into the array of nodes.
+fn put_bytes(out: &mut [u8], i: usize, start: u8, len: u16, kind: u8, pattern: u8, last: u8)
     requires { ⌜ 6 * i + 6 ≤ length (now out) ⌝ }
-    ensures { λ r. ⌜ now (out .exit) ≡ sets (now (out .entry)) (6 * i) (bytesOf n) ⌝ }
+    ensures { λ r. ⌜ now (out .exit) ≡ sets (now (out .entry)) (6 * i) (start ∷ len / 256 ∷ len % 256 ∷ kind ∷ pattern ∷ last ∷ []) ⌝ }
 {
     let at = NODE * i;
-    out[at] = n.start;
-    out[at + 1] = (n.len / 256) as u8;
-    out[at + 2] = (n.len % 256) as u8;
-    out[at + 3] = n.kind;
-    out[at + 4] = n.pattern;
-    out[at + 5] = last_byte(n.suffix, n.accents);
+    out[at] = start;
+    out[at + 1] = (len / 256) as u8;
+    out[at + 2] = (len % 256) as u8;
+    out[at + 3] = kind;
+    out[at + 4] = pattern;
+    out[at + 5] = last;
+}
+
+// Puts the node of a literal.
+fn put_literal(accents: bool, out: &mut [u8], i: usize, start: usize, len: usize, kind: u8)
+    requires { ⌜ (6 * i + 6 ≤ length (now out)) × (start < 256) × (len ≤ 256) ⌝ }
+    ensures { λ r. ⌜ now (out .exit) ≡ sets (now (out .entry)) (6 * i) (bytesOf (inMode accents (literal kind start len))) ⌝ }
+{
+    put_bytes(
+        out,
+        i,
+        start as u8,
+        len as u16,
+        kind,
+        0,
+        last_byte(0, accents),
+    );
+}
+
+// Puts the node of a step, if it made one. The result is how many nodes there are then.
+fn put_made(out: &mut [u8], i: usize, s: Step) -> usize
+    requires { ⌜ (6 * i + 6 ≤ length (now out)) × (i ≤ 256) ⌝ }
+    ensures { λ r. ⌜ Put s (now (out .entry)) (now (out .exit)) i r ⌝ }
+{
+    if s.made {
+        let node = s.node;
+        let last = last_byte(node.suffix, node.accents);
+        put_bytes(out, i, node.start, node.len, node.kind, node.pattern, last);
+        return i + 1;
+    }
+    i
 }
 
 // Node i of any bytes, END after the last.
@@ -278,44 +336,31 @@ pub fn parse_format(accents: bool, t: &[u8], out: &mut [u8]) -> usize
     let mut quoted = false;
     while at < t.len() {
         if is_quoted_char(t, at, quoted) {
-            let s = char_at(accents, t, at, FN_CHAR, true);
-            put_node(out, n, s.node);
+            let len = length_at(accents, t, at);
+            put_literal(accents, out, n, at, len, FN_CHAR);
             n += 1;
-            at = s.next;
+            at += len;
+        } else if kinds::is_single(t, at, quoted) {
+            put_literal(accents, out, n, at, 1, kinds::single_kind(t[at]));
+            n += 1;
+            at += 1;
+        } else if t[at] == b'"' {
+            at += 1;
+            quoted = !quoted;
         } else {
-            let s = step_at(accents, t, at, quoted);
-            if s.made {
-                put_node(out, n, s.node);
+            let e = element_at(t, at, quoted);
+            if e.found {
+                let last = last_byte(e.bits, accents);
+                put_bytes(out, n, e.start, e.len, FN_ACTION, e.number, last);
                 n += 1;
+                at = e.next;
+            } else {
+                let s = rest_step(accents, t, e.next, quoted);
+                n = put_made(out, n, s);
+                at = s.next;
+                quoted = s.quoted;
             }
-            at = s.next;
-            quoted = s.quoted;
         }
     }
     n
-}
-
-// Whether a node is a mark that counts alone.
-fn is_lone_mark(t: &[u8], n: Node) -> bool
-    ensures { λ r. ⌜ r ≡ isMark (now (t .entry)) n ⌝ }
-{
-    if n.kind == FN_ACTION {
-        return false;
-    }
-    base_accents::is_mark(t, n.start as usize)
-}
-
-// Whether a mark counts alone in the template that was compiled to these bytes. Any bytes are taken for nodes.
-pub fn has_lone_mark(c: &[u8], t: &[u8]) -> bool
-    ensures { λ r. ⌜ r ≡ hasLoneMark (now (t .entry)) (nodesIn (now (c .entry))) ⌝ }
-{
-    let count = c.len() / NODE;
-    let mut i = 0;
-    while i < count {
-        if is_lone_mark(t, node_at(c, i)) {
-            return true;
-        }
-        i += 1;
-    }
-    false
 }

@@ -1,5 +1,6 @@
 -- The affix at a place is that of its two letters. Assumes nothing.
 -- `by-letters`: the bit at a place is that of the two letters there. `none-past`: past the end there is none.
+-- `none-below`: no affix begins with a byte below F.
 -- `affix-short`: an affix has at most two letters. `affix-there`: its letters are in the text, whole.
 use mathlib.Core.Path.{_≡_, _∙_, refl, sym}
 use mathlib.Core.Bool.{Bool, true, false, and-false}
@@ -7,7 +8,7 @@ use mathlib.Core.List.{List, [], _∷_}
 use Prim.Native.Nat.{ℕ, suc, _+_, _≤_, _<_}
 use native.Mathlib.Numerals.{add-one}
 use native.Mathlib.Omega.{arith}
-use borrow.Author.Tests.{eqb-true, eqb-false}
+use borrow.Author.Tests.{eqb-true, eqb-false, ne-eqb}
 use lib.Dec.{eqb}
 use lib.ListN.{length, List·getD-eq-default}
 use lib.Seq.{drop-cons}
@@ -26,6 +27,15 @@ pub none-past : (wanted : Bool) (t : List ℕ) (at : ℕ) → length t ≤ at �
 unfolding bitAt
 none-past true t at h = simp (List·getD-eq-default t 0 h)
 none-past false t at h = simp (List·getD-eq-default t 0 h)
+
+-- every affix begins with F or a later letter
+below : (b c : ℕ) → b < 70 → 70 ≤ c → eqb b c ≡ false
+below b c h l = ne-eqb b c (λ q. omega arith)
+
+pub none-below : (wanted : Bool) (t : List ℕ) (at : ℕ) → byteAt t at < 70 → bitAt wanted t at ≡ 0
+unfolding bitAt
+none-below true t at h = simp (below _ 70 h (omega arith), below _ 102 h (omega arith), below _ 84 h (omega arith), below _ 116 h (omega arith))
+none-below false t at h = simp (below _ 84 h (omega arith), below _ 116 h (omega arith), below _ 83 h (omega arith))
 
 -- an affix has at most two letters
 pub affix-short : (bit : ℕ) → affixLength bit ≤ 2

@@ -121,8 +121,14 @@ module _ (t : List ℕ) (bytes : (i : ℕ) → byteAt t i < 256) where
       let more : 8 * suc (length cs) ≡ 8 * length cs + 8 = omega arith in
       let upper : (b + 256 * rest) / 256 ≡ rest = omega arith in
       let lower : (b + 256 * rest) % 256 ≡ b = omega arith in
-      rw (more, mod-pow-add (b + 256 * rest) (8 * length cs) 8, upper, lower, same-parts b c (rest % 2 ^ (8 * length cs)) (packed cs) small (ltb-true c 256 (in-range .0)),
-        low-bits cs (suc i) n (at + 1) (in-range .1) (omega arith))
+      rw (
+        more,
+        mod-pow-add (b + 256 * rest) (8 * length cs) 8,
+        upper,
+        lower,
+        same-parts b c (rest % 2 ^ (8 * length cs)) (packed cs) small (ltb-true c 256 (in-range .0)),
+        low-bits cs (suc i) n (at + 1) (in-range .1) (omega arith),
+      )
 
   five-is : (at : ℕ) → fiveAt t at ≡ packedAt 5 at
   five-is at =

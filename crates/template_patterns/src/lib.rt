@@ -101,7 +101,10 @@ pub fn fmt_index_search(t: &[u8], at: usize) -> Found
             return Found::Nothing;
         }
         if begins(key, name) {
-            return Found::Pattern { number: k, len: (name >> 43) as usize };
+            return Found::Pattern {
+                number: k,
+                len: (name >> 43) as usize,
+            };
         }
         k += 1;
     }
@@ -177,6 +180,10 @@ pub fn fmt_suffix_search(t: &[u8], at: usize, prefix: bool) -> u8
         return 0;
     }
     let a = t[at];
+    // no affix begins with a lower byte, as most of what is there does
+    if a < b'F' {
+        return 0;
+    }
     let b = base_notation::byte_at(t, at + 1);
     if prefix {
         return prefix_bit(a, b);

@@ -1,5 +1,5 @@
-// The names of the patterns as numbers, and the first pattern for each first byte. A match with a number in each arm is a
-// table that is there before a call.
+// The names of the patterns as numbers, and the first pattern for each first byte. A match with a number in each arm is
+// a table that is there before a call.
 ghost use mathlib.Core.Path.{_≡_};
 ghost use Rattle.template_patterns.specs.Numbers.{nameNumber};
 ghost use Rattle.template_patterns.specs.Search.{startOf};

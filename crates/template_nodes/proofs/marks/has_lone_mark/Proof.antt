@@ -1,4 +1,4 @@
--- `template_nodes::has_lone_mark` meets its contract: a mark counts alone among all nodes exactly where one does among
+-- `template_nodes::marks::has_lone_mark` meets its contract: a mark counts alone among all nodes exactly where one does among
 -- those that are left. Assumes nothing.
 use mathlib.Core.Path.{_≡_, _∙_, refl, sym}
 use mathlib.Core.Bool.{Bool, true, false}
@@ -15,8 +15,8 @@ use Rattle.template_nodes.specs.Joined.{hasLoneMark, isMark}
 use Rattle.template_nodes.specs.Template.{endNode}
 use Rattle.template_nodes.specs.declared.Node.{Node}
 use Rattle.template_nodes.proofs.Encoding.{nodes-length}
-use Rattle.template_nodes.proofs.has_lone_mark.Statement.{statement}
-use Rattle.template_nodes.proofs.has_lone_mark.Tie as tie
+use Rattle.template_nodes.proofs.marks.has_lone_mark.Statement.{statement}
+use Rattle.template_nodes.proofs.marks.has_lone_mark.Tie as tie
 
 abbrev Inv-loop : tie.InvT-loop
 Inv-loop c t count i₀ i = hasLoneMark t (drop i (nodesIn c)) ≡ hasLoneMark t (nodesIn c)

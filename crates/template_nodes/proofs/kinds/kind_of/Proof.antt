@@ -1,9 +1,9 @@
--- `template_nodes::kind_of` meets its contract: the two tests are the definition's, in the same order. Assumes nothing.
+-- `template_nodes::kinds::kind_of` meets its contract: the two tests are the definition's, in the same order. Assumes nothing.
 use mathlib.Core.Path.{_∙_, sym}
 use borrow.Author.Needs.{needs}
 use Rattle.template_nodes.specs.Template.{kindOf}
-use Rattle.template_nodes.proofs.kind_of.Statement.{statement}
-use Rattle.template_nodes.proofs.kind_of.Tie as tie
+use Rattle.template_nodes.proofs.kinds.kind_of.Statement.{statement}
+use Rattle.template_nodes.proofs.kinds.kind_of.Tie as tie
 
 -- a separator
 returns : tie.Need-returns

@@ -1,8 +1,8 @@
--- `template_nodes::is_lone_mark` meets its contract: a pattern is no mark. Assumes nothing.
+-- `template_nodes::marks::is_lone_mark` meets its contract: a pattern is no mark. Assumes nothing.
 use borrow.Author.Needs.{needs}
 use borrow.Author.Tests.{eq-eqb, ne-eqb}
-use Rattle.template_nodes.proofs.is_lone_mark.Statement.{statement}
-use Rattle.template_nodes.proofs.is_lone_mark.Tie as tie
+use Rattle.template_nodes.proofs.marks.is_lone_mark.Statement.{statement}
+use Rattle.template_nodes.proofs.marks.is_lone_mark.Tie as tie
 
 -- a pattern
 returns : tie.Need-returns

@@ -1,7 +1,7 @@
--- `template_nodes::literal_kind` meets its contract: in quotes every literal is a plain character. Assumes nothing.
+-- `template_nodes::kinds::literal_kind` meets its contract: in quotes every literal is a plain character. Assumes nothing.
 use borrow.Author.Needs.{needs}
-use Rattle.template_nodes.proofs.literal_kind.Statement.{statement}
-use Rattle.template_nodes.proofs.literal_kind.Tie as tie
+use Rattle.template_nodes.proofs.kinds.literal_kind.Statement.{statement}
+use Rattle.template_nodes.proofs.kinds.literal_kind.Tie as tie
 
 -- in quotes
 returns : tie.Need-returns
