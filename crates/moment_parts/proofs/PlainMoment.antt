@@ -7,29 +7,33 @@ use mathlib.Core.List.{[], _∷_}
 use Prim.Native.Nat.{ℕ, _+_, _%_, _≤_, _^_}
 use native.Mathlib.Omega.{arith}
 use borrow.Author.Tests.{le-ltb, ltb-false, ne-eqb}
-use lib.IntN.{ℤ, pos, negsuc}
+use lib.IntN.{ℤ, pos, negsuc, natAbs}
 use lib.Dec.{eqb}
 use lib.Signed.{ltZ}
 use mir.Facts.{toZ-pos}
 use mir.Syntax.{w32}
-use Rattle.calendar_gregorian.specs.Civil.{lengthOf}
+use Rattle.calendar_gregorian.specs.Civil.{lengthOf, monthOf}
+use Rattle.calendar_gregorian.specs.Gregorian.{isLeap}
+use Rattle.calendar_gregorian.proofs.Dates.{each}
+use Rattle.calendar_gregorian.proofs.Months.{of-twelve}
 use Rattle.base_notation.specs.Choice.{if_then_else_}
 use Rattle.base_notation.proofs.Cases.{both}
 use Rattle.base_wrapping.specs.Wrap.{wrap32, _⊕_}
 use Rattle.read_fields.specs.Fields.{get, isZero, hh, mi, ss, ssss, dd, ddd, mm, ms, year, bc, ww, w, cc, j, us, clock, tzsign}
 use Rattle.read_fields.specs.declared.Fields.{Fields}
-use Rattle.moment_date.specs.Dates.{begun, withJulian, withWeek, withMonthWeek, withDayOfYear, datedOf, dateInRange, noSuchDay}
+use Rattle.moment_date.specs.Dates.{days, begun, withJulian, withWeek, withMonthWeek, withDayOfYear, datedOf, dateInRange, noSuchDay}
 use Rattle.moment_date.specs.declared.Dated.the-variants.{Date}
+use Rattle.moment_date.specs.declared.Days.{Days}
 use Rattle.moment_sums.specs.Within.{Within, below}
 use Rattle.moment_sums.specs.declared.Value.the-variants.{Is}
 use Rattle.moment_sums.proofs.Tests.{failed}
-use Rattle.moment_sums.proofs.Within.{from-zero}
+use Rattle.moment_sums.proofs.Within.{from-zero, within}
 use Rattle.moment_time.specs.Time.{_or_, hourOf, minuteOf, secondOf, clockHour, microsOf, timeInRange, offsetOf, offsetInRange, checkedOffset}
 use Rattle.moment_time.specs.declared.Offset.the-variants.{Absent}
 use Rattle.moment_time.specs.declared.Zoned.the-variants.{At}
 use Rattle.moment_year.specs.Year.{yearOf}
 use Rattle.moment_parts.specs.Parts.{checkedMoment, momentOf}
-use Rattle.moment_parts.specs.Plain.{isPlain, orFirst, plainMarks, plainDate, hasPlainMoment, plainParts}
+use Rattle.moment_parts.specs.Plain.{isPlain, orFirst, plainMarks, hasDay, hasPlainMoment, plainParts}
 use Rattle.moment_parts.specs.declared.Answer.the-variants.{Moment}
 use Rattle.moment_parts.proofs.Absent.{zero-is, zeros}
 
@@ -107,6 +111,10 @@ and-false : (b : Bool) → (b && false) ≡ false
 and-false true = refl
 and-false false = refl
 
+-- the date, with its marks
+abbrev plainDate : Fields → Days
+plainDate f = days (get f year) (orFirst (get f mm)) (orFirst (get f dd)) (plainMarks (get f mm) (get f dd)) (get f dd) (get f ddd)
+
 module _ (f : Fields) (p : Plain f) where
   hour-is : clockHour f ≡ Is (get f hh)
   unfolding clockHour hourOf
@@ -138,7 +146,7 @@ module _ (f : Fields) (p : Plain f) where
     not-absent = rw (y .is) (ne-eqb (y .at) 0 (λ e. omega (arith, e, y .from)))
 
     date-by : (a b : Bool) → isZero (get f mm) ≡ a → isZero (get f dd) ≡ b → datedOf f ≡ Date (plainDate f)
-    unfolding datedOf begun withJulian withWeek withMonthWeek withDayOfYear plainDate orFirst plainMarks
+    unfolding datedOf begun withJulian withWeek withMonthWeek withDayOfYear orFirst plainMarks
     date-by true true u v = simp (year-is, not-absent, p .j-is, p .ww-is, p .w-is, p .ddd-is, u, v)
     date-by true false u v = simp (year-is, not-absent, p .j-is, p .ww-is, p .w-is, p .ddd-is, u, v)
     date-by false true u v = simp (year-is, not-absent, p .j-is, p .ww-is, p .w-is, p .ddd-is, u, v)
@@ -147,12 +155,44 @@ module _ (f : Fields) (p : Plain f) where
     date-is : datedOf f ≡ Date (plainDate f)
     date-is = date-by (isZero (get f mm)) (isZero (get f dd)) refl refl
 
+-- a month from 1 to 12, by its tests; none has more than 31 days
+of-year : (z : ℤ) → 1 ≤ monthOf z → monthOf z ≤ 12 → (ltZ z (pos 1) ≡ false) × (ltZ (pos 12) z ≡ false)
+of-year (pos m) h l = (le-ltb m 1 h, le-ltb 12 m l)
+of-year (negsuc m) h l = absurd (omega arith)
+
+most : (inLeap : Bool) (z : ℤ) → 1 ≤ monthOf z → monthOf z ≤ 12 → lengthOf inLeap z ≤ 31
+most true (pos m) h l = each (λ m. lengthOf true (pos m) ≤ 31) 1 11 (omega arith) m h l
+most false (pos m) h l = each (λ m. lengthOf false (pos m) ≤ 31) 1 11 (omega arith) m h l
+most inLeap (negsuc m) h l = absurd (omega arith)
+
+-- a day that its month has is in range, whatever is marked
+module _ (y m n : ℤ) (has : hasDay y m n ≡ true) where
+  tests : (ltZ n (pos 1) ≡ false) × (ltZ (pos (lengthOf (isLeap (natAbs y)) m)) n ≡ false)
+  unfolding hasDay
+  tests = let two = both (not (ltZ n (pos 1))) _ has in (failed _ (two .0), failed _ (two .1))
+
+  day-within : Within 1 (lengthOf (isLeap (natAbs y)) m) n
+  day-within = within n (tests .0) (tests .1)
+
+  month-within : (1 ≤ monthOf m) × (monthOf m ≤ 12)
+  month-within = of-twelve (isLeap (natAbs y)) m (omega (arith, day-within .from, day-within .to))
+
+  at-most : ltZ (pos 31) n ≡ false
+  at-most =
+      rw (day-within .is) (le-ltb 31 (day-within .at) (omega (arith, day-within .to, most (isLeap (natAbs y)) m (month-within .0) (month-within .1))))
+
+  in-range : (set : ℕ) (inMonth inYear : ℤ) → dateInRange (days y m n set inMonth inYear) ≡ true
+  unfolding dateInRange
+  in-range set inMonth inYear =
+      let month-tests = of-year m (month-within .0) (month-within .1) in
+      simp (month-tests .0, month-tests .1, tests .0, tests .1, at-most, and-false)
+
 pub plain-moment : (strict : Bool) (f : Fields) → hasPlainMoment f ≡ true → momentOf strict f ≡ Moment (plainParts f)
-unfolding hasPlainMoment momentOf checkedMoment plainParts plainDate
+unfolding hasPlainMoment momentOf checkedMoment plainParts
 plain-moment strict f e =
     let plain-test = both (isPlain f) _ e in
     let year-test = both (not (ltZ (get f year) (pos 1))) _ (plain-test .1) in
-    let range-tests = both (dateInRange (plainDate f)) (timeInRange (get f hh) (get f mi) (get f ss) (get f us)) (year-test .1) in
+    let range-tests = both (hasDay (get f year) (orFirst (get f mm)) (orFirst (get f dd))) (timeInRange (get f hh) (get f mi) (get f ss) (get f us)) (year-test .1) in
     let p = plain f (plain-test .0) in
     simp (
       hour-is f p,
@@ -161,7 +201,7 @@ plain-moment strict f e =
       minute-is f p,
       second-is f p,
       offset-is f p,
-      range-tests .0,
+      in-range _ _ _ (range-tests .0) (plainMarks (get f mm) (get f dd)) (get f dd) (get f ddd),
       range-tests .1,
       with-year (get f mm) (get f dd) (orFirst (get f mm)) (orFirst (get f dd)),
       and-false strict,

@@ -4,13 +4,13 @@ use mathlib.Core.Path.{_≡_, refl}
 use mathlib.Core.Bool.{Bool, true, false, not, _&&_}
 use mathlib.Core.List.{List, [], _∷_}
 use Prim.Native.Nat.{ℕ}
-use lib.IntN.{ℤ, pos}
+use lib.IntN.{ℤ, pos, natAbs}
 use lib.Signed.{ltZ}
 use Rattle.base_notation.specs.Choice.{if_then_else_}
+use Rattle.calendar_gregorian.specs.Civil.{lengthOf}
+use Rattle.calendar_gregorian.specs.Gregorian.{isLeap}
 use Rattle.read_fields.specs.Fields.{get, isZero, hh, mi, ss, ssss, dd, ddd, mm, ms, year, bc, ww, w, cc, j, us, clock, tzsign, ff}
 use Rattle.read_fields.specs.declared.Fields.{Fields}
-use Rattle.moment_date.specs.Dates.{days, dateInRange}
-use Rattle.moment_date.specs.declared.Days.{Days}
 use Rattle.moment_time.specs.Time.{_or_, timeInRange}
 use Rattle.moment_time.specs.declared.Offset.the-variants.{Absent}
 use Rattle.moment_parts.specs.declared.Parts.{Parts}
@@ -33,14 +33,15 @@ orFirst z = z or pos 1
 unfoldable pub plainMarks : ℤ → ℤ → ℕ
 plainMarks m n = if isZero m then (if isZero n then 1 else 5) else if isZero n then 3 else 7
 
-unfoldable pub plainDate : Fields → Days
-plainDate f =
-    days (get f year) (orFirst (get f mm)) (orFirst (get f dd)) (plainMarks (get f mm) (get f dd)) (get f dd) (get f ddd)
+-- the month has the day in that year; no other number than 1 to 12 has one
+unfoldable pub hasDay : ℤ → ℤ → ℤ → Bool
+hasDay y m n = not (ltZ n (pos 1)) && not (ltZ (pos (lengthOf (isLeap (natAbs y)) m)) n)
 
--- the fields are plain, with a year above 0, and date and time are in range
+-- the fields are plain, with a year above 0, the month has the day, and the time is in range
 unfoldable pub hasPlainMoment : Fields → Bool
 hasPlainMoment f =
-    isPlain f && (not (ltZ (get f year) (pos 1)) && (dateInRange (plainDate f) && timeInRange (get f hh) (get f mi) (get f ss) (get f us)))
+    isPlain f && (not (ltZ (get f year) (pos 1))
+    && (hasDay (get f year) (orFirst (get f mm)) (orFirst (get f dd)) && timeInRange (get f hh) (get f mi) (get f ss) (get f us)))
 
 -- the parts of that moment
 unfoldable pub plainParts : Fields → Parts

@@ -2,10 +2,10 @@
 // of twelve, seconds of the day, milliseconds and an offset.
 ghost use mathlib.Core.Path.{_≡_};
 ghost use Rattle.read_fields.specs.Fields.{fieldsOf};
-ghost use Rattle.moment_parts.specs.Plain.{hasPlainMoment, isPlain, orFirst, plainDate, plainMarks, plainParts};
+ghost use Rattle.moment_parts.specs.Plain.{hasDay, hasPlainMoment, isPlain, orFirst, plainMarks, plainParts};
 use crate::Parts;
-use moment_date::Days;
-use moment_date::date_in_range;
+use calendar_gregorian::month_length;
+use calendar_gregorian::pg_is_leap;
 use moment_time::Offset;
 use moment_time::time_in_range;
 use read_fields::field;
@@ -54,19 +54,14 @@ fn plain_marks(month: i32, day: i32) -> u8
     7
 }
 
-fn plain_date(f: &[i32; 24]) -> Days
-    ensures { λ r. ⌜ r ≡ plainDate (fieldsOf (now (f .entry))) ⌝ }
+// Whether a month of a year has a day. No other number than 1 to 12 is a month.
+fn has_day(year: i32, month: i32, day: i32) -> bool
+    ensures { λ b. ⌜ b ≡ hasDay year month day ⌝ }
 {
-    let mm = get(f, field::MM);
-    let dd = get(f, field::DD);
-    Days {
-        year: get(f, field::YEAR),
-        month: or_first(mm),
-        day: or_first(dd),
-        set: plain_marks(mm, dd),
-        dd,
-        ddd: get(f, field::DDD),
+    if day < 1 {
+        return false;
     }
+    day <= month_length(pg_is_leap(year), month)
 }
 
 // Whether the fields are plain, with a year above 0, and in range.
@@ -76,35 +71,37 @@ pub fn has_plain_moment(f: &[i32; 24]) -> bool
     if !is_plain(f) {
         return false;
     }
-    if get(f, field::YEAR) < 1 {
+    let year = get(f, field::YEAR);
+    if year < 1 {
         return false;
     }
-    if !date_in_range(plain_date(f)) {
+    let month = or_first(get(f, field::MM));
+    let day = or_first(get(f, field::DD));
+    if !has_day(year, month, day) {
         return false;
     }
-    time_in_range(
-        get(f, field::HH),
-        get(f, field::MI),
-        get(f, field::SS),
-        get(f, field::US),
-    )
+    let hour = get(f, field::HH);
+    let minute = get(f, field::MI);
+    let second = get(f, field::SS);
+    time_in_range(hour, minute, second, get(f, field::US))
 }
 
 // The parts of that moment.
 pub fn plain_parts(f: &[i32; 24]) -> Parts
     ensures { λ p. ⌜ p ≡ plainParts (fieldsOf (now (f .entry))) ⌝ }
 {
-    let r = plain_date(f);
+    let mm = get(f, field::MM);
+    let dd = get(f, field::DD);
     Parts {
-        year: r.year,
-        month: r.month,
-        day: r.day,
+        year: get(f, field::YEAR),
+        month: or_first(mm),
+        day: or_first(dd),
         hour: get(f, field::HH),
         minute: get(f, field::MI),
         second: get(f, field::SS),
         micros: get(f, field::US),
         precision: get(f, field::FF),
         offset: Offset::Absent,
-        marks: r.set,
+        marks: plain_marks(mm, dd),
     }
 }
