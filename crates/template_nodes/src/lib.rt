@@ -10,7 +10,6 @@ ghost use mathlib.Core.List.{[], _∷_};
 ghost use lib.ListN.{length, getD};
 ghost use Rattle.base_notation.specs.Choice.{if_then_else_};
 ghost use lib.Seq.{sets};
-ghost use Rattle.base_accents.specs.Accents.{Counted};
 ghost use Rattle.template_patterns.specs.Affixes.{affixLength};
 ghost use Rattle.template_patterns.specs.Search.{patternAt};
 ghost use Rattle.template_nodes.specs.Template.{Placed, Stepped, charAt, endNode, inMode, isQuotedChar, literal, literalAt, nodesBy, skip};
@@ -75,26 +74,12 @@ fn skipped(next: usize, quoted: bool) -> Step
     }
 }
 
-// The length of the character at a place in a mode. Outside the accents mode a byte of ASCII is one.
-fn length_at(accents: bool, t: &[u8], at: usize) -> usize
-    requires { ⌜ at < length (now t) ⌝ }
-    ensures { λ r. ⌜ Counted accents (now (t .entry)) at r ⌝ }
-{
-    if accents {
-        return base_accents::measure(t, at, true);
-    }
-    if t[at] < 0x80 {
-        return 1;
-    }
-    base_accents::measure(t, at, false)
-}
-
 // One character as a node.
 fn char_at(accents: bool, t: &[u8], at: usize, kind: u8, quoted: bool) -> Step
     requires { ⌜ (at < length (now t)) × (length (now t) ≤ 256) ⌝ }
     ensures { λ r. ⌜ Stepped at (charAt accents (now (t .entry)) at kind quoted) r ⌝ }
 {
-    let n = length_at(accents, t, at);
+    let n = base_accents::measure_usual(t, at, accents);
     let node = Node {
         start: at as u8,
         len: n as u16,
@@ -336,7 +321,7 @@ pub fn parse_format(accents: bool, t: &[u8], out: &mut [u8]) -> usize
     let mut quoted = false;
     while at < t.len() {
         if is_quoted_char(t, at, quoted) {
-            let len = length_at(accents, t, at);
+            let len = base_accents::measure_usual(t, at, accents);
             put_literal(accents, out, n, at, len, FN_CHAR);
             n += 1;
             at += len;

@@ -198,19 +198,6 @@ pub fn is_digit(k: u8) -> bool
     base_chars::in_set(0x03fd7413ffefe340, 0xff5d13ffefed, k)
 }
 
-// The date mode of the pattern of a number.
-pub fn date_mode(k: u8) -> u8
-    ensures { λ r. ⌜ r ≡ patternOf k .mode ⌝ }
-{
-    if base_chars::in_set(0x03f8086e00002300, 0xfe020e00002c, k) {
-        return MODE_GREGORIAN;
-    }
-    if base_chars::in_set(0x7f000000, 0x7f0000, k) {
-        return MODE_ISOWEEK;
-    }
-    MODE_NONE
-}
-
 // The case of a pattern by its number.
 pub fn case_of(k: u8) -> Case
     ensures { λ r. ⌜ r ≡ caseOf k ⌝ }

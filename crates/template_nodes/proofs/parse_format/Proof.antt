@@ -28,10 +28,10 @@ loop-holds c = (omega arith, omega arith, refl, begun _ _ _)
 
 -- a plain character in quotes: there is room for one node more
 put-literal-requires : tie.Need-put-literal-requires Inv-loop μ-loop
-put-literal-requires c κs = (omega arith, omega arith, omega (arith, c .before .length-at .ensures .within))
+put-literal-requires c κs = (omega arith, omega arith, omega (arith, c .before .measure-usual .ensures .within))
 
 loop-less : tie.Need-loop-less Inv-loop μ-loop
-loop-less c = omega (arith, c .before .before .before .before .length-at .ensures .some)
+loop-less c = omega (arith, c .before .before .before .before .measure-usual .ensures .some)
 
 loop-again : tie.Need-loop-again Inv-loop μ-loop
 loop-again c =
@@ -42,13 +42,13 @@ loop-again c =
     let args = at-loop .before .before .before .args in
     let turn = at-loop .loop in
     let plain = sym (at-test .before .is-quoted-char .ensures) ∙ at-test .if1 .taken in
-    let measured = after-length .length-at .ensures in
+    let measured = after-length .measure-usual .ensures in
     let character-of : ℕ → Step = λ n. make (inMode (args .accents) (literal character (turn .at) n)) (turn .at + n) true in (
       omega (arith, measured .some),
       omega arith,
       search needs,
       rw (put, ← in-quotes (now (args .t)) (turn .at) (turn .quoted) plain)
-          (kept (args .accents) (now (args .t)) (now (args .out)) (turn .n) (turn .at) (turn .quoted) (character-of (after-length .length-at .result))
+          (kept (args .accents) (now (args .t)) (now (args .out)) (turn .n) (turn .at) (turn .quoted) (character-of (after-length .measure-usual .result))
           (ap character-of (measured .is) ∙ plain-step (args .accents) (now (args .t)) (turn .at) (turn .quoted) plain) (search needs)
           (omega (arith, measured .some)) (turn .inv .3) (omega arith) refl),
     )
@@ -189,7 +189,7 @@ parse-format-spec =
     (λ c κs. search needs)
     put-literal-requires
     (λ c. search needs)
-    (λ c. omega (arith, c .before .before .before .before .length-at .ensures .within))
+    (λ c. omega (arith, c .before .before .before .before .measure-usual .ensures .within))
     loop-less
     loop-again
     (λ c κs. search needs)
