@@ -196,6 +196,6 @@ pub fn to_timestamp_parts(set: Settings, t: &[u8], s: &[u8]) -> Answer
     ensures { λ a. ⌜ a ≡ partsOf set (now (t .entry)) (now (s .entry)) ⌝ }
 {
     let mut values = [0; 24];
-    let verdict = fields_of(set, t, s, &mut values);
-    answered(set.strict, verdict, Fields { values })
+    let read = fields_of(set, t, s, &mut values);
+    answered(set.strict, read, Fields { values })
 }

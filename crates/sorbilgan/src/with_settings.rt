@@ -5,18 +5,33 @@ ghost use Rattle.moment_parts.specs.Parts.{partsBy, partsOf};
 ghost use Rattle.template_nodes.specs.Bytes.{nodesIn};
 ghost use Rattle.sorbilgan.specs.Compiled.{CompiledTo};
 ghost use Rattle.sorbilgan_records.specs.Records.{Recorded, dayRecord, instantRecord, partsRecord};
+use base_settings::Settings;
 use base_settings::settings_of;
 use template_nodes::NODE;
+
+// The record of the moment that an input has by a template, and by nodes.
+fn record_of(set: Settings, t: &[u8], s: &[u8], out: &mut [i64; 15]) -> u8
+    ensures { λ r. ⌜ Recorded (partsRecord (partsOf set (now (t .entry)) (now (s .entry)))) (now (out .exit)) r ⌝ }
+{
+    let mut f = [0; 24];
+    let verdict = moment_parts::fields_of(set, t, s, &mut f);
+    sorbilgan_records::put_read(set.strict, verdict, &f, out)
+}
+
+fn record_by(set: Settings, nodes: &[u8], t: &[u8], s: &[u8], out: &mut [i64; 15]) -> u8
+    ensures { λ r. ⌜ Recorded (partsRecord (partsBy set (nodesIn (now (nodes .entry))) (now (t .entry)) (now (s .entry)))) (now (out .exit)) r ⌝ }
+{
+    let mut f = [0; 24];
+    let verdict = moment_parts::fields_by(set, nodes, t, s, &mut f);
+    sorbilgan_records::put_read(set.strict, verdict, &f, out)
+}
 
 // The parts of the moment that an input s has by a template t.
 #[no_mangle]
 pub extern "C" fn sorbilgan_parts_with(settings: u32, t: &[u8], s: &[u8], out: &mut [i64; 15]) -> u8
     ensures { λ r. ⌜ Recorded (partsRecord (partsOf (settingsOf settings) (now (t .entry)) (now (s .entry)))) (now (out .exit)) r ⌝ }
 {
-    let set = settings_of(settings);
-    let mut f = [0; 24];
-    let verdict = moment_parts::fields_of(set, t, s, &mut f);
-    sorbilgan_records::put_read(set.strict, verdict, &f, out)
+    record_of(settings_of(settings), t, s, out)
 }
 
 // The microseconds of that moment since 1970-01-01.
@@ -73,10 +88,7 @@ pub extern "C" fn sorbilgan_parts_by_with(
 ) -> u8
     ensures { λ r. ⌜ Recorded (partsRecord (partsBy (settingsOf settings) (nodesIn (now (nodes .entry))) (now (t .entry)) (now (s .entry)))) (now (out .exit)) r ⌝ }
 {
-    let set = settings_of(settings);
-    let mut f = [0; 24];
-    let verdict = moment_parts::fields_by(set, nodes, t, s, &mut f);
-    sorbilgan_records::put_read(set.strict, verdict, &f, out)
+    record_by(settings_of(settings), nodes, t, s, out)
 }
 
 #[no_mangle]
