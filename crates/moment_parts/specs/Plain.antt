@@ -9,7 +9,7 @@ use lib.Signed.{ltZ}
 use Rattle.base_notation.specs.Choice.{if_then_else_}
 use Rattle.calendar_gregorian.specs.Civil.{lengthOf}
 use Rattle.calendar_gregorian.specs.Gregorian.{isLeap}
-use Rattle.read_fields.specs.Fields.{get, isZero, hh, mi, ss, ssss, dd, ddd, mm, ms, year, bc, ww, w, cc, j, us, clock, tzsign, ff}
+use Rattle.read_fields.specs.Fields.{get, put, noFields, isZero, hh, mi, ss, ssss, dd, ddd, mm, ms, year, bc, ww, w, cc, j, us, clock, tzsign, ff}
 use Rattle.read_fields.specs.declared.Fields.{Fields}
 use Rattle.moment_time.specs.Time.{_or_, timeInRange}
 use Rattle.moment_time.specs.declared.Offset.the-variants.{Absent}
@@ -57,3 +57,19 @@ plainParts f = record {
   offset = Absent;
   marks = plainMarks (get f mm) (get f dd);
 }
+
+-- fields of a date, and of a clock
+abbrev pub dated : ℕ → ℕ → ℕ → ℕ → Fields
+dated y m n hours = put (put (put (put noFields year (pos y)) mm (pos m)) dd (pos n)) clock (pos hours)
+
+-- 2024 has a February 29 and no 30th, and 2023 has none; a clock of twelve and the year 0 take other steps
+pub worked
+    : (hasPlainMoment (dated 2024 2 29 0) ≡ true) × (hasPlainMoment (dated 2024 2 30 0) ≡ false) × (hasPlainMoment (dated 2023 2 29 0) ≡ false)
+    × (hasPlainMoment (dated 2024 2 29 12) ≡ false) × (hasPlainMoment (dated 0 2 29 0) ≡ false)
+unfolding hasPlainMoment isPlain hasDay orFirst timeInRange
+worked = (refl, refl, refl, refl, refl)
+
+-- without a day it is the first, and the day has no mark
+pub unmarked : (plainParts (dated 2024 2 0 0) .day ≡ pos 1) × (plainParts (dated 2024 2 0 0) .marks ≡ 3)
+unfolding plainParts orFirst plainMarks
+unmarked = (refl, refl)
