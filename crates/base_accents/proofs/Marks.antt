@@ -16,12 +16,12 @@ use lib.Dec.{eqb, ltb}
 use lib.ListN.{length, take, drop, drop_of_length-le}
 use lib.Seq.{drop-cons, get_or-drop}
 use Rattle.base_notation.specs.Choice.{if◌then◌else◌}
-use Rattle.base_notation.specs.Text.{byteAt}
+use Rattle.base_notation.specs.Text.{byte_at}
 use Rattle.base_notation.proofs.Bytes.{byte-within}
 use Rattle.base_notation.proofs.Cases.{both}
 use Rattle.base_chars.specs.Range.{◌‥◌, ◌∈◌}
 use Rattle.base_chars.proofs.Ranges.{bounds}
-use Rattle.base_accents.specs.Accents.{isMark, markAt, marks}
+use Rattle.base_accents.specs.Accents.{is_mark, mark_at, marks}
 
 -- the ranges of a mark's bytes
 pub record MarkBytes (b c : ℕ) : Type 0 where
@@ -30,7 +30,7 @@ pub record MarkBytes (b c : ℕ) : Type 0 where
   pub second_from : 0x80 ≤ c
   pub second-to : c ≤ 0xbf
 
-pub mark-bytes : (b c : ℕ) → isMark b c ≡ true → MarkBytes b c
+pub mark-bytes : (b c : ℕ) → is_mark b c ≡ true → MarkBytes b c
 mark-bytes b c = by (eqb b 0xcc) refl
   where
     by : (k : Bool) → eqb b 0xcc ≡ k → (if k then c ∈ 0x80 ‥ 0xbf else eqb b 0xcd && c ∈ 0x80 ‥ 0xaf) ≡ true → MarkBytes b c
@@ -48,7 +48,7 @@ pub marks-within : (u : List ℕ) → marks u ≤ length u
 unfolding marks
 marks-within [] = omega arith
 marks-within (b ∷ []) = omega arith
-marks-within (b ∷ c ∷ u) = by (isMark b c) (marks-within u)
+marks-within (b ∷ c ∷ u) = by (is_mark b c) (marks-within u)
   where
     by : (k : Bool) → marks u ≤ length u → (if k then suc (suc (marks u)) else 0) ≤ length (b ∷ c ∷ u)
     by true h = omega arith
@@ -59,7 +59,7 @@ unfolding marks
 marks-done [] = refl
 marks-done (b ∷ []) = refl
 marks-done (b ∷ c ∷ u) =
-    (elim (isMark b c) as (λ k. isMark b c ≡ k → marks (drop (if k then suc (suc (marks u)) else 0) (b ∷ c ∷ u)) ≡ 0) [
+    (elim (is_mark b c) as (λ k. is_mark b c ≡ k → marks (drop (if k then suc (suc (marks u)) else 0) (b ∷ c ∷ u)) ≡ 0) [
       | true ↦ λ k. marks-done u
       | false ↦ λ k. rw k
     ]) refl
@@ -69,29 +69,29 @@ unfolding marks
 marks-kept [] v h = h
 marks-kept (b ∷ []) v h = h
 marks-kept (b ∷ c ∷ u) v h =
-    (elim (isMark b c) as (λ k. isMark b c ≡ k → marks (take (if k then suc (suc (marks u)) else 0) (b ∷ c ∷ u) ++ v) ≡ (if k then suc (suc (marks u)) else 0)) [
+    (elim (is_mark b c) as (λ k. is_mark b c ≡ k → marks (take (if k then suc (suc (marks u)) else 0) (b ∷ c ∷ u) ++ v) ≡ (if k then suc (suc (marks u)) else 0)) [
       | true ↦ λ k. rw (k, marks-kept u v h)
       | false ↦ λ k. h
     ]) refl
 
 module _ (s : List ℕ) (at : ℕ) where
-  pub low-no-mark : byteAt s at < 0xcc → markAt s at ≡ false
-  unfolding markAt
-  low-no-mark h = rw (ne_eqb (byteAt s at) 0xcc (omega arith), ne_eqb (byteAt s at) 0xcd (omega arith))
+  pub low-no-mark : byte_at s at < 0xcc → mark_at s at ≡ false
+  unfolding mark_at
+  low-no-mark h = rw (ne_eqb (byte_at s at) 0xcc (omega arith), ne_eqb (byte_at s at) 0xcd (omega arith))
 
-  pub mark-there : markAt s at ≡ true → at + 1 < length s
-  unfolding markAt
-  mark-there e = byte-within s (at + 1) (λ z. omega (arith, (mark-bytes (byteAt s at) (byteAt s (at + 1)) e).second_from, z))
+  pub mark-there : mark_at s at ≡ true → at + 1 < length s
+  unfolding mark_at
+  mark-there e = byte-within s (at + 1) (λ z. omega (arith, (mark-bytes (byte_at s at) (byte_at s (at + 1)) e).second_from, z))
 
   -- the text from a place on, by its first two bytes
-  two_bytes : at + 1 < length s → drop at s ≡ byteAt s at ∷ byteAt s (at + 1) ∷ drop (at + 2) s
+  two_bytes : at + 1 < length s → drop at s ≡ byte_at s at ∷ byte_at s (at + 1) ∷ drop (at + 2) s
   two_bytes h =
-      let second : drop (suc at) s ≡ byteAt s (suc at) ∷ drop (suc (suc at)) s = drop-cons s (suc at) 0 (omega arith) in
+      let second : drop (suc at) s ≡ byte_at s (suc at) ∷ drop (suc (suc at)) s = drop-cons s (suc at) 0 (omega arith) in
       let two : at + 2 ≡ suc (suc at) = omega arith in
       rw (drop-cons s at 0 (omega arith), second, two, add-one)
 
-  pub marks-on : markAt s at ≡ true → marks (drop at s) ≡ suc (suc (marks (drop (at + 2) s)))
-  unfolding markAt marks
+  pub marks-on : mark_at s at ≡ true → marks (drop at s) ≡ suc (suc (marks (drop (at + 2) s)))
+  unfolding mark_at marks
   marks-on e = rw (two_bytes (mark-there e), e)
 
   -- at the end of the text there are none
@@ -99,8 +99,8 @@ module _ (s : List ℕ) (at : ℕ) where
   unfolding marks
   marks-end h = rw (drop_of_length-le s h)
 
-  pub marks-stop : markAt s at ≡ false → marks (drop at s) ≡ 0
-  unfolding markAt marks
+  pub marks-stop : mark_at s at ≡ false → marks (drop at s) ≡ 0
+  unfolding mark_at marks
   marks-stop e =
       (elim (ltb (at + 1) (length s)) as (λ k. ltb (at + 1) (length s) ≡ k → marks (drop at s) ≡ 0) [
         | true ↦ λ k. rw (two_bytes (ltb-true _ _ k), e)
@@ -114,9 +114,9 @@ module _ (s : List ℕ) (at : ℕ) where
             | false ↦ λ k. marks-end (ltb-false _ _ k)
           ]) refl
 
-  pub no-marks : marks (drop at s) ≡ 0 → markAt s at ≡ false
+  pub no-marks : marks (drop at s) ≡ 0 → mark_at s at ≡ false
   no-marks z =
-      (elim (markAt s at) as (λ k. markAt s at ≡ k → markAt s at ≡ false) [
+      (elim (mark_at s at) as (λ k. mark_at s at ≡ k → mark_at s at ≡ false) [
         | true ↦ λ k. absurd (omega (arith, marks-on k, z))
         | false ↦ λ k. k
       ]) refl

@@ -14,84 +14,84 @@ use native.Mathlib.Omega.{arith}
 use borrow.Author.Tests.{le-ltb, lt-ltb}
 use lib.ListN.{length, drop, length-drop}
 use lib.Seq.{drop-drop, get_or-drop}
-use Rattle.base_notation.specs.Text.{byteAt}
+use Rattle.base_notation.specs.Text.{byte_at}
 use Rattle.base_notation.proofs.Cases.{by-if}
-use Rattle.base_chars.specs.Character.{charLength, lead}
-use Rattle.base_chars.specs.Class.{isLetter}
+use Rattle.base_chars.specs.Character.{char_length, lead}
+use Rattle.base_chars.specs.Class.{is_letter}
 use Rattle.base_chars.proofs.Characters.{lead-one, lead-two, measure}
-use Rattle.base_accents.specs.Accents.{Counted, letterAt, markAt, marks, measureOf}
+use Rattle.base_accents.specs.Accents.{Counted, letter_at, mark_at, marks, measure_of}
 use Rattle.base_accents.proofs.Marks.{MarkBytes, mark-bytes, low-no-mark, mark-there, marks-done, marks-stop, marks-within, no-marks}
 
-pub count : (accents : Bool) (s : List ℕ) (at : ℕ) → Counted accents s at (measureOf accents s at)
-unfolding measureOf
+pub count : (accents : Bool) (s : List ℕ) (at : ℕ) → Counted accents s at (measure_of accents s at)
+unfolding measure_of
 count accents s at =
-    let n = charLength s at in
+    let n = char_length s at in
     let one = measure s at in
     let more = marks-within (drop (at + n) s) in
     let left = length-drop (at + n) s in
-    let size : (min 1 (length s - at) ≤ measureOf accents s at) × (measureOf accents s at ≤ length s - at)
-    = by-if (λ (k : ℕ). (min 1 (length s - at) ≤ k) × (k ≤ length s - at)) (accents && letterAt s at) (n + marks (drop (at + n) s)) n
+    let size : (min 1 (length s - at) ≤ measure_of accents s at) × (measure_of accents s at ≤ length s - at)
+    = by-if (λ (k : ℕ). (min 1 (length s - at) ≤ k) × (k ≤ length s - at)) (accents && letter_at s at) (n + marks (drop (at + n) s)) n
     (λ e. (omega (arith, one.some), omega (arith, one.within))) (λ e. (omega (arith, one.some), omega (arith, one.within))) in
     record { is = refl; some = size.0; within = size.1 }
 
-pub char-first : (accents : Bool) (s : List ℕ) (at : ℕ) → charLength s at ≤ measureOf accents s at
-unfolding measureOf
+pub char-first : (accents : Bool) (s : List ℕ) (at : ℕ) → char_length s at ≤ measure_of accents s at
+unfolding measure_of
 char-first accents s at =
-    by-if (λ (k : ℕ). charLength s at ≤ k) (accents && letterAt s at) _ (charLength s at) (λ e. omega arith) (λ e. omega arith)
+    by-if (λ (k : ℕ). char_length s at ≤ k) (accents && letter_at s at) _ (char_length s at) (λ e. omega arith) (λ e. omega arith)
 
-pub counted : (accents : Bool) (s : List ℕ) (at r : ℕ) → r ≡ measureOf accents s at → Counted accents s at r
+pub counted : (accents : Bool) (s : List ℕ) (at r : ℕ) → r ≡ measure_of accents s at → Counted accents s at r
 counted accents s at r e = let it = count accents s at in record { is = e; some = omega (arith, it.some); within = omega (arith, it.within) }
 
 -- the character at a place is the first of what is left from there on
 module _ (s : List ℕ) (at : ℕ) where
-  char-left : charLength (drop at s) 0 ≡ charLength s at
-  unfolding charLength
+  char-left : char_length (drop at s) 0 ≡ char_length s at
+  unfolding char_length
   char-left = rw (get_or-drop at s 0 0, add-zero at, length-drop at s, sub-zero)
 
-  pub mark-left : markAt (drop at s) 0 ≡ markAt s at
-  unfolding markAt
+  pub mark-left : mark_at (drop at s) 0 ≡ mark_at s at
+  unfolding mark_at
   mark-left = rw (get_or-drop at s 0 0, get_or-drop at s 1 0, add-zero at)
 
-  letter-left : letterAt (drop at s) 0 ≡ letterAt s at
-  unfolding letterAt
+  letter-left : letter_at (drop at s) 0 ≡ letter_at s at
+  unfolding letter_at
   letter-left = rw (mark-left, get_or-drop at s 0 0, add-zero at)
 
-  pub measure-left : (accents : Bool) → measureOf accents (drop at s) 0 ≡ measureOf accents s at
-  unfolding measureOf
+  pub measure-left : (accents : Bool) → measure_of accents (drop at s) 0 ≡ measure_of accents s at
+  unfolding measure_of
   measure-left accents = rw (char-left, letter-left, zero-add, drop-drop)
 
   -- a letter has all marks right after it: no mark follows
-  pub letter-whole : letterAt s at ≡ true → markAt s (at + measureOf true s at) ≡ false
-  unfolding measureOf
+  pub letter-whole : letter_at s at ≡ true → mark_at s (at + measure_of true s at) ≡ false
+  unfolding measure_of
   letter-whole e =
-      let n = charLength s at in
+      let n = char_length s at in
       let past = marks-done (drop (at + n) s) in
       rw (e, ← add_assoc at n (marks (drop (at + n) s))) (no-marks s (at + n + marks (drop (at + n) s)) (rw drop-drop at past))
 
   -- a byte of ASCII that is no letter is a character by itself
-  pub plain-one : (accents : Bool) → at < length s → byteAt s at < 0x80 → isLetter (byteAt s at) ≡ false → measureOf accents s at ≡ 1
-  unfolding measureOf letterAt charLength
+  pub plain-one : (accents : Bool) → at < length s → byte_at s at < 0x80 → is_letter (byte_at s at) ≡ false → measure_of accents s at ≡ 1
+  unfolding measure_of letter_at char_length
   plain-one accents h small e =
-      rw (lt-ltb (byteAt s at) 0x80 small, e, and-false accents) (omega (arith, lead-one (byteAt s at) (omega arith)))
+      rw (lt-ltb (byte_at s at) 0x80 small, e, and-false accents) (omega (arith, lead-one (byte_at s at) (omega arith)))
 
   -- a byte of ASCII before one that begins no mark is a character by itself
-  pub ascii-one : (accents : Bool) → at < length s → byteAt s at < 0x80 → byteAt s (at + 1) < 0xcc → measureOf accents s at ≡ 1
-  unfolding measureOf charLength
+  pub ascii-one : (accents : Bool) → at < length s → byte_at s at < 0x80 → byte_at s (at + 1) < 0xcc → measure_of accents s at ≡ 1
+  unfolding measure_of char_length
   ascii-one accents h small next =
-      let one : min (lead (byteAt s at)) (length s - at) ≡ 1 = omega (arith, lead-one (byteAt s at) (omega arith)) in
-      rw one (by-if (λ (k : ℕ). k ≡ 1) (accents && letterAt s at) _ 1 (λ e. rw (marks-stop s (at + 1) (low-no-mark s (at + 1) next)) refl) (λ e. refl))
+      let one : min (lead (byte_at s at)) (length s - at) ≡ 1 = omega (arith, lead-one (byte_at s at) (omega arith)) in
+      rw one (by-if (λ (k : ℕ). k ≡ 1) (accents && letter_at s at) _ 1 (λ e. rw (marks-stop s (at + 1) (low-no-mark s (at + 1) next)) refl) (λ e. refl))
 
   -- a mark has two bytes, and counts alone where a character begins
-  module _ (e : markAt s at ≡ true) where
-    bytes : MarkBytes (byteAt s at) (byteAt s (at + 1))
-    unfolding markAt
-    bytes = mark-bytes (byteAt s at) (byteAt s (at + 1)) e
+  module _ (e : mark_at s at ≡ true) where
+    bytes : MarkBytes (byte_at s at) (byte_at s (at + 1))
+    unfolding mark_at
+    bytes = mark-bytes (byte_at s at) (byte_at s (at + 1)) e
 
-    pub mark-char : charLength s at ≡ 2
-    unfolding charLength
+    pub mark-char : char_length s at ≡ 2
+    unfolding char_length
     mark-char =
-        omega (arith, lead-two (byteAt s at) (omega (arith, bytes.first-from)) (omega (arith, bytes.first_to)), mark-there s at e)
+        omega (arith, lead-two (byte_at s at) (omega (arith, bytes.first-from)) (omega (arith, bytes.first_to)), mark-there s at e)
 
-    pub mark-alone : measureOf true s at ≡ 2
-    unfolding measureOf letterAt
-    mark-alone = rw (le-ltb (byteAt s at) 0x80 (omega (arith, bytes.first-from)), e) mark-char
+    pub mark-alone : measure_of true s at ≡ 2
+    unfolding measure_of letter_at
+    mark-alone = rw (le-ltb (byte_at s at) 0x80 (omega (arith, bytes.first-from)), e) mark-char

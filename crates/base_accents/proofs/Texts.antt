@@ -13,139 +13,139 @@ use lib.Dec.{eqb, ltb, lit<}
 use lib.ListN.{length, take, drop, length-append, length-take, get_or-append}
 use lib.Seq.{drop-drop, drop_at, get_or-take, take-add}
 use Rattle.base_notation.specs.Choice.{if◌then◌else◌}
-use Rattle.base_notation.specs.Text.{byteAt}
+use Rattle.base_notation.specs.Text.{byte_at}
 use Rattle.base_notation.proofs.Cases.{both}
-use Rattle.base_chars.specs.Character.{charLength, lead}
-use Rattle.base_chars.specs.Class.{isLetter}
+use Rattle.base_chars.specs.Character.{char_length, lead}
+use Rattle.base_chars.specs.Class.{is_letter}
 use Rattle.base_chars.specs.Range.{◌‥◌, ◌∈◌}
-use Rattle.base_chars.specs.Utf8.{sequence, wellFormed}
+use Rattle.base_chars.specs.Utf8.{sequence, well_formed}
 use Rattle.base_chars.proofs.Characters.{lead-two, lead-bounds}
 use Rattle.base_chars.proofs.Ranges.{inside}
 use Rattle.base_chars.proofs.Sequences.{at_row}
 use Rattle.base_chars.proofs.WellFormed.{append-text, empty-text, next-boundary, one-character, past-sequence-at}
-use Rattle.base_accents.specs.Accents.{isMark, letterAt, markAt, marks, measureOf}
+use Rattle.base_accents.specs.Accents.{is_mark, letter_at, mark_at, marks, measure_of}
 use Rattle.base_accents.proofs.Marks.{mark-bytes, marks-kept, marks-stop}
 
 -- a mark is a sequence of two bytes
-mark-sequence : (b c : ℕ) (u : List ℕ) → isMark b c ≡ true → 2 ≡ sequence (b ∷ c ∷ u)
+mark-sequence : (b c : ℕ) (u : List ℕ) → is_mark b c ≡ true → 2 ≡ sequence (b ∷ c ∷ u)
 mark-sequence b c u e =
     let bytes = mark-bytes b c e in
     let row = at_row (b ∷ c ∷ u) 0 (omega arith) 1 (lit< tt) (omega (arith, bytes.first-from)) (omega (arith, bytes.first_to)) in
     rw (inside (0x80 ‥ 0xbf) c bytes.second_from bytes.second-to) at row
 
 -- the text after the marks in front is UTF-8 where the whole is
-past-marks : (u : List ℕ) → wellFormed (drop (marks u) u) ≡ wellFormed u
+past-marks : (u : List ℕ) → well_formed (drop (marks u) u) ≡ well_formed u
 unfolding marks
 past-marks [] = refl
 past-marks (b ∷ []) = refl
 past-marks (b ∷ c ∷ u) =
-    (elim (isMark b c) as (λ k. isMark b c ≡ k → wellFormed (drop (if k then suc (suc (marks u)) else 0) (b ∷ c ∷ u)) ≡ wellFormed (b ∷ c ∷ u)) [
+    (elim (is_mark b c) as (λ k. is_mark b c ≡ k → well_formed (drop (if k then suc (suc (marks u)) else 0) (b ∷ c ∷ u)) ≡ well_formed (b ∷ c ∷ u)) [
       | true ↦ λ k. past-marks u ∙ past-sequence-at (b ∷ c ∷ u) 0 2 (mark-sequence b c u k)
       | false ↦ λ k. refl
     ]) refl
 
 -- marks by themselves are UTF-8
-marks-text : (u : List ℕ) → wellFormed (take (marks u) u) ≡ true
+marks-text : (u : List ℕ) → well_formed (take (marks u) u) ≡ true
 unfolding marks
 marks-text [] = empty-text
 marks-text (b ∷ []) = empty-text
 marks-text (b ∷ c ∷ u) =
-    (elim (isMark b c) as (λ k. isMark b c ≡ k → wellFormed (take (if k then suc (suc (marks u)) else 0) (b ∷ c ∷ u)) ≡ true) [
+    (elim (is_mark b c) as (λ k. is_mark b c ≡ k → well_formed (take (if k then suc (suc (marks u)) else 0) (b ∷ c ∷ u)) ≡ true) [
       | true ↦ λ k. sym (past-sequence-at (b ∷ c ∷ take (marks u) u) 0 2 (mark-sequence b c (take (marks u) u) k)) ∙ marks-text u
       | false ↦ λ k. empty-text
     ]) refl
 
-module _ (accents : Bool) (s : List ℕ) (at : ℕ) (e : wellFormed (drop at s) ≡ true) where
+module _ (accents : Bool) (s : List ℕ) (at : ℕ) (e : well_formed (drop at s) ≡ true) where
   abbrev n : ℕ
-  n = charLength s at
+  n = char_length s at
 
   abbrev more : ℕ
   more = marks (drop (at + n) s)
 
-  pub past-character : wellFormed (drop (at + measureOf accents s at) s) ≡ true
-  unfolding measureOf
-  past-character = by (accents && letterAt s at)
+  pub past-character : well_formed (drop (at + measure_of accents s at) s) ≡ true
+  unfolding measure_of
+  past-character = by (accents && letter_at s at)
     where
-      with-marks : wellFormed (drop (at + (n + more)) s) ≡ true
+      with-marks : well_formed (drop (at + (n + more)) s) ≡ true
       with-marks = rw (← add_assoc at n more, ← drop-drop more (at + n) s) (past-marks (drop (at + n) s) ∙ next-boundary s at e)
 
-      by : (k : Bool) → wellFormed (drop (at + (if k then n + more else n)) s) ≡ true
+      by : (k : Bool) → well_formed (drop (at + (if k then n + more else n)) s) ≡ true
       by true = with-marks
       by false = next-boundary s at e
 
-  pub whole-character : at < length s → wellFormed (take (measureOf accents s at) (drop at s)) ≡ true
-  unfolding measureOf
-  whole-character h = by (accents && letterAt s at)
+  pub whole-character : at < length s → well_formed (take (measure_of accents s at) (drop at s)) ≡ true
+  unfolding measure_of
+  whole-character h = by (accents && letter_at s at)
     where
-      with-marks : wellFormed (take (n + more) (drop at s)) ≡ true
+      with-marks : well_formed (take (n + more) (drop at s)) ≡ true
       with-marks =
           rw (take-add n more (drop at s), drop-drop n at s)
           (append-text (take n (drop at s)) (take more (drop (at + n) s)) (one-character s at h e) ∙ marks-text (drop (at + n) s))
 
-      by : (k : Bool) → wellFormed (take (if k then n + more else n) (drop at s)) ≡ true
+      by : (k : Bool) → well_formed (take (if k then n + more else n) (drop at s)) ≡ true
       by true = with-marks
       by false = one-character s at h e
 
 -- two texts begin alike: with the same byte, and the same next one where the first says that there is one
 record Alike (u w : List ℕ) : Type 0 where
-  first : byteAt w 0 ≡ byteAt u 0
-  second : 2 ≤ lead (byteAt u 0) → byteAt w 1 ≡ byteAt u 1
+  first : byte_at w 0 ≡ byte_at u 0
+  second : 2 ≤ lead (byte_at u 0) → byte_at w 1 ≡ byte_at u 1
 
 module _ (u w : List ℕ) (a : Alike u w) where
   abbrev b : ℕ
-  b = byteAt u 0
+  b = byte_at u 0
 
-  same-mark : markAt w 0 ≡ markAt u 0
-  unfolding markAt
+  same-mark : mark_at w 0 ≡ mark_at u 0
+  unfolding mark_at
   same-mark = rw a.first (by (eqb b 0xcc) (eqb b 0xcd) refl refl)
     where
-      two : 0xcc ≤ b → b ≤ 0xcd → byteAt w 1 ≡ byteAt u 1
+      two : 0xcc ≤ b → b ≤ 0xcd → byte_at w 1 ≡ byte_at u 1
       two l h = a.second (omega (arith, lead-two b (omega arith) (omega arith)))
 
       by : (p q : Bool) → eqb b 0xcc ≡ p → eqb b 0xcd ≡ q
-          → (if p then byteAt w 1 ∈ 0x80 ‥ 0xbf else q && byteAt w 1 ∈ 0x80 ‥ 0xaf) ≡ (if p then byteAt u 1 ∈ 0x80 ‥ 0xbf else q && byteAt u 1 ∈ 0x80 ‥ 0xaf)
+          → (if p then byte_at w 1 ∈ 0x80 ‥ 0xbf else q && byte_at w 1 ∈ 0x80 ‥ 0xaf) ≡ (if p then byte_at u 1 ∈ 0x80 ‥ 0xbf else q && byte_at u 1 ∈ 0x80 ‥ 0xaf)
       by true q e f = rw (two (omega (arith, eqb-true b 0xcc e)) (omega (arith, eqb-true b 0xcc e)))
       by false true e f = rw (two (omega (arith, eqb-true b 0xcd f)) (omega (arith, eqb-true b 0xcd f)))
       by false false e f = refl
 
-  same-letter : letterAt w 0 ≡ letterAt u 0
-  unfolding letterAt
+  same-letter : letter_at w 0 ≡ letter_at u 0
+  unfolding letter_at
   same-letter = rw (a.first, same-mark)
 
-module _ (u v : List ℕ) (whole : lead (byteAt u 0) ≤ length u) where
+module _ (u v : List ℕ) (whole : lead (byte_at u 0) ≤ length u) where
   -- the first m bytes, at least those of the first character, and v after them
-  alike : (m : ℕ) → lead (byteAt u 0) ≤ m → Alike u (take m u ++ v)
-  alike m h = record { first = byte 0 (omega (arith, lead-bounds (byteAt u 0))); second = λ two. byte 1 (omega (arith)) }
+  alike : (m : ℕ) → lead (byte_at u 0) ≤ m → Alike u (take m u ++ v)
+  alike m h = record { first = byte 0 (omega (arith, lead-bounds (byte_at u 0))); second = λ two. byte 1 (omega (arith)) }
     where
-      byte : (i : ℕ) → i < lead (byteAt u 0) → byteAt (take m u ++ v) i ≡ byteAt u i
+      byte : (i : ℕ) → i < lead (byte_at u 0) → byte_at (take m u ++ v) i ≡ byte_at u i
       byte i l = get_or-append (take m u) v 0 i (omega (arith, length-take m u)) ∙ get_or-take m u i 0 (omega arith)
 
-  pub mark-kept : (m : ℕ) → lead (byteAt u 0) ≤ m → markAt (take m u ++ v) 0 ≡ markAt u 0
+  pub mark-kept : (m : ℕ) → lead (byte_at u 0) ≤ m → mark_at (take m u ++ v) 0 ≡ mark_at u 0
   mark-kept m h = same-mark u (take m u ++ v) (alike m h)
 
   -- its first character has as many bytes
-  char-kept : (m : ℕ) → lead (byteAt u 0) ≤ m → charLength (take m u ++ v) 0 ≡ charLength u 0
-  unfolding charLength
+  char-kept : (m : ℕ) → lead (byte_at u 0) ≤ m → char_length (take m u ++ v) 0 ≡ char_length u 0
+  unfolding char_length
   char-kept m h = rw (alike m h).first (omega (arith, length-append (take m u) v, length-take m u))
 
-  long : charLength u 0 ≡ lead (byteAt u 0)
-  unfolding charLength
+  long : char_length u 0 ≡ lead (byte_at u 0)
+  unfolding char_length
   long = omega arith
 
-  pub measure-kept : (accents : Bool) → (accents ≡ true → markAt v 0 ≡ false) → measureOf accents (take (measureOf accents u 0) u ++ v) 0 ≡ measureOf accents u 0
-  unfolding measureOf
-  measure-kept accents clear = by (accents && letterAt u 0) refl
+  pub measure-kept : (accents : Bool) → (accents ≡ true → mark_at v 0 ≡ false) → measure_of accents (take (measure_of accents u 0) u ++ v) 0 ≡ measure_of accents u 0
+  unfolding measure_of
+  measure-kept accents clear = by (accents && letter_at u 0) refl
     where
       k : ℕ
-      k = charLength u 0
+      k = char_length u 0
 
       more : ℕ
       more = marks (drop (0 + k) u)
 
-      by : (c : Bool) → (accents && letterAt u 0) ≡ c → measureOf accents (take (if c then k + more else k) u ++ v) 0 ≡ (if c then k + more else k)
+      by : (c : Bool) → (accents && letter_at u 0) ≡ c → measure_of accents (take (if c then k + more else k) u ++ v) 0 ≡ (if c then k + more else k)
       by true e =
-          let tests = both accents (letterAt u 0) e in
-          let enough : lead (byteAt u 0) ≤ k + more = omega (arith, long) in
+          let tests = both accents (letter_at u 0) e in
+          let enough : lead (byte_at u 0) ≤ k + more = omega (arith, long) in
           let size : length (take k u) ≡ k = omega (arith, length-take k u, long) in
           let parts : take (k + more) u ++ v ≡ take k u ++ (take more (drop k u) ++ v)
           = rw (take-add k more u) (append_assoc (take k u) (take more (drop k u)) v) in

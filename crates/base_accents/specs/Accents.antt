@@ -3,49 +3,49 @@
 use Rattle.std.specs.Prelude.{◌≡◌, refl, Bool, true, false, not, ◌&&◌, List, [], ◌∷◌, ◌++◌, map, ℕ, suc, ◌+◌, ◌-◌, ◌≤◌, min, eqb, ltb, length, drop, replicate}
 use Prim.Native.Char.{code}
 use Rattle.base_notation.specs.Choice.{if◌then◌else◌}
-use Rattle.base_notation.specs.Text.{byteAt, encoded, utf8}
-use Rattle.base_chars.specs.Character.{charLength, lead}
-use Rattle.base_chars.specs.Class.{class_of, isLetter}
+use Rattle.base_notation.specs.Text.{byte_at, encoded, utf8}
+use Rattle.base_chars.specs.Character.{char_length, lead}
+use Rattle.base_chars.specs.Class.{class_of, is_letter}
 use Rattle.base_chars.specs.Range.{◌‥◌, ◌∈◌}
 
 -- two bytes are a mark: cc 80 is U+0300, cc bf U+033F, cd 80 U+0340, cd af U+036F
-abbrev pub isMark : ℕ → ℕ → Bool
-isMark b c = if eqb b 0xcc then c ∈ 0x80 ‥ 0xbf else eqb b 0xcd && c ∈ 0x80 ‥ 0xaf
+abbrev pub is_mark : ℕ → ℕ → Bool
+is_mark b c = if eqb b 0xcc then c ∈ 0x80 ‥ 0xbf else eqb b 0xcd && c ∈ 0x80 ‥ 0xaf
 
 -- there is a mark at a place
-unfoldable pub markAt : List ℕ → ℕ → Bool
-markAt s at = isMark (byteAt s at) (byteAt s (at + 1))
+unfoldable pub mark_at : List ℕ → ℕ → Bool
+mark_at s at = is_mark (byte_at s at) (byte_at s (at + 1))
 
 -- there is a letter at a place: one of ASCII, or a character outside ASCII that is no mark
-unfoldable pub letterAt : List ℕ → ℕ → Bool
-letterAt s at = let b = byteAt s at in if ltb b 0x80 then isLetter b else not (markAt s at)
+unfoldable pub letter_at : List ℕ → ℕ → Bool
+letter_at s at = let b = byte_at s at in if ltb b 0x80 then is_letter b else not (mark_at s at)
 
 -- how many bytes the marks in front of a text have
 unfoldable pub marks : List ℕ → ℕ
 marks [] = 0
 marks (b ∷ []) = 0
-marks (b ∷ c ∷ s) = if isMark b c then suc (suc (marks s)) else 0
+marks (b ∷ c ∷ s) = if is_mark b c then suc (suc (marks s)) else 0
 
 -- the length of the character at a place: in the accents mode a letter has the marks right after it
-unfoldable pub measureOf : Bool → List ℕ → ℕ → ℕ
-measureOf accents s at =
-    let n = charLength s at in
-    if accents && letterAt s at then n + marks (drop (at + n) s) else n
+unfoldable pub measure_of : Bool → List ℕ → ℕ → ℕ
+measure_of accents s at =
+    let n = char_length s at in
+    if accents && letter_at s at then n + marks (drop (at + n) s) else n
 
 -- r is that length: at least 1 where a byte is left, and within the text
 pub record Counted (accents : Bool) (s : List ℕ) (at r : ℕ) : Type 0 where
-  pub is : r ≡ measureOf accents s at
+  pub is : r ≡ measure_of accents s at
   pub some : min 1 (length s - at) ≤ r
   pub within : r ≤ length s - at
 
 -- unfolds all that a character is measured by
 unfoldable pub measure-computes : ℕ
-unfolding measureOf markAt letterAt marks charLength lead class_of
+unfolding measure_of mark_at letter_at marks char_length lead class_of
 measure-computes = 0
 
 -- the characters just outside the marks, and the first and the last of each first byte
 pub ends
-    : map (λ c. markAt (encoded c) 0) (0x2ff ∷ 0x300 ∷ 0x33f ∷ 0x340 ∷ 0x36f ∷ 0x370 ∷ [])
+    : map (λ c. mark_at (encoded c) 0) (0x2ff ∷ 0x300 ∷ 0x33f ∷ 0x340 ∷ 0x36f ∷ 0x370 ∷ [])
     ≡ false ∷ true ∷ true ∷ true ∷ true ∷ false ∷ []
 unfolding measure-computes
 ends = refl
@@ -61,19 +61,19 @@ abbrev spellings : List (List ℕ)
 spellings = utf8 "ứ" ∷ (utf8 "ư" ++ acute) ∷ (utf8 "ú" ++ horn) ∷ (utf8 "u" ++ horn ++ acute) ∷ (utf8 "u" ++ acute ++ horn) ∷ []
 
 pub one-letter
-    : (map (λ s. measureOf true s 0) spellings ≡ map length spellings)
-    × (map (λ s. measureOf false s 0) spellings ≡ 3 ∷ 2 ∷ 2 ∷ 1 ∷ 1 ∷ [])
+    : (map (λ s. measure_of true s 0) spellings ≡ map length spellings)
+    × (map (λ s. measure_of false s 0) spellings ≡ 3 ∷ 2 ∷ 2 ∷ 1 ∷ 1 ∷ [])
 unfolding measure-computes
 one-letter = (refl, refl)
 
 -- a mark after a digit, a space, a separator or nothing counts alone; so does each after a lone mark
 pub alone
-    : (map (λ b. measureOf true (b ∷ acute) 0) (code "5" ∷ code " " ∷ code "-" ∷ []) ≡ 1 ∷ 1 ∷ 1 ∷ [])
-    × (measureOf true (acute ++ horn) 0 ≡ 2)
+    : (map (λ b. measure_of true (b ∷ acute) 0) (code "5" ∷ code " " ∷ code "-" ∷ []) ≡ 1 ∷ 1 ∷ 1 ∷ [])
+    × (measure_of true (acute ++ horn) 0 ≡ 2)
 unfolding measure-computes
 alone = (refl, refl)
 
 -- any other character outside ASCII is a letter: an ideograph, a musical sign, a space that does not break
-pub letters : map (λ s. measureOf true (s ++ acute ++ utf8 "a") 0) (utf8 "日" ∷ utf8 "𝄞" ∷ encoded 0xa0 ∷ []) ≡ 5 ∷ 6 ∷ 4 ∷ []
+pub letters : map (λ s. measure_of true (s ++ acute ++ utf8 "a") 0) (utf8 "日" ∷ utf8 "𝄞" ∷ encoded 0xa0 ∷ []) ≡ 5 ∷ 6 ∷ 4 ∷ []
 unfolding measure-computes
 letters = refl

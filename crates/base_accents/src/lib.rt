@@ -1,7 +1,7 @@
 // Characters of a text in the accents mode: a letter with its accents is one.
 ghost use Rattle.std.specs.Prelude.{true, ◌≡◌, ◌+◌, drop};
 ghost use Rattle.base_chars.specs.Range.{◌‥◌, ◌∈◌};
-ghost use Rattle.base_accents.specs.Accents.{Counted, letterAt, markAt, marks};
+ghost use Rattle.base_accents.specs.Accents.{Counted, letter_at, mark_at, marks};
 
 // The bytes of U+0300 and U+036F, and of those between them at which the first byte changes.
 const FIRST_LOW: u8 = 0xcc;
@@ -22,7 +22,7 @@ fn second_to(b: u8, last: u8) -> bool
 
 // Whether there is a mark at a place, one of the characters U+0300 to U+036F.
 pub fn is_mark(s: &[u8], at: usize) -> bool
-    ensures { result ≡ markAt s.now at }
+    ensures { result ≡ mark_at s.now at }
 {
     if s.len() <= at {
         return false;
@@ -38,7 +38,7 @@ pub fn is_mark(s: &[u8], at: usize) -> bool
 
 // Whether there is a letter at a place: one of ASCII, or a character outside ASCII that is no mark.
 fn is_letter_at(s: &[u8], at: usize) -> bool
-    ensures { result ≡ letterAt s.now at }
+    ensures { result ≡ letter_at s.now at }
 {
     let b = base_notation::byte_at(s, at);
     if b < 0x80 {

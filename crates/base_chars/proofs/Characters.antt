@@ -6,10 +6,10 @@ use mathlib.Core.Path.{◌≡◌, refl}
 use mathlib.Core.List.{List}
 use Prim.Native.Nat.{ℕ, ◌≤◌, ◌<◌}
 use native.Mathlib.Omega.{arith}
-use Rattle.base_notation.specs.Text.{byteAt}
+use Rattle.base_notation.specs.Text.{byte_at}
 use Rattle.base_notation.proofs.Cases.{by-if}
 use Rattle.base_chars.specs.Range.{◌‥◌, ◌∈◌}
-use Rattle.base_chars.specs.Character.{lead, charLength, Measured}
+use Rattle.base_chars.specs.Character.{lead, char_length, Measured}
 use Rattle.base_chars.proofs.Ranges.{inside, below, above}
 
 abbrev Small : ℕ → Type 0
@@ -46,11 +46,11 @@ module _ (b : ℕ) where
       (λ e. by-if Small (b ∈ 0xe0 ‥ 0xef) _ _ (λ f. omega arith)
       (λ f. by-if Small (b ∈ 0xf0 ‥ 0xf7) 4 1 (λ g. omega arith) (λ g. omega arith)))
 
-pub measured : (s : List ℕ) (at r : ℕ) → r ≡ charLength s at → Measured s at r
-unfolding charLength
+pub measured : (s : List ℕ) (at r : ℕ) → r ≡ char_length s at → Measured s at r
+unfolding char_length
 measured s at r e =
-    let lead-small = lead-bounds (byteAt s at) in
+    let lead-small = lead-bounds (byte_at s at) in
     record { is = e; some = omega arith; most = omega arith; within = omega arith }
 
-pub measure : (s : List ℕ) (at : ℕ) → Measured s at (charLength s at)
-measure s at = measured s at (charLength s at) refl
+pub measure : (s : List ℕ) (at : ℕ) → Measured s at (char_length s at)
+measure s at = measured s at (char_length s at) refl

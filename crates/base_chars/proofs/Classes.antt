@@ -13,7 +13,7 @@ use lib.Dec.{eqb}
 use lib.ListN.{get_or}
 use Rattle.base_notation.specs.Choice.{if◌then◌else◌}
 use Rattle.base_chars.specs.Range.{◌‥◌, ◌∈◌}
-use Rattle.base_chars.specs.Class.{Class, space, digit, letter, separator, other, class_of, rank, ◌is◌, isSpace, isDigit, isLetter, isSeparator}
+use Rattle.base_chars.specs.Class.{Class, space, digit, letter, separator, other, class_of, rank, ◌is◌, is_space, is_digit, is_letter, is_separator}
 use Rattle.base_chars.proofs.Ranges.{inside, above, bounds}
 
 -- the class with a number: `rank` turned round
@@ -93,29 +93,29 @@ module _ (b : ℕ) where
   letters-from false true e f t = omega (arith, bounds (97 ‥ 122) b f)
   letters-from false false e f t = absurd (false≢true t)
 
-  pub space-test : isSpace b ≡ (b ∈ 9 ‥ 13 || eqb b 32)
+  pub space-test : is_space b ≡ (b ∈ 9 ‥ 13 || eqb b 32)
   unfolding class_of
   space-test = ordered-space blank numeral alphabetic printed
 
-  pub digit-test : isDigit b ≡ b ∈ 48 ‥ 57
+  pub digit-test : is_digit b ≡ b ∈ 48 ‥ 57
   unfolding class_of
   digit-test = ordered-digit blank numeral alphabetic printed (λ e. no-space (omega (arith, bounds (48 ‥ 57) b e)))
 
-  pub digit-bounds : isDigit b ≡ true → (48 ≤ b) × (b ≤ 57)
+  pub digit-bounds : is_digit b ≡ true → (48 ≤ b) × (b ≤ 57)
   digit-bounds e = bounds (48 ‥ 57) b (sym digit-test ∙ e)
 
-  pub letter-test : isLetter b ≡ (b ∈ 65 ‥ 90 || b ∈ 97 ‥ 122)
+  pub letter-test : is_letter b ≡ (b ∈ 65 ‥ 90 || b ∈ 97 ‥ 122)
   unfolding class_of
   letter-test =
       ordered-letter blank numeral alphabetic printed
       (λ e. let from-65 = letters-from _ _ refl refl e in rw (no-space (omega arith), above (48 ‥ 57) b (omega arith)))
 
   -- the test of a separator by comparisons alone
-  raw-separator : isSeparator b ≡ (printed && not alphabetic && not numeral)
+  raw-separator : is_separator b ≡ (printed && not alphabetic && not numeral)
   unfolding class_of
   raw-separator = ordered-separator blank numeral alphabetic printed (λ e. no-space (bounds (33 ‥ 126) b e).0)
 
-  pub separator-test : isSeparator b ≡ (b ∈ 33 ‥ 126 && not (isLetter b) && not (isDigit b))
+  pub separator-test : is_separator b ≡ (b ∈ 33 ‥ 126 && not (is_letter b) && not (is_digit b))
   separator-test = raw-separator ∙ rw (letter-test, digit-test)
 
   pub digit-class : 48 ≤ b → b ≤ 57 → class_of b ≡ digit

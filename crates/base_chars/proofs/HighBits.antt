@@ -18,7 +18,7 @@ use lib.ListN.{length, get_or, take, drop, length-drop}
 use lib.Seq.{drop-nil, drop-drop, get_or-drop, take_all}
 use Rattle.base_notation.specs.Choice.{if◌then◌else◌}
 use Rattle.base_chars.specs.Range.{◌‥◌}
-use Rattle.base_chars.specs.Utf8.{wellFormed, high_bits, Passed}
+use Rattle.base_chars.specs.Utf8.{well_formed, high_bits, Passed}
 use Rattle.base_chars.proofs.Sequences.{ascii}
 use Rattle.base_chars.proofs.Ranges.{inside}
 use Rattle.base_chars.proofs.WellFormed.{past-sequence-at}
@@ -100,7 +100,7 @@ zeros-other j x =
     rw (same, count, zeros-below 7 (suc j) (x * 2 + 1), no-zeros j x)
 
 -- the bytes below the lowest high bit are ASCII: what follows is well-formed exactly when the whole is
-high-run : (n : ℕ) (s : List ℕ) → wellFormed (drop (count_trailing_zeros (8 * n) (high_bits (take n s)) / 8) s) ≡ wellFormed s
+high-run : (n : ℕ) (s : List ℕ) → well_formed (drop (count_trailing_zeros (8 * n) (high_bits (take n s)) / 8) s) ≡ well_formed s
 unfolding high_bits count_trailing_zeros
 high-run zero s = refl
 high-run (suc n) [] = rw drop-nil
@@ -109,8 +109,8 @@ high-run (suc n) (b ∷ s) = rw (mul-suc 8 n) (split (high-run n s) (ltb b 0x80)
     rest : ℕ
     rest = high_bits (take n s)
 
-    split : wellFormed (drop (count_trailing_zeros (8 * n) rest / 8) s) ≡ wellFormed s → (t : Bool) → ltb b 0x80 ≡ t
-        → wellFormed (drop (count_trailing_zeros (8 * n + 8) (rest * 256 + (if t then 0 else 0x80)) / 8) (b ∷ s)) ≡ wellFormed (b ∷ s)
+    split : well_formed (drop (count_trailing_zeros (8 * n) rest / 8) s) ≡ well_formed s → (t : Bool) → ltb b 0x80 ≡ t
+        → well_formed (drop (count_trailing_zeros (8 * n + 8) (rest * 256 + (if t then 0 else 0x80)) / 8) (b ∷ s)) ≡ well_formed (b ∷ s)
     split after true e =
         let small = inside (0x00 ‥ 0x7f) b (omega arith) (omega (arith, ltb-true b 0x80 e)) in
         rw (zeros-ascii (8 * n) rest) (after ∙ past-sequence-at (b ∷ s) 0 1 (sym (ascii b s small)))

@@ -15,7 +15,7 @@ use lib.ListN.{length, get_or}
 use Rattle.base_notation.specs.Choice.{if◌then◌else◌}
 use Rattle.base_notation.proofs.Cases.{both}
 use Rattle.base_chars.specs.Range.{Range, ◌‥◌, ◌∈◌}
-use Rattle.base_chars.specs.Utf8.{begins, firstRow}
+use Rattle.base_chars.specs.Utf8.{begins, first_row}
 use Rattle.base_chars.proofs.Ranges.{below, above, bounds}
 
 -- the first ranges of the rows go upwards, from m on
@@ -36,7 +36,7 @@ up m r rs rows e =
     let some_bytes = both (leb r.low r.high) _ from-m.1 in
     record { from = leb-true _ _ from-m.0; some = leb-true _ _ some_bytes.0; later = some_bytes.1 }
 
-pub none : (m : ℕ) (rows : List (List Range)) (b : ℕ) (s : List ℕ) → upwards m rows ≡ true → b < m → firstRow rows (b ∷ s) ≡ 0
+pub none : (m : ℕ) (rows : List (List Range)) (b : ℕ) (s : List ℕ) → upwards m rows ≡ true → b < m → first_row rows (b ∷ s) ≡ 0
 none m [] b s e h = refl
 none m ([] ∷ rows) b s e h = absurd (false≢true e)
 none m ((r ∷ rs) ∷ rows) b s e h =
@@ -69,7 +69,7 @@ under n ((r ∷ rs) ∷ rows) = ltb r.high n && under n rows
 module _ (b : ℕ) (s : List ℕ) where
   pub decides
       : (m : ℕ) (rows : List (List Range)) (k : ℕ) → upwards m rows ≡ true → k < length rows → b ∈ first (get_or rows k []) ≡ true
-      → firstRow rows (b ∷ s) ≡ (if begins (others (get_or rows k [])) s then length (get_or rows k []) else 0)
+      → first_row rows (b ∷ s) ≡ (if begins (others (get_or rows k [])) s then length (get_or rows k []) else 0)
   decides m [] k e h q = absurd (not-suc-le-zero h)
   decides m ([] ∷ rows) k e h q = absurd (false≢true e)
   decides m ((r ∷ rs) ∷ rows) zero e h q =
@@ -81,7 +81,7 @@ module _ (b : ℕ) (s : List ℕ) where
       rw (above r b (omega (arith, bounds (first (get_or rows k [])) b q)))
       (decides (suc r.high) rows k here.later (le_of_suc-le-suc h) q)
 
-  pub over : (n : ℕ) (rows : List (List Range)) → under n rows ≡ true → n ≤ b → firstRow rows (b ∷ s) ≡ 0
+  pub over : (n : ℕ) (rows : List (List Range)) → under n rows ≡ true → n ≤ b → first_row rows (b ∷ s) ≡ 0
   over n [] e h = refl
   over n ([] ∷ rows) e h = absurd (false≢true e)
   over n ((r ∷ rs) ∷ rows) e h =
@@ -96,7 +96,7 @@ module _ (b : ℕ) (s : List ℕ) where
     pub tail : begins (others (get_or rows k [])) s ≡ true
     pub long : length (get_or rows k []) ≡ n
 
-  pub found : (m : ℕ) (rows : List (List Range)) (n : ℕ) → upwards m rows ≡ true → firstRow rows (b ∷ s) ≡ suc n → Fits rows (suc n)
+  pub found : (m : ℕ) (rows : List (List Range)) (n : ℕ) → upwards m rows ≡ true → first_row rows (b ∷ s) ≡ suc n → Fits rows (suc n)
   found m [] n e q = absurd (omega arith)
   found m ([] ∷ rows) n e q = absurd (false≢true e)
   found m ((r ∷ rs) ∷ rows) n e q =

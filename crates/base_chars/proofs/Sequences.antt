@@ -17,12 +17,12 @@ use lib.Seq.{drop-cons}
 use lib.Dec.{ltb, eqb, lit<}
 use borrow.Author.Tests.{ltb-true, ltb-false, eqb-true}
 use Rattle.base_notation.specs.Choice.{if◌then◌else◌}
-use Rattle.base_notation.specs.Text.{byteAt}
+use Rattle.base_notation.specs.Text.{byte_at}
 use Rattle.base_notation.proofs.Cases.{both, by-if}
 use Rattle.base_notation.proofs.Table.{all_from, entry}
 use Rattle.base_chars.specs.Range.{Range, ◌‥◌, ◌∈◌}
 use Rattle.base_chars.specs.Character.{lead}
-use Rattle.base_chars.specs.Utf8.{table, begins, firstRow, sequence}
+use Rattle.base_chars.specs.Utf8.{table, begins, first_row, sequence}
 use Rattle.base_chars.proofs.Ranges.{inside, above, bounds}
 use Rattle.base_chars.proofs.Rows.{first, others, Fits, none, decides, over, found}
 
@@ -81,10 +81,10 @@ begins-within [] s e = omega arith
 begins-within (r ∷ rs) [] e = absurd (false≢true e)
 begins-within (r ∷ rs) (b ∷ s) e = omega (arith, begins-within rs s (both (b ∈ r) _ e).1)
 
-rows-within : (rows : List (List Range)) (s : List ℕ) → firstRow rows s ≤ length s
+rows-within : (rows : List (List Range)) (s : List ℕ) → first_row rows s ≤ length s
 rows-within [] s = omega arith
 rows-within (row ∷ rows) s =
-    by-if (λ (n : ℕ). n ≤ length s) (begins row s) (length row) (firstRow rows s) (begins-within row s) (λ e. rows-within rows s)
+    by-if (λ (n : ℕ). n ≤ length s) (begins row s) (length row) (first_row rows s) (begins-within row s) (λ e. rows-within rows s)
 
 pub sequence-within : (s : List ℕ) → sequence s ≤ length s
 unfolding sequence
@@ -135,14 +135,14 @@ begins-on r rs s at =
 -- a sequence at a place of a list, by its first byte
 module _ (s : List ℕ) (at : ℕ) (h : at < length s) where
   pub at_row
-      : (k : ℕ) → k < 9 → (first (get_or table k [])).low ≤ byteAt s at → byteAt s at ≤ (first (get_or table k [])).high
+      : (k : ℕ) → k < 9 → (first (get_or table k [])).low ≤ byte_at s at → byte_at s at ≤ (first (get_or table k [])).high
       → (if begins (others (get_or table k [])) (drop (at + 1) s) then length (get_or table k []) else 0) ≡ sequence (drop at s)
   at_row k l from to =
       rw (add-one, drop-cons s at 0 h)
-      (sym (by_Row (byteAt s at) (drop (suc at) s) k l (inside (first (get_or table k [])) (byteAt s at) from to)))
+      (sym (by_Row (byte_at s at) (drop (suc at) s) k l (inside (first (get_or table k [])) (byte_at s at) from to)))
 
-  pub at_low : 0x80 ≤ byteAt s at → byteAt s at < 0xc2 → 0 ≡ sequence (drop at s)
-  at_low from to = rw (drop-cons s at 0 h) (sym (no-row-low (byteAt s at) (drop (suc at) s) from to))
+  pub at_low : 0x80 ≤ byte_at s at → byte_at s at < 0xc2 → 0 ≡ sequence (drop at s)
+  at_low from to = rw (drop-cons s at 0 h) (sym (no-row-low (byte_at s at) (drop (suc at) s) from to))
 
-  pub at_high : 0xf5 ≤ byteAt s at → 0 ≡ sequence (drop at s)
-  at_high from = rw (drop-cons s at 0 h) (sym (no-row-high (byteAt s at) (drop (suc at) s) from))
+  pub at_high : 0xf5 ≤ byte_at s at → 0 ≡ sequence (drop at s)
+  at_high from = rw (drop-cons s at 0 h) (sym (no-row-high (byte_at s at) (drop (suc at) s) from))

@@ -10,7 +10,7 @@ use lib.Dec.{ltb}
 use lib.ListN.{replicate}
 use Rattle.base_notation.proofs.Cases.{beq-true}
 use Rattle.base_notation.proofs.Table.{all_from, entry}
-use Rattle.base_chars.specs.Class.{class_of, isSpace, isSeparator}
+use Rattle.base_chars.specs.Class.{class_of, is_space, is_separator}
 use Rattle.base_chars.specs.Sets.{in_set}
 use Rattle.base_chars.proofs.Classes.{wide-class}
 
@@ -30,6 +30,6 @@ module _ (low high : ℕ) (f : ℕ → Bool) where
           let from-128 : 128 ≤ k = ltb-false _ _ q in
           rw (le-ltb k 64 (omega arith), le-ltb k 128 from-128, none k from-128)
 
-pub blanks : (b : ℕ) → in_set 0xfc00ffff00003e00 0x78000001f8000001 b ≡ (isSpace b || isSeparator b)
+pub blanks : (b : ℕ) → in_set 0xfc00ffff00003e00 0x78000001f8000001 b ≡ (is_space b || is_separator b)
 unfolding in_set class_of
-blanks = set_is 0xfc00ffff00003e00 0x78000001f8000001 (λ (b : ℕ). isSpace b || isSeparator b) refl (λ b h. rw (wide-class b h))
+blanks = set_is 0xfc00ffff00003e00 0x78000001f8000001 (λ (b : ℕ). is_space b || is_separator b) refl (λ b h. rw (wide-class b h))

@@ -29,17 +29,17 @@ infix 45 ◌is◌
 abbrev pub ◌is◌ : Class → Class → Bool
 c is k = eqb (rank c) (rank k)
 
-abbrev pub isSpace : ℕ → Bool
-isSpace b = class_of b is space
+abbrev pub is_space : ℕ → Bool
+is_space b = class_of b is space
 
-abbrev pub isDigit : ℕ → Bool
-isDigit b = class_of b is digit
+abbrev pub is_digit : ℕ → Bool
+is_digit b = class_of b is digit
 
-abbrev pub isLetter : ℕ → Bool
-isLetter b = class_of b is letter
+abbrev pub is_letter : ℕ → Bool
+is_letter b = class_of b is letter
 
-abbrev pub isSeparator : ℕ → Bool
-isSeparator b = class_of b is separator
+abbrev pub is_separator : ℕ → Bool
+is_separator b = class_of b is separator
 
 -- the bytes at the ends of each class
 pub spaces-at : map class_of (8 ∷ 9 ∷ 13 ∷ 14 ∷ 31 ∷ 32 ∷ []) ≡ other ∷ space ∷ space ∷ other ∷ other ∷ space ∷ []

@@ -25,29 +25,29 @@ begins (r ∷ rs) [] = false
 begins (r ∷ rs) (b ∷ s) = b ∈ r && begins rs s
 
 -- the length of the first row that the list begins with, 0 where there is none
-abbrev pub firstRow : List (List Range) → List ℕ → ℕ
-firstRow [] s = 0
-firstRow (row ∷ rows) s = if begins row s then length row else firstRow rows s
+abbrev pub first_row : List (List Range) → List ℕ → ℕ
+first_row [] s = 0
+first_row (row ∷ rows) s = if begins row s then length row else first_row rows s
 
 -- the length of the sequence that the list begins with, 0 where there is none
 unfoldable pub sequence : List ℕ → ℕ
-sequence s = firstRow table s
+sequence s = first_row table s
 
 -- after k more bytes of a sequence that was found, the list is sequences one after another. k is at most what is left
-unfoldable pub wellFormedAfter : ℕ → List ℕ → Bool
-wellFormedAfter k [] = true
-wellFormedAfter (suc k) (b ∷ s) = wellFormedAfter k s
-wellFormedAfter zero (b ∷ s) =
-    let n = sequence (b ∷ s) in ltb 0 n && wellFormedAfter (pred n) s
+unfoldable pub well_formed_after : ℕ → List ℕ → Bool
+well_formed_after k [] = true
+well_formed_after (suc k) (b ∷ s) = well_formed_after k s
+well_formed_after zero (b ∷ s) =
+    let n = sequence (b ∷ s) in ltb 0 n && well_formed_after (pred n) s
 
 -- the list is sequences one after another
-abbrev pub wellFormed : List ℕ → Bool
-wellFormed s = wellFormedAfter 0 s
+abbrev pub well_formed : List ℕ → Bool
+well_formed s = well_formed_after 0 s
 
 -- the text from the second place on is well-formed exactly when the text from the first on is
 pub record Passed (s : List ℕ) (from at : ℕ) : Type 0 where
   pub forward : from ≤ at
-  pub same : wellFormed (drop at s) ≡ wellFormed (drop from s)
+  pub same : well_formed (drop at s) ≡ well_formed (drop from s)
 
 -- the bytes as one number, the first the lowest, each 0x80 if its high bit is set and 0 if it is ASCII
 unfoldable pub high_bits : List ℕ → ℕ
@@ -59,13 +59,13 @@ unfolding high_bits
 second-and-third = refl
 
 -- texts of characters of 1, 2, 3 and 4 bytes
-pub texts : (wellFormed [] ≡ true) × (wellFormed (utf8 "ngày 05") ≡ true) × (wellFormed (utf8 "€𝄞") ≡ true)
-unfolding wellFormedAfter sequence
+pub texts : (well_formed [] ≡ true) × (well_formed (utf8 "ngày 05") ≡ true) × (well_formed (utf8 "€𝄞") ≡ true)
+unfolding well_formed_after sequence
 texts = (refl, refl, refl)
 
 -- the first and the last sequence of each row
-abbrev rowEnds : List (List ℕ)
-rowEnds =
+abbrev row_ends : List (List ℕ)
+row_ends =
     (0x00 ∷ []) ∷ (0x7f ∷ [])
     ∷ (0xc2 ∷ 0x80 ∷ []) ∷ (0xdf ∷ 0xbf ∷ [])
     ∷ (0xe0 ∷ 0xa0 ∷ 0x80 ∷ []) ∷ (0xe0 ∷ 0xbf ∷ 0xbf ∷ [])
@@ -77,8 +77,8 @@ rowEnds =
     ∷ (0xf4 ∷ 0x80 ∷ 0x80 ∷ 0x80 ∷ []) ∷ (0xf4 ∷ 0x8f ∷ 0xbf ∷ 0xbf ∷ [])
     ∷ []
 
-pub taken : map wellFormed rowEnds ≡ replicate 18 true
-unfolding wellFormedAfter sequence
+pub taken : map well_formed row_ends ≡ replicate 18 true
+unfolding well_formed_after sequence
 taken = refl
 
 -- just outside the rows: a lone continuation; overlong forms of 2, 3 and 4 bytes; surrogates; above U+10FFFF;
@@ -94,6 +94,6 @@ outside =
     ∷ (0xc2 ∷ []) ∷ (0xe1 ∷ 0x80 ∷ []) ∷ (0xf1 ∷ 0x80 ∷ 0x80 ∷ [])
     ∷ []
 
-pub refused : map wellFormed outside ≡ replicate 18 false
-unfolding wellFormedAfter sequence
+pub refused : map well_formed outside ≡ replicate 18 false
+unfolding well_formed_after sequence
 refused = refl

@@ -3,15 +3,15 @@ ghost use Rattle.std.specs.Prelude.{[], ◌∷◌, ◌≡◌, ◌||◌, ◌+◌,
 ghost use Rattle.std.specs.Int.Count.{count_trailing_zeros};
 ghost use Rattle.base_notation.specs.Choice.{if◌then◌else◌};
 ghost use Rattle.base_chars.specs.Character.{lead, Measured};
-ghost use Rattle.base_chars.specs.Class.{isSpace, isDigit, isLetter, isSeparator};
-ghost use Rattle.base_chars.specs.Fold.{folded as foldedByte, raised as raisedByte};
+ghost use Rattle.base_chars.specs.Class.{is_space, is_digit, is_letter, is_separator};
+ghost use Rattle.base_chars.specs.Fold.{folded as folded_byte, raised as raised_byte};
 ghost use Rattle.base_chars.specs.Range.{◌‥◌};
 ghost use Rattle.base_chars.specs.Sets.{in_set};
-ghost use Rattle.base_chars.specs.Utf8.{begins, sequence, wellFormed, high_bits, Passed};
+ghost use Rattle.base_chars.specs.Utf8.{begins, sequence, well_formed, high_bits, Passed};
 
 // C's isspace in the C locale.
 pub fn is_space_c(b: u8) -> bool
-    ensures { result ≡ isSpace b }
+    ensures { result ≡ is_space b }
 {
     if b' ' < b {
         return false;
@@ -21,14 +21,14 @@ pub fn is_space_c(b: u8) -> bool
 
 // An ASCII digit.
 pub fn is_digit_c(b: u8) -> bool
-    ensures { result ≡ isDigit b }
+    ensures { result ≡ is_digit b }
 {
     b'0' <= b && b <= b'9'
 }
 
 // An ASCII letter.
 pub fn is_alpha_c(b: u8) -> bool
-    ensures { result ≡ isLetter b }
+    ensures { result ≡ is_letter b }
 {
     if b < b'a' {
         b'A' <= b && b <= b'Z'
@@ -39,7 +39,7 @@ pub fn is_alpha_c(b: u8) -> bool
 
 // A capital letter made small.
 pub fn folded(b: u8) -> u8
-    ensures { result ≡ foldedByte b }
+    ensures { result ≡ folded_byte b }
 {
     if b < b'A' {
         return b;
@@ -52,7 +52,7 @@ pub fn folded(b: u8) -> u8
 
 // A small letter made a capital.
 pub fn raised(b: u8) -> u8
-    ensures { result ≡ raisedByte b }
+    ensures { result ≡ raised_byte b }
 {
     if b < b'a' {
         return b;
@@ -65,7 +65,7 @@ pub fn raised(b: u8) -> u8
 
 // Printable ASCII that is no space, letter or digit.
 pub fn is_separator_char(b: u8) -> bool
-    ensures { result ≡ isSeparator b }
+    ensures { result ≡ is_separator b }
 {
     if b <= b' ' {
         return false;
@@ -91,7 +91,7 @@ pub fn in_set(low: u64, high: u64, k: u8) -> bool
 
 // A space or a separator.
 pub fn is_blank(b: u8) -> bool
-    ensures { result ≡ (isSpace b || isSeparator b) }
+    ensures { result ≡ (is_space b || is_separator b) }
 {
     in_set(0xfc00ffff00003e00, 0x78000001f8000001, b)
 }
@@ -291,7 +291,7 @@ fn after_ascii(s: &[u8], at: usize) -> usize
 
 // Whether `s` is well-formed UTF-8, as a Rust `str` is: no overlong form, no surrogate, nothing above U+10FFFF.
 pub fn is_utf8(s: &[u8]) -> bool
-    ensures { result ≡ wellFormed s.now }
+    ensures { result ≡ well_formed s.now }
 {
     let mut i = 0;
     loop {

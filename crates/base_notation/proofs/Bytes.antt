@@ -7,9 +7,9 @@ use Prim.Native.Nat.{ℕ, ◌<◌}
 use borrow.Author.Tests.{ltb-true, ltb-false}
 use lib.Dec.{ltb}
 use lib.ListN.{length, get_or-eq_default}
-use Rattle.base_notation.specs.Text.{byteAt}
+use Rattle.base_notation.specs.Text.{byte_at}
 
-pub byte-within : (s : List ℕ) (at : ℕ) → (byteAt s at ≡ 0 → ⊥) → at < length s
+pub byte-within : (s : List ℕ) (at : ℕ) → (byte_at s at ≡ 0 → ⊥) → at < length s
 byte-within s at n = split (ltb at (length s)) refl
   where
     split : (t : Bool) → ltb at (length s) ≡ t → at < length s

@@ -18,8 +18,8 @@ utf8 []ˢ = []
 utf8 (c ∷ˢ s) = encoded (code c) ++ utf8 s
 
 -- the byte at a place, 0 past the end
-abbrev pub byteAt : List ℕ → ℕ → ℕ
-byteAt t at = get_or t at 0
+abbrev pub byte_at : List ℕ → ℕ → ℕ
+byte_at t at = get_or t at 0
 
 -- a letter of two bytes between letters of one
 pub vietnamese : utf8 "này" ≡ 110 ∷ 0xc3 ∷ 0xa0 ∷ 121 ∷ []

@@ -1,10 +1,10 @@
 // The notation that every crate's definitions share (specs/), its laws (proofs/), and bytes by their place.
 ghost use Rattle.std.specs.Prelude.{◌≡◌, ◌-◌, min};
-ghost use Rattle.base_notation.specs.Text.{byteAt};
+ghost use Rattle.base_notation.specs.Text.{byte_at};
 
 // The byte at a place, 0 past the end.
 pub fn byte_at(t: &[u8], at: usize) -> u8
-    ensures { result ≡ byteAt t.now at }
+    ensures { result ≡ byte_at t.now at }
 {
     if at < t.len() { t[at] } else { 0 }
 }

@@ -1,6 +1,6 @@
 // The refusals, and the numbers by which users know each.
 ghost use Rattle.std.specs.Prelude.{◌≡◌, pos};
-ghost use Rattle.base_refusals.specs.Report.{noPattern, report, reportOf};
+ghost use Rattle.base_refusals.specs.Report.{no_pattern, report, report_of};
 
 // Why a line is refused. A pattern is given by its number in the table of patterns.
 #[derive(Drop)]
@@ -53,7 +53,7 @@ pub const NO_PATTERN: u8 = 112;
 
 // A number alone.
 pub fn alone(number: u8) -> Report
-    ensures { result ≡ report number noPattern (pos 0) (pos 0) }
+    ensures { result ≡ report number no_pattern (pos 0) (pos 0) }
 {
     Report {
         number,
@@ -89,7 +89,7 @@ fn with_figures(pattern: u8, number: u8, first: u8, second: u8) -> Report
 
 // What a refusal reports.
 pub fn report_of(why: Refusal) -> Report
-    ensures { result ≡ reportOf why }
+    ensures { result ≡ report_of why }
 {
     match why {
         Refusal::TooLong => alone(1),

@@ -2,14 +2,14 @@
 -- `template-most`, `input-most`: no caller's limits are above these.
 use Prim.Native.Nat.{◌≤◌}
 use native.Mathlib.Omega.{arith}
-use Rattle.base_settings.specs.Limits.{templateLimit, inputLimit}
+use Rattle.base_settings.specs.Limits.{template_limit, input_limit}
 use Rattle.base_settings.specs.declared.Settings.{Settings}
 
 module _ (set : Settings) where
-  pub template-most : templateLimit set ≤ 256
-  unfolding templateLimit
+  pub template-most : template_limit set ≤ 256
+  unfolding template_limit
   template-most = omega arith
 
-  pub input-most : inputLimit set ≤ 512
-  unfolding inputLimit
+  pub input-most : input_limit set ≤ 512
+  unfolding input_limit
   input-most = omega arith

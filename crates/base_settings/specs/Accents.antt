@@ -4,11 +4,11 @@ use Rattle.base_settings.specs.Limits.{cards, pages}
 use Rattle.base_settings.specs.declared.Settings.{Settings}
 
 -- settings with the mode on or off
-abbrev pub withAccents : Bool → Settings → Settings
-withAccents b set = record { limits = set.limits; strict = set.strict; accents = b }
+abbrev pub with_accents : Bool → Settings → Settings
+with_accents b set = record { limits = set.limits; strict = set.strict; accents = b }
 
 -- it is off for the exercise pages and the flash cards, unless they say otherwise; the limits stay
 pub worked
-    : (pages ≡ withAccents false pages) × (cards ≡ withAccents false cards) × ((withAccents true cards).accents ≡ true)
-    × ((withAccents true cards).limits ≡ cards.limits)
+    : (pages ≡ with_accents false pages) × (cards ≡ with_accents false cards) × ((with_accents true cards).accents ≡ true)
+    × ((with_accents true cards).limits ≡ cards.limits)
 worked = (refl, refl, refl, refl)

@@ -7,39 +7,39 @@ abbrev pub limits : ℕ → ℕ → Limits
 limits template input = record { template = template; input = input }
 
 -- those of the exercise pages, which are the greatest that there are, and those of the flash cards
-abbrev pub pageLimits : Limits
-pageLimits = limits 256 512
+abbrev pub page_limits : Limits
+page_limits = limits 256 512
 
-abbrev pub cardLimits : Limits
-cardLimits = limits 64 96
+abbrev pub card_limits : Limits
+card_limits = limits 64 96
 
 -- settings with other limits
-abbrev pub withLimits : Limits → Settings → Settings
-withLimits l set = record { limits = l; strict = set.strict; accents = set.accents }
+abbrev pub with_limits : Limits → Settings → Settings
+with_limits l set = record { limits = l; strict = set.strict; accents = set.accents }
 
 -- the settings of the exercise pages, and of whoever names none; those of the flash cards
 abbrev pub pages : Settings
-pages = record { limits = pageLimits; strict = false; accents = false }
+pages = record { limits = page_limits; strict = false; accents = false }
 
 abbrev pub cards : Settings
-cards = withLimits cardLimits pages
+cards = with_limits card_limits pages
 
 -- the limit of a template, and that of an input: the caller's own, and never more than the greatest
-unfoldable pub templateLimit : Settings → ℕ
-templateLimit set = min set.limits.template pageLimits.template
+unfoldable pub template_limit : Settings → ℕ
+template_limit set = min set.limits.template page_limits.template
 
-unfoldable pub inputLimit : Settings → ℕ
-inputLimit set = min set.limits.input pageLimits.input
+unfoldable pub input_limit : Settings → ℕ
+input_limit set = min set.limits.input page_limits.input
 
 -- the name that unfolds both, for worked examples
 unfoldable pub limits-compute : ℕ
-unfolding templateLimit inputLimit
+unfolding template_limit input_limit
 limits-compute = 0
 
 -- the two callers; limits of 300 and 100 bytes are those of 256 and 100
 pub worked
-    : (templateLimit pages ≡ 256) × (inputLimit pages ≡ 512)
-    × (templateLimit cards ≡ 64) × (inputLimit cards ≡ 96)
-    × (templateLimit (withLimits (limits 300 100) pages) ≡ 256) × (inputLimit (withLimits (limits 300 100) pages) ≡ 100)
+    : (template_limit pages ≡ 256) × (input_limit pages ≡ 512)
+    × (template_limit cards ≡ 64) × (input_limit cards ≡ 96)
+    × (template_limit (with_limits (limits 300 100) pages) ≡ 256) × (input_limit (with_limits (limits 300 100) pages) ≡ 100)
 unfolding limits-compute
 worked = (refl, refl, refl, refl, refl, refl)

@@ -1,7 +1,7 @@
 // What differs from caller to caller: the limits of a template and of an input, the strict switch, the accents mode.
 ghost use Rattle.std.specs.Prelude.{◌≡◌, min};
-ghost use Rattle.base_settings.specs.Bits.{accentsOf, limitsOf, settingsOf, strictOf};
-ghost use Rattle.base_settings.specs.Limits.{inputLimit, pages, templateLimit};
+ghost use Rattle.base_settings.specs.Bits.{accents_of, limits_of, settings_of, strict_of};
+ghost use Rattle.base_settings.specs.Limits.{input_limit, pages, template_limit};
 
 // The longest template and the longest input, in bytes.
 #[derive(Drop)]
@@ -36,7 +36,7 @@ pub const STRICT: u32 = 2;
 pub const CARDS: u32 = 4;
 
 fn limits_of(bits: u32) -> Limits
-    ensures { result ≡ limitsOf bits }
+    ensures { result ≡ limits_of bits }
 {
     if bits & CARDS == 0 {
         return Limits {
@@ -51,20 +51,20 @@ fn limits_of(bits: u32) -> Limits
 }
 
 fn strict_of(bits: u32) -> bool
-    ensures { result ≡ strictOf bits }
+    ensures { result ≡ strict_of bits }
 {
     bits & STRICT != 0
 }
 
 fn accents_of(bits: u32) -> bool
-    ensures { result ≡ accentsOf bits }
+    ensures { result ≡ accents_of bits }
 {
     bits & ACCENTS != 0
 }
 
 // The settings that are a number's bits. Bits that mean nothing are ignored.
 pub fn settings_of(bits: u32) -> Settings
-    ensures { result ≡ settingsOf bits }
+    ensures { result ≡ settings_of bits }
 {
     let limits = limits_of(bits);
     let strict = strict_of(bits);
@@ -91,13 +91,13 @@ fn lesser(a: usize, b: usize) -> usize
 
 // The limit of a template, and that of an input: the caller's own, and never more than the greatest.
 pub fn template_limit(set: Settings) -> usize
-    ensures { result ≡ templateLimit set }
+    ensures { result ≡ template_limit set }
 {
     lesser(set.limits.template, PAGE_TEMPLATE)
 }
 
 pub fn input_limit(set: Settings) -> usize
-    ensures { result ≡ inputLimit set }
+    ensures { result ≡ input_limit set }
 {
     lesser(set.limits.input, PAGE_INPUT)
 }

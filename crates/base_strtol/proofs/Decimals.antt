@@ -9,21 +9,21 @@ use mathlib.Core.List.{List, [], ◌∷◌, ◌++◌}
 use Prim.Native.Nat.{ℕ, zero, suc, ◌+◌, ◌-◌, ◌*◌, ◌/◌, ◌%◌, ◌^◌, ◌<◌}
 use native.Mathlib.Omega.{arith}
 use lib.ListN.{length, length-append}
-use Rattle.base_chars.specs.Class.{isDigit}
+use Rattle.base_chars.specs.Class.{is_digit}
 use Rattle.base_chars.proofs.Classes.{digit-class}
 use Rattle.base_strtol.specs.Decimal.{decimal}
-use Rattle.base_strtol.specs.Runs.{leading, digits, number, numberFrom}
+use Rattle.base_strtol.specs.Runs.{leading, digits, number, number_from}
 
 abbrev pub AllDigits : List ℕ → Type 0
 AllDigits [] = Unit {0}
-AllDigits (b ∷ s) = (isDigit b ≡ true) × AllDigits s
+AllDigits (b ∷ s) = (is_digit b ≡ true) × AllDigits s
 
 all_append : (s t : List ℕ) → AllDigits s → AllDigits t → AllDigits (s ++ t)
 all_append [] t h k = k
 all_append (b ∷ s) t h k = (h.0, all_append s t h.1 k)
 
-is_digit : (d : ℕ) → d < 10 → isDigit (48 + d) ≡ true
-is_digit d h = rw (digit-class (48 + d) (omega arith) (omega arith))
+is_digit_lem : (d : ℕ) → d < 10 → is_digit (48 + d) ≡ true
+is_digit_lem d h = rw (digit-class (48 + d) (omega arith) (omega arith))
 
 pub decimal-length : (w n : ℕ) → length (decimal w n) ≡ w
 unfolding decimal
@@ -34,7 +34,7 @@ pub decimal-digits : (w n : ℕ) → AllDigits (decimal w n)
 unfolding decimal
 decimal-digits zero n = tt
 decimal-digits (suc w) n =
-    all_append (decimal w (n / 10)) _ (decimal-digits w (n / 10)) (is_digit (n % 10) (omega arith), tt)
+    all_append (decimal w (n / 10)) _ (decimal-digits w (n / 10)) (is_digit_lem (n % 10) (omega arith), tt)
 
 -- digits in front of a text t: their count, and their number
 module _ (t : List ℕ) where
@@ -43,27 +43,27 @@ module _ (t : List ℕ) where
   count-append [] h = omega arith
   count-append (b ∷ s) h = rw h.0 (omega (arith, count-append s h.1))
 
-  pub number_append : (s : List ℕ) (a : ℕ) → AllDigits s → numberFrom a (s ++ t) ≡ numberFrom (numberFrom a s) t
-  unfolding numberFrom
+  pub number_append : (s : List ℕ) (a : ℕ) → AllDigits s → number_from a (s ++ t) ≡ number_from (number_from a s) t
+  unfolding number_from
   number_append [] a h = refl
   number_append (b ∷ s) a h = rw h.0 (number_append s (a * 10 + (b - 48)) h.1)
 
 -- a text with no digit in front leaves the number as it is
-pub number-none : (a : ℕ) (t : List ℕ) → digits t ≡ 0 → numberFrom a t ≡ a
-unfolding leading numberFrom
+pub number-none : (a : ℕ) (t : List ℕ) → digits t ≡ 0 → number_from a t ≡ a
+unfolding leading number_from
 number-none a [] e = refl
 number-none a (b ∷ t) e =
-    (elim (isDigit b) as (λ q. isDigit b ≡ q → numberFrom a (b ∷ t) ≡ a) [
+    (elim (is_digit b) as (λ q. is_digit b ≡ q → number_from a (b ∷ t) ≡ a) [
       | true ↦ λ q. absurd (omega (arith, rw q at e))
       | false ↦ λ q. rw q
     ]) refl
 
-last-digit : (a d : ℕ) → d < 10 → numberFrom a ((48 + d) ∷ []) ≡ a * 10 + d
-unfolding numberFrom
-last-digit a d h = rw (is_digit d h) (omega arith)
+last-digit : (a d : ℕ) → d < 10 → number_from a ((48 + d) ∷ []) ≡ a * 10 + d
+unfolding number_from
+last-digit a d h = rw (is_digit_lem d h) (omega arith)
 
 decimal-number : (w n : ℕ) → n < 10 ^ w → number (decimal w n) ≡ n
-unfolding decimal numberFrom
+unfolding decimal number_from
 decimal-number zero n h = omega arith
 decimal-number (suc w) n h =
     number_append ((48 + n % 10) ∷ []) (decimal w (n / 10)) 0 (decimal-digits w (n / 10))

@@ -11,11 +11,11 @@ use native.Mathlib.Omega.{arith}
 use borrow.Author.Tests.{lt-ltb, le-ltb}
 use lib.Dec.{ltb}
 use lib.ListN.{length, drop}
-use Rattle.base_notation.specs.Text.{byteAt}
-use Rattle.base_chars.specs.Class.{isDigit}
+use Rattle.base_notation.specs.Text.{byte_at}
+use Rattle.base_chars.specs.Class.{is_digit}
 use Rattle.base_chars.proofs.Classes.{digit-bounds}
-use Rattle.base_strtol.specs.Runs.{digits, number, numberFrom}
-use Rattle.base_strtol.specs.Strtol.{limit, digitsRead}
+use Rattle.base_strtol.specs.Runs.{digits, number, number_from}
+use Rattle.base_strtol.specs.Strtol.{limit, digits_read}
 use Rattle.base_strtol.proofs.Leading.{leading-on, leading-stop, leading_end, number-on, number-stop, number-end}
 
 pub limits : (neg : Bool) (most : ℕ) → most ≡ limit neg → (2 ^ 63 - 1 ≤ most) × (most ≤ 2 ^ 63)
@@ -28,7 +28,7 @@ pub record Reading (most : ℕ) (s : List ℕ) (at value : ℕ) (over : Bool) (i
   pub n : ℕ
   pub held : value ≡ min n most
   pub beyond : over ≡ ltb most n
-  pub same : numberFrom n (drop i s) ≡ number (drop at s)
+  pub same : number_from n (drop i s) ≡ number (drop at s)
   pub ends : i + digits (drop i s) ≡ at + digits (drop at s)
 
 module _ (most : ℕ) (s : List ℕ) (at : ℕ) where
@@ -37,10 +37,10 @@ module _ (most : ℕ) (s : List ℕ) (at : ℕ) where
 
   module _ (value : ℕ) (over : Bool) (i : ℕ) (r : Reading most s at value over i) where
     abbrev Answer : ℕ → Type 0
-    Answer lim = record { value = value; end = i; over = over } ≡ digitsRead lim at (drop at s)
+    Answer lim = record { value = value; end = i; over = over } ≡ digits_read lim at (drop at s)
 
     -- where no digit is left, n is the number of all digits
-    finish : (lim : ℕ) → most ≡ lim → numberFrom r.n (drop i s) ≡ r.n → digits (drop i s) ≡ 0 → Answer lim
+    finish : (lim : ℕ) → most ≡ lim → number_from r.n (drop i s) ≡ r.n → digits (drop i s) ≡ 0 → Answer lim
     finish lim m e d =
         let whole : r.n ≡ number (drop at s) = sym e ∙ r.same in
         let at-end : i ≡ at + digits (drop at s) = omega (arith, r.ends) in
@@ -50,19 +50,19 @@ module _ (most : ℕ) (s : List ℕ) (at : ℕ) where
           over = (r.beyond ∙ ap (λ (n : ℕ). ltb most n) whole ∙ ap (λ (k : ℕ). ltb k (number (drop at s))) m) j;
         }
 
-    pub stopped : (lim : ℕ) → most ≡ lim → i < length s → isDigit (byteAt s i) ≡ false → Answer lim
-    stopped lim m h e = finish lim m (number-stop r.n s i h e) (leading-stop isDigit s i h e)
+    pub stopped : (lim : ℕ) → most ≡ lim → i < length s → is_digit (byte_at s i) ≡ false → Answer lim
+    stopped lim m h e = finish lim m (number-stop r.n s i h e) (leading-stop is_digit s i h e)
 
     pub ended : (lim : ℕ) → most ≡ lim → length s ≤ i → Answer lim
-    ended lim m h = finish lim m (number-end r.n s i h) (leading_end isDigit s i h)
+    ended lim m h = finish lim m (number-end r.n s i h) (leading_end is_digit s i h)
 
-    module _ (h : i < length s) (e : isDigit (byteAt s i) ≡ true) (large : 9 ≤ most) where
+    module _ (h : i < length s) (e : is_digit (byte_at s i) ≡ true) (large : 9 ≤ most) where
       -- the number with that digit
       abbrev next : ℕ
-      next = r.n * 10 + (byteAt s i - 48)
+      next = r.n * 10 + (byte_at s i - 48)
 
-      digit : byteAt s i - 48 ≤ 9
-      digit = omega (arith, digit-bounds (byteAt s i) e)
+      digit : byte_at s i - 48 ≤ 9
+      digit = omega (arith, digit-bounds (byte_at s i) e)
 
       -- after one digit more
       on : (value' : ℕ) (over' : Bool) → value' ≡ min next most → over' ≡ ltb most next → Reading most s at value' over' (i + 1)
@@ -72,16 +72,16 @@ module _ (most : ℕ) (s : List ℕ) (at : ℕ) where
             held = v;
             beyond = o;
             same = sym (number-on r.n s i h e) ∙ r.same;
-            ends = omega (arith, leading-on isDigit s i h e, r.ends);
+            ends = omega (arith, leading-on is_digit s i h e, r.ends);
           }
 
       -- a digit that takes the number beyond the limit, or further beyond it
-      pub full : (most - (byteAt s i - 48)) / 10 < value → Reading most s at most true (i + 1)
+      pub full : (most - (byte_at s i - 48)) / 10 < value → Reading most s at most true (i + 1)
       full f = on most true (omega (arith, r.held, digit)) (sym (lt-ltb most next (omega (arith, r.held, digit))))
 
       -- a digit that leaves it within the limit
-      pub more : value ≤ (most - (byteAt s i - 48)) / 10 → Reading most s at (value * 10 + (byteAt s i - 48)) over (i + 1)
+      pub more : value ≤ (most - (byte_at s i - 48)) / 10 → Reading most s at (value * 10 + (byte_at s i - 48)) over (i + 1)
       more f =
           let before : ltb most r.n ≡ false = le-ltb most r.n (omega (arith, r.held, digit)) in
           let after : ltb most next ≡ false = le-ltb most next (omega (arith, r.held, digit)) in
-          on (value * 10 + (byteAt s i - 48)) over (omega (arith, r.held, digit)) (r.beyond ∙ before ∙ sym after)
+          on (value * 10 + (byte_at s i - 48)) over (omega (arith, r.held, digit)) (r.beyond ∙ before ∙ sym after)

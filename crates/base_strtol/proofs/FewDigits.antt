@@ -14,12 +14,12 @@ use borrow.Author.Tests.{lt-ltb, le-ltb, ltb-true}
 use lib.Dec.{ltb}
 use lib.IntN.{pos}
 use lib.ListN.{length, drop}
-use Rattle.base_notation.specs.Text.{byteAt}
+use Rattle.base_notation.specs.Text.{byte_at}
 use Rattle.base_notation.proofs.Cases.{by-if}
-use Rattle.base_chars.specs.Class.{isDigit}
+use Rattle.base_chars.specs.Class.{is_digit}
 use Rattle.base_chars.proofs.Classes.{digit-bounds}
-use Rattle.base_strtol.specs.Runs.{digits, number, numberFrom}
-use Rattle.base_strtol.specs.Strtol.{Pair, answer, digitsRead, limit, short_at, strtol}
+use Rattle.base_strtol.specs.Runs.{digits, number, number_from}
+use Rattle.base_strtol.specs.Strtol.{Pair, answer, digits_read, limit, short_at, strtol}
 use Rattle.base_strtol.specs.declared.Run.{Run}
 use Rattle.base_strtol.specs.declared.Short.{Short}
 use Rattle.base_strtol.proofs.Digits.{Reading}
@@ -27,14 +27,14 @@ use Rattle.base_strtol.proofs.Leading.{leading-on, leading-stop, number-on, numb
 use Rattle.base_strtol.proofs.Unsigned.{strtol-digits}
 
 -- more digits make no number less
-number-least : (n : ℕ) (l : List ℕ) → n ≤ numberFrom n l
-unfolding numberFrom
+number-least : (n : ℕ) (l : List ℕ) → n ≤ number_from n l
+unfolding number_from
 number-least n [] = omega arith
 number-least n (b ∷ l) =
-    by-if (λ (m : ℕ). n ≤ m) (isDigit b) (numberFrom (n * 10 + (b - 48)) l) n (λ e. omega (arith, number-least (n * 10 + (b - 48)) l)) (λ e. omega arith)
+    by-if (λ (m : ℕ). n ≤ m) (is_digit b) (number_from (n * 10 + (b - 48)) l) n (λ e. omega (arith, number-least (n * 10 + (b - 48)) l)) (λ e. omega arith)
 
 module _ (s : List ℕ) (at : ℕ) where
-  pub short-read : {value end : ℕ} → record { value = value; end = end; over = false } ≡ digitsRead (limit false) at (drop at s) → value < 1000000000
+  pub short-read : {value end : ℕ} → record { value = value; end = end; over = false } ≡ digits_read (limit false) at (drop at s) → value < 1000000000
       → record { value = value; end = end } ≡ short_at s at
   unfolding short_at
   short-read {value} {end} r small =
@@ -42,29 +42,29 @@ module _ (s : List ℕ) (at : ℕ) where
       let end_is = ap (λ (x : Run). x.end) r in
       rw (lt-ltb (number (drop at s)) 1000000000 (omega (arith, value-is))) (λ i. record { value = value-is i; end = end_is i })
 
-  pub short-not : {value i : ℕ} → Reading (limit false) s at value false i → 99999999 < value → i < length s → isDigit (byteAt s i) ≡ true
+  pub short-not : {value i : ℕ} → Reading (limit false) s at value false i → 99999999 < value → i < length s → is_digit (byte_at s i) ≡ true
       → record { value = 0; end = at } ≡ short_at s at
   unfolding short_at
   short-not {value} {i} r large h d =
       let more = number-on r.n s i h d in
-      let least = number-least (r.n * 10 + (byteAt s i - 48)) (drop (i + 1) s) in
+      let least = number-least (r.n * 10 + (byte_at s i - 48)) (drop (i + 1) s) in
       rw (le-ltb (number (drop at s)) 1000000000 (omega (arith, r.same, r.held, more, least)))
 
   -- two digits
-  pub short-pair : Pair s at → record { value = (byteAt s at - 48) * 10 + (byteAt s (at + 1) - 48); end = at + 1 + 1 } ≡ short_at s at
+  pub short-pair : Pair s at → record { value = (byte_at s at - 48) * 10 + (byte_at s (at + 1) - 48); end = at + 1 + 1 } ≡ short_at s at
   unfolding short_at
   short-pair (room, first, second, stops) =
-      let a = byteAt s at - 48 in
-      let b = byteAt s (at + 1) - 48 in
-      let bounds-first = digit-bounds (byteAt s at) first in
-      let bounds-second = digit-bounds (byteAt s (at + 1)) second in
+      let a = byte_at s at - 48 in
+      let b = byte_at s (at + 1) - 48 in
+      let bounds-first = digit-bounds (byte_at s at) first in
+      let bounds-second = digit-bounds (byte_at s (at + 1)) second in
       let n-first = number-on 0 s at (omega arith) first in
       let n-second = number-on (0 * 10 + a) s (at + 1) (omega arith) second in
       let n-stop = number-stop ((0 * 10 + a) * 10 + b) s (at + 1 + 1) room stops in
       let value-is : a * 10 + b ≡ number (drop at s) = omega (arith, n-first, n-second, n-stop) in
-      let d-first = leading-on isDigit s at (omega arith) first in
-      let d-second = leading-on isDigit s (at + 1) (omega arith) second in
-      let d-stop = leading-stop isDigit s (at + 1 + 1) room stops in
+      let d-first = leading-on is_digit s at (omega arith) first in
+      let d-second = leading-on is_digit s (at + 1) (omega arith) second in
+      let d-stop = leading-stop is_digit s (at + 1 + 1) room stops in
       let end_is : at + 1 + 1 ≡ at + digits (drop at s) = omega (arith, d-first, d-second, d-stop) in
       rw (lt-ltb (number (drop at s)) 1000000000 (omega (arith, value-is, bounds-first, bounds-second))) (λ i. record { value = value-is i; end = end_is i })
 
@@ -86,8 +86,8 @@ module _ (s : List ℕ) (at : ℕ) where
     where
       -- all its digits are within the limit
       whole : number (drop at s) < 1000000000
-          → record { value = number (drop at s); end = at + digits (drop at s); over = false } ≡ digitsRead (limit false) at (drop at s)
+          → record { value = number (drop at s); end = at + digits (drop at s); over = false } ≡ digits_read (limit false) at (drop at s)
       whole h =
-          let value-is : number (drop at s) ≡ (digitsRead (limit false) at (drop at s)).value = omega arith in
+          let value-is : number (drop at s) ≡ (digits_read (limit false) at (drop at s)).value = omega arith in
           let not-over = sym (le-ltb (limit false) (number (drop at s)) (omega arith)) in
           λ i. record { value = value-is i; end = at + digits (drop at s); over = not-over i }

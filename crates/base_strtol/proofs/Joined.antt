@@ -13,14 +13,14 @@ use lib.IntN.{ℤ, pos}
 use lib.ListN.{drop}
 use lib.Seq.{drop-drop}
 use Rattle.base_strtol.specs.Runs.{spaces, digits, number}
-use Rattle.base_strtol.specs.Strtol.{minus, signs, limit, signed, trimmed, unsigned, digitsRead, strtol, answer}
+use Rattle.base_strtol.specs.Strtol.{minus, signs, limit, signed, trimmed, unsigned, digits_read, strtol, answer}
 use Rattle.base_strtol.specs.declared.Run.{Run}
 
 pub record Pieces (s : List ℕ) (start at : ℕ) (neg : Bool) (first : ℕ) (run : Run) : Type 0 where
   pub blank : at ≡ start + spaces (drop start s)
   pub sign : neg ≡ minus (drop at s)
   pub past : first ≡ at + signs (drop at s)
-  pub read : run ≡ digitsRead (limit neg) first (drop first s)
+  pub read : run ≡ digits_read (limit neg) first (drop first s)
 
 module _ (s : List ℕ) (start at : ℕ) (neg : Bool) (first : ℕ) (run : Run) (p : Pieces s start at neg first run) where
   -- the same places and texts as in the definition

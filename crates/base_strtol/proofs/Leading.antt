@@ -11,10 +11,10 @@ use native.Mathlib.Numerals.{add-one}
 use native.Mathlib.Omega.{arith}
 use lib.ListN.{length, drop, drop_of_length-le, length-drop}
 use lib.Seq.{drop-cons}
-use Rattle.base_notation.specs.Text.{byteAt}
+use Rattle.base_notation.specs.Text.{byte_at}
 use Rattle.base_notation.proofs.Cases.{by-if}
-use Rattle.base_chars.specs.Class.{isDigit}
-use Rattle.base_strtol.specs.Runs.{leading, numberFrom}
+use Rattle.base_chars.specs.Class.{is_digit}
+use Rattle.base_strtol.specs.Runs.{leading, number_from}
 
 module _ (test : ℕ → Bool) where
   pub leading-within : (s : List ℕ) → leading test s ≤ length s
@@ -37,11 +37,11 @@ module _ (test : ℕ → Bool) where
     pub leading-place : at + leading test (drop at s) ≤ max at (length s)
     leading-place = omega (arith, leading-within (drop at s), length-drop at s)
 
-    pub leading-on : at < length s → test (byteAt s at) ≡ true → leading test (drop at s) ≡ suc (leading test (drop (at + 1) s))
+    pub leading-on : at < length s → test (byte_at s at) ≡ true → leading test (drop at s) ≡ suc (leading test (drop (at + 1) s))
     unfolding leading
     leading-on h e = rw (add-one, drop-cons s at 0 h) (rw e refl)
 
-    pub leading-stop : at < length s → test (byteAt s at) ≡ false → leading test (drop at s) ≡ 0
+    pub leading-stop : at < length s → test (byte_at s at) ≡ false → leading test (drop at s) ≡ 0
     unfolding leading
     leading-stop h e = rw (drop-cons s at 0 h, e)
 
@@ -51,15 +51,15 @@ module _ (test : ℕ → Bool) where
 
 module _ (n : ℕ) (s : List ℕ) (at : ℕ) where
   pub number-on
-      : at < length s → isDigit (byteAt s at) ≡ true
-      → numberFrom n (drop at s) ≡ numberFrom (n * 10 + (byteAt s at - 48)) (drop (at + 1) s)
-  unfolding numberFrom
+      : at < length s → is_digit (byte_at s at) ≡ true
+      → number_from n (drop at s) ≡ number_from (n * 10 + (byte_at s at - 48)) (drop (at + 1) s)
+  unfolding number_from
   number-on h e = rw (add-one, drop-cons s at 0 h) (rw e refl)
 
-  pub number-stop : at < length s → isDigit (byteAt s at) ≡ false → numberFrom n (drop at s) ≡ n
-  unfolding numberFrom
+  pub number-stop : at < length s → is_digit (byte_at s at) ≡ false → number_from n (drop at s) ≡ n
+  unfolding number_from
   number-stop h e = rw (drop-cons s at 0 h, e)
 
-  pub number-end : length s ≤ at → numberFrom n (drop at s) ≡ n
-  unfolding numberFrom
+  pub number-end : length s ≤ at → number_from n (drop at s) ≡ n
+  unfolding number_from
   number-end h = rw (drop_of_length-le s h)

@@ -8,7 +8,7 @@ use Prim.Native.Nat.{ℕ, zero, suc, ◌+◌, ◌≤◌, ◌<◌, max}
 use native.Mathlib.Omega.{arith}
 use borrow.Author.Tests.{eq-eqb, ne_eqb}
 use lib.ListN.{length, drop, length-drop}
-use Rattle.base_chars.specs.Class.{isSpace, isDigit}
+use Rattle.base_chars.specs.Class.{is_space, is_digit}
 use Rattle.base_strtol.specs.Runs.{spaces, digits}
 use Rattle.base_strtol.specs.Strtol.{signs, trimmed, unsigned, strtol}
 use Rattle.base_strtol.proofs.Leading.{leading-within}
@@ -35,8 +35,8 @@ module _ (s : List ℕ) (start : ℕ) where
       let u = trimmed t in
       omega (
         arith,
-        leading-within isDigit (unsigned t),
-        leading-within isSpace t,
+        leading-within is_digit (unsigned t),
+        leading-within is_space t,
         length-drop (signs u) u,
         length-drop (spaces t) t,
         length-drop start s,

@@ -7,11 +7,11 @@ use Prim.Native.Nat.{ℕ, ◌≤◌}
 use native.Mathlib.Nat.{add-zero}
 use lib.ListN.{length, drop, get_or-eq_default}
 use lib.Seq.{get_or-drop}
-use Rattle.base_notation.specs.Text.{byteAt}
+use Rattle.base_notation.specs.Text.{byte_at}
 
 module _ (s : List ℕ) (at : ℕ) where
-  pub front : byteAt (drop at s) 0 ≡ byteAt s at
+  pub front : byte_at (drop at s) 0 ≡ byte_at s at
   front = rw (get_or-drop, add-zero)
 
-  pub past_end : length s ≤ at → byteAt (drop at s) 0 ≡ 0
+  pub past_end : length s ≤ at → byte_at (drop at s) 0 ≡ 0
   past_end h = front ∙ get_or-eq_default s 0 h

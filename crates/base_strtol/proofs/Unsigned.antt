@@ -12,19 +12,19 @@ use borrow.Author.Tests.{ne_eqb, le-ltb}
 use lib.Dec.{ltb}
 use lib.IntN.{pos}
 use lib.ListN.{drop}
-use Rattle.base_chars.specs.Class.{digit, class_of, isDigit}
+use Rattle.base_chars.specs.Class.{digit, class_of, is_digit}
 use Rattle.base_chars.proofs.Classes.{the_class, digit-bounds}
 use Rattle.base_strtol.specs.Decimal.{decimal}
 use Rattle.base_strtol.specs.Runs.{leading, spaces, digits, number}
-use Rattle.base_strtol.specs.Strtol.{minus, signs, trimmed, limit, digitsRead, strtol, answer}
+use Rattle.base_strtol.specs.Strtol.{minus, signs, trimmed, limit, digits_read, strtol, answer}
 use Rattle.base_strtol.specs.declared.Run.{Run}
 use Rattle.base_strtol.proofs.Decimals.{field-digits, field-number}
 
 -- the first byte of what begins with a digit
-first-digit : (b : ℕ) (t : List ℕ) → 0 < digits (b ∷ t) → isDigit b ≡ true
+first-digit : (b : ℕ) (t : List ℕ) → 0 < digits (b ∷ t) → is_digit b ≡ true
 unfolding leading
 first-digit b t h =
-    (elim (isDigit b) as (λ q. isDigit b ≡ q → q ≡ true) [
+    (elim (is_digit b) as (λ q. is_digit b ≡ q → q ≡ true) [
       | true ↦ λ q. refl
       | false ↦ λ q. absurd (omega (arith, rw q at h))
     ]) refl
@@ -54,7 +54,7 @@ module _ (s : List ℕ) (start : ℕ) where
       let sign-none = no_sign u h in
       rw (sign-none.1, sign-none.0, ne_eqb (digits u) 0 (omega arith), add-zero)
 
-  pub strtol-digits : {value end : ℕ} → record { value = value; end = end; over = false } ≡ digitsRead (limit false) start (drop start s) → (end ≡ start → ⊥)
+  pub strtol-digits : {value end : ℕ} → record { value = value; end = end; over = false } ≡ digits_read (limit false) start (drop start s) → (end ≡ start → ⊥)
       → strtol s start ≡ answer (pos value) end false
   strtol-digits r moved =
       let u = drop start s in

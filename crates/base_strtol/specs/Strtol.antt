@@ -2,9 +2,9 @@
 use Rattle.std.specs.Prelude.{◌≡◌, refl, Bool, true, false, ◌||◌, List, [], ℕ, ◌+◌, ◌-◌, ◌^◌, ◌<◌, min, eqb, ltb, ℤ, pos, negsuc, neg_ℤ, length, drop}
 use Prim.Native.Char.{code}
 use Rattle.base_notation.specs.Choice.{if◌then◌else◌}
-use Rattle.base_notation.specs.Text.{byteAt, utf8}
-use Rattle.base_chars.specs.Class.{class_of, isDigit}
-use Rattle.base_strtol.specs.Runs.{leading, spaces, digits, number, numberFrom}
+use Rattle.base_notation.specs.Text.{byte_at, utf8}
+use Rattle.base_chars.specs.Class.{class_of, is_digit}
+use Rattle.base_strtol.specs.Runs.{leading, spaces, digits, number, number_from}
 use Rattle.base_strtol.specs.declared.Run.{Run}
 use Rattle.base_strtol.specs.declared.Short.{Short}
 use Rattle.base_strtol.specs.declared.Strtol.{Strtol}
@@ -15,11 +15,11 @@ trimmed s = drop (spaces s) s
 
 -- a minus sign is in front
 abbrev pub minus : List ℕ → Bool
-minus s = eqb (byteAt s 0) (code "-")
+minus s = eqb (byte_at s 0) (code "-")
 
 -- how many signs are read: one plus or minus sign, or none
 abbrev pub signs : List ℕ → ℕ
-signs s = if minus s || eqb (byteAt s 0) (code "+") then 1 else 0
+signs s = if minus s || eqb (byte_at s 0) (code "+") then 1 else 0
 
 -- the text after its spaces and a sign
 abbrev pub unsigned : List ℕ → List ℕ
@@ -35,8 +35,8 @@ signed neg n = if neg then neg_ℤ (pos n) else pos n
 
 -- the digits in front of a text that begins at a place: their number, or the limit where it is beyond that;
 -- the place after them; whether the number is beyond the limit
-abbrev pub digitsRead : ℕ → ℕ → List ℕ → Run
-digitsRead most at t = record { value = min (number t) most; end = at + digits t; over = ltb most (number t) }
+abbrev pub digits_read : ℕ → ℕ → List ℕ → Run
+digits_read most at t = record { value = min (number t) most; end = at + digits t; over = ltb most (number t) }
 
 -- a number, the place after it, and whether it was outside 64 bits
 abbrev pub answer : ℤ → ℕ → Bool → Strtol
@@ -47,7 +47,7 @@ unfoldable pub strtol : List ℕ → ℕ → Strtol
 strtol s start =
     let t = drop start s in
     let neg = minus (trimmed t) in
-    let run = digitsRead (limit neg) (start + spaces t + signs (trimmed t)) (unsigned t) in
+    let run = digits_read (limit neg) (start + spaces t + signs (trimmed t)) (unsigned t) in
     if eqb (digits (unsigned t)) 0 then answer (pos 0) start false
     else answer (signed neg run.value) run.end run.over
 
@@ -60,11 +60,11 @@ short_at s at =
 -- two digits are at a place, and then a byte that is no digit
 abbrev pub Pair : List ℕ → ℕ → Type 0
 Pair s at =
-    (at + 1 + 1 < length s) × (isDigit (byteAt s at) ≡ true) × (isDigit (byteAt s (at + 1)) ≡ true) × (isDigit (byteAt s (at + 1 + 1)) ≡ false)
+    (at + 1 + 1 < length s) × (is_digit (byte_at s at) ≡ true) × (is_digit (byte_at s (at + 1)) ≡ true) × (is_digit (byte_at s (at + 1 + 1)) ≡ false)
 
 -- unfolds all that a number is computed by, for worked examples
 unfoldable pub strtol-computes : ℕ
-unfolding strtol leading numberFrom class_of
+unfolding strtol leading number_from class_of
 strtol-computes = 0
 
 -- spaces and a sign are skipped, what follows the digits is left

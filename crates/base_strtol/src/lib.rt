@@ -1,7 +1,7 @@
 // Numbers as C's strtol reads them.
 ghost use Rattle.std.specs.Prelude.{true, ◌≡◌, ◌+◌, ◌≤◌, drop};
 ghost use Rattle.base_strtol.specs.Runs.{spaces};
-ghost use Rattle.base_strtol.specs.Strtol.{Pair, minus, signs, limit, signed, digitsRead, strtol, short_at};
+ghost use Rattle.base_strtol.specs.Strtol.{Pair, minus, signs, limit, signed, digits_read, strtol, short_at};
 
 // What is read: the number, the place after it, and whether it was outside 64 bits.
 #[derive(Drop)]
@@ -70,7 +70,7 @@ fn limit_of(neg: bool) -> u64
 
 // The digits from a place on. Once beyond the limit the number stays there: one digit more is beyond it again.
 fn digits_at(s: &[u8], at: usize, neg: bool) -> Run
-    ensures { result ≡ digitsRead (limit neg) at (drop at s.now) }
+    ensures { result ≡ digits_read (limit neg) at (drop at s.now) }
 {
     let most = limit_of(neg);
     let mut value: u64 = 0;

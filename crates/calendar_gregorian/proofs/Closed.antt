@@ -14,7 +14,7 @@ use borrow.Author.Tests.{ltb-true, ltb-false, eq-eqb, ne_eqb, eqb-true}
 use lib.Arith.{digits_div, digits_mod}
 use lib.Dec.{ltb, eqb, lit<}
 use Rattle.base_notation.specs.Choice.{if◌then◌else◌}
-use Rattle.calendar_gregorian.specs.Gregorian.{multiple, isLeap, leap, beforeYear}
+use Rattle.calendar_gregorian.specs.Gregorian.{multiple, is_leap, leap, before_year}
 
 -- 1 where a test passes
 abbrev one-if : Bool → ℕ
@@ -26,7 +26,7 @@ one-if-le false = omega arith
 
 pub leap-le : (y : ℕ) → leap y ≤ 1
 unfolding leap
-leap-le y = one-if-le (isLeap y)
+leap-le y = one-if-le (is_leap y)
 
 -- a quotient grows by one at each multiple
 module _ (k : ℕ) (h : 0 < k) where
@@ -70,22 +70,22 @@ module _ (y : ℕ) where
   pub centuries-le : y / 100 ≤ y / 4
   centuries-le = omega arith
 
-pub next-year : (y : ℕ) → beforeYear (y + 1) ≡ beforeYear y + (365 + leap y)
-unfolding beforeYear
-next-year y = ap beforeYear (add-one y)
+pub next-year : (y : ℕ) → before_year (y + 1) ≡ before_year y + (365 + leap y)
+unfolding before_year
+next-year y = ap before_year (add-one y)
 
 -- one more year, with a variable for each quotient: `omega` fails on several quotients at once
 next : (y n a b c p q r l : ℕ) → b ≤ a → q ≤ 1 → n ≡ 366 + 365 * y + a - b + c → p + r ≡ q + l
     → n + (365 + l) ≡ 366 + 365 * suc y + (a + p) - (b + q) + (c + r)
 next y n a b c p q r l h k e f = omega arith
 
-pub closed : (y : ℕ) → beforeYear (suc y) ≡ 366 + 365 * y + y / 4 - y / 100 + y / 400
-closed zero = unfold beforeYear leap in refl
+pub closed : (y : ℕ) → before_year (suc y) ≡ 366 + 365 * y + y / 4 - y / 100 + y / 400
+closed zero = unfold before_year leap in refl
 closed (suc y) =
     rw (← add-one (suc y), next-year (suc y), grows 4 (lit< tt) y, grows 100 (lit< tt) y, grows 400 (lit< tt) y)
-    (next y (beforeYear (suc y)) _ _ _ _ _ _ (leap (suc y)) (centuries-le y) (one-if-le (multiple 100 (suc y))) (closed y) (leap-is (suc y)))
+    (next y (before_year (suc y)) _ _ _ _ _ _ (leap (suc y)) (centuries-le y) (one-if-le (multiple 100 (suc y))) (closed y) (leap-is (suc y)))
 
-pub before-bound : (y : ℕ) → beforeYear y ≤ 366 * y
-unfolding beforeYear
+pub before-bound : (y : ℕ) → before_year y ≤ 366 * y
+unfolding before_year
 before-bound zero = omega arith
 before-bound (suc y) = omega (arith, before-bound y, leap-le y)

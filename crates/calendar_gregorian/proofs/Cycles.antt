@@ -8,7 +8,7 @@ use native.Mathlib.Nat.{zero-add}
 use native.Mathlib.Omega.{arith}
 use borrow.Author.Tests.{eq-eqb, ne_eqb, eqb-true, eqb-false}
 use lib.Dec.{eqb}
-use Rattle.calendar_gregorian.specs.Gregorian.{multiple, leap, beforeYear, backTo}
+use Rattle.calendar_gregorian.specs.Gregorian.{multiple, leap, before_year, back_to}
 use Rattle.calendar_gregorian.proofs.Closed.{closed, centuries-le}
 
 -- what 400 years add to each quotient
@@ -22,16 +22,16 @@ module _ (z : ℕ) where
   cycle : (z + 400) / 400 ≡ z / 400 + 1
   cycle = omega arith
 
-one-cycle : (y : ℕ) → beforeYear (y + 400) ≡ beforeYear y + 146097
-one-cycle zero = unfold beforeYear leap in refl
+one-cycle : (y : ℕ) → before_year (y + 400) ≡ before_year y + 146097
+one-cycle zero = unfold before_year leap in refl
 one-cycle (suc z) =
-    let e : beforeYear (suc z + 400) ≡ beforeYear (suc (z + 400)) = ap beforeYear (omega arith) in
+    let e : before_year (suc z + 400) ≡ before_year (suc (z + 400)) = ap before_year (omega arith) in
     rw (e, closed (z + 400), closed z, fourths z, centuries z, cycle z) (omega (arith, centuries-le z))
 
-pub cycles : (k y : ℕ) → beforeYear (y + 400 * k) ≡ beforeYear y + 146097 * k
-cycles zero y = let e : beforeYear (y + 400 * 0) ≡ beforeYear y = ap beforeYear (omega arith) in omega arith
+pub cycles : (k y : ℕ) → before_year (y + 400 * k) ≡ before_year y + 146097 * k
+cycles zero y = let e : before_year (y + 400 * 0) ≡ before_year y = ap before_year (omega arith) in omega arith
 cycles (suc k) y =
-    let e : beforeYear (y + 400 * suc k) ≡ beforeYear (y + 400 * k + 400) = ap beforeYear (omega arith) in
+    let e : before_year (y + 400 * suc k) ≡ before_year (y + 400 * k + 400) = ap before_year (omega arith) in
     omega (arith, e, one-cycle (y + 400 * k), cycles k y)
 
 -- two tests for 0 that pass together
@@ -58,16 +58,16 @@ module _ (k a b : ℕ) (e : a + b ≡ 400 * k) where
   mirror = rw (by4, by100, by400)
 
 -- the year -(n + 1) is the year before -n
-step : (k n : ℕ) → n < 400 * k → beforeYear (400 * k - suc n) + (365 + leap (suc n)) ≡ beforeYear (400 * k - n)
+step : (k n : ℕ) → n < 400 * k → before_year (400 * k - suc n) + (365 + leap (suc n)) ≡ before_year (400 * k - n)
 step k n h =
-    let e : beforeYear (400 * k - n) ≡ beforeYear (suc (400 * k - suc n)) = ap beforeYear (omega arith) in
-    rw (e, ← mirror k (400 * k - suc n) (suc n) (omega arith)) (unfold beforeYear in refl)
+    let e : before_year (400 * k - n) ≡ before_year (suc (400 * k - suc n)) = ap before_year (omega arith) in
+    rw (e, ← mirror k (400 * k - suc n) (suc n) (omega arith)) (unfold before_year in refl)
 
-from_zero : (k : ℕ) → beforeYear (400 * k - 0) ≡ 146097 * k
-from_zero k = let e : 400 * k - 0 ≡ 0 + 400 * k = omega arith in rw (e, cycles k 0) (unfold beforeYear in zero-add (146097 * k))
+from_zero : (k : ℕ) → before_year (400 * k - 0) ≡ 146097 * k
+from_zero k = let e : 400 * k - 0 ≡ 0 + 400 * k = omega arith in rw (e, cycles k 0) (unfold before_year in zero-add (146097 * k))
 
 -- the years -1 to -(n + 1), counted from a start k times 400 years before year 0
-pub back : (k n : ℕ) → n < 400 * k → beforeYear (400 * k - suc n) + backTo n ≡ 146097 * k
-unfolding backTo
+pub back : (k n : ℕ) → n < 400 * k → before_year (400 * k - suc n) + back_to n ≡ 146097 * k
+unfolding back_to
 back k zero h = omega (arith, step k 0 h, from_zero k)
 back k (suc n) h = omega (arith, step k (suc n) h, back k n (omega arith))

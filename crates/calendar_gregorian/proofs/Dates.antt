@@ -14,7 +14,7 @@ use native.Mathlib.Numerals.{add-one}
 use native.Mathlib.Omega.{arith}
 use borrow.Author.Tests.{ltb-true, ltb-false, eqb-true, eqb-false}
 use lib.Dec.{ltb, eqb}
-use Rattle.calendar_gregorian.specs.Gregorian.{leap, monthLength, beforeMonth, beforeYear, dayNumber, Valid}
+use Rattle.calendar_gregorian.specs.Gregorian.{leap, month_length, before_month, before_year, day_number, Valid}
 use Rattle.calendar_gregorian.proofs.Closed.{leap-le, closed, next-year}
 
 -- a property of each of the numbers i to i + n
@@ -35,22 +35,22 @@ pub by-month : (P : ℕ → Type 0) → Each P 1 11 → (m : ℕ) → 1 ≤ m �
 by-month P = each P 1 11
 
 module _ (y : ℕ) where
-  pub length-range : (m : ℕ) → 1 ≤ m → m ≤ 12 → (28 ≤ monthLength y m) × (monthLength y m ≤ 31)
+  pub length-range : (m : ℕ) → 1 ≤ m → m ≤ 12 → (28 ≤ month_length y m) × (month_length y m ≤ 31)
   length-range =
       let leap-days = leap-le y in
-      by-month (λ m. (28 ≤ monthLength y m) × (monthLength y m ≤ 31)) (omega arith)
+      by-month (λ m. (28 ≤ month_length y m) × (month_length y m ≤ 31)) (omega arith)
 
   -- after the last day of a month comes the first of the next
-  next-month : (m : ℕ) → 1 ≤ m → m ≤ 11 → dayNumber y (m + 1) 1 ≡ dayNumber y m (monthLength y m) + 1
-  next-month = each (λ m. dayNumber y (m + 1) 1 ≡ dayNumber y m (monthLength y m) + 1) 1 10 (omega arith)
+  next-month : (m : ℕ) → 1 ≤ m → m ≤ 11 → day_number y (m + 1) 1 ≡ day_number y m (month_length y m) + 1
+  next-month = each (λ m. day_number y (m + 1) 1 ≡ day_number y m (month_length y m) + 1) 1 10 (omega arith)
 
   -- after December 31 comes January 1 of the next year
-  new-year : dayNumber (y + 1) 1 1 ≡ dayNumber y 12 31 + 1
+  new-year : day_number (y + 1) 1 1 ≡ day_number y 12 31 + 1
   new-year = omega (arith, next-year y)
 
   -- a month ends within its year
-  months : (m : ℕ) → 1 ≤ m → m ≤ 12 → beforeMonth (leap y) m + monthLength y m ≤ 365 + leap y
-  months = by-month (λ m. beforeMonth (leap y) m + monthLength y m ≤ 365 + leap y) (omega arith)
+  months : (m : ℕ) → 1 ≤ m → m ≤ 12 → before_month (leap y) m + month_length y m ≤ 365 + leap y
+  months = by-month (λ m. before_month (leap y) m + month_length y m ≤ 365 + leap y) (omega arith)
 
 -- a date of the years from 1 on
 pub record Real (y m d : ℕ) : Type 0 where
@@ -58,18 +58,18 @@ pub record Real (y m d : ℕ) : Type 0 where
   pub month-from : 1 ≤ m
   pub month-to : m ≤ 12
   pub day-from : 1 ≤ d
-  pub day-to : d ≤ monthLength y m
+  pub day-to : d ≤ month_length y m
 
 -- a date is in its year
-pub in-year : {y m d : ℕ} → Real y m d → (dayNumber y 1 1 ≤ dayNumber y m d) × (dayNumber y m d < dayNumber (y + 1) 1 1)
+pub in-year : {y m d : ℕ} → Real y m d → (day_number y 1 1 ≤ day_number y m d) × (day_number y m d < day_number (y + 1) 1 1)
 in-year {y} {m} {d} r = omega (arith, months y m r.month-from r.month-to, next-year y)
 
-before-grows : (y n : ℕ) → beforeYear y ≤ beforeYear (y + n)
-before-grows y zero = rw add-zero (le_refl (beforeYear y))
+before-grows : (y n : ℕ) → before_year y ≤ before_year (y + n)
+before-grows y zero = rw add-zero (le_refl (before_year y))
 before-grows y (suc n) = rw (add-suc y n, ← add-one (y + n)) (omega (arith, before-grows y n, next-year (y + n)))
 
-pub before-le : {y z : ℕ} → y ≤ z → beforeYear y ≤ beforeYear z
-before-le {y} {z} h = subst (λ (k : ℕ). beforeYear y ≤ beforeYear k) (omega arith) (before-grows y (z - y))
+pub before-le : {y z : ℕ} → y ≤ z → before_year y ≤ before_year z
+before-le {y} {z} h = subst (λ (k : ℕ). before_year y ≤ before_year k) (omega arith) (before-grows y (z - y))
 
 -- the date of the day j
 pub record Dated (j : ℕ) : Type 0 where
@@ -77,17 +77,17 @@ pub record Dated (j : ℕ) : Type 0 where
   pub m : ℕ
   pub d : ℕ
   pub real : Real y m d
-  pub is : dayNumber y m d ≡ j
+  pub is : day_number y m d ≡ j
 
 -- the date of the next day: in the same month, in the next, or in the next year
 tomorrow : {j : ℕ} → Dated j → Dated (j + 1)
-tomorrow {j} t = by (ltb t.d (monthLength t.y t.m)) (ltb t.m 12) refl refl
+tomorrow {j} t = by (ltb t.d (month_length t.y t.m)) (ltb t.m 12) refl refl
   where
-    by : (a b : Bool) → ltb t.d (monthLength t.y t.m) ≡ a → ltb t.m 12 ≡ b → Dated (j + 1)
+    by : (a b : Bool) → ltb t.d (month_length t.y t.m) ≡ a → ltb t.m 12 ≡ b → Dated (j + 1)
     by true b p q = record { y = t.y; m = t.m; d = t.d + 1; real = omega (arith, ltb-true); is = omega arith }
     by false true p q =
         let not-december : t.m < 12 = ltb-true t.m 12 q in
-        let last-day : monthLength t.y t.m ≡ t.d = omega (arith, ltb-false) in
+        let last-day : month_length t.y t.m ≡ t.d = omega (arith, ltb-false) in
         let next-length = length-range t.y (t.m + 1) (omega arith) (omega arith) in
         record {
           y = t.y;
@@ -98,9 +98,9 @@ tomorrow {j} t = by (ltb t.d (monthLength t.y t.m)) (ltb t.m 12) refl refl
         }
     by false false p q =
         let december : t.m ≡ 12 = omega (arith, ltb-false t.m 12 q) in
-        let from-31 : 31 ≤ t.d = rw december at (ltb-false t.d (monthLength t.y t.m) p) in
+        let from-31 : 31 ≤ t.d = rw december at (ltb-false t.d (month_length t.y t.m) p) in
         let to-31 : t.d ≤ 31 = rw december at t.real.day-to in
-        let is-j : dayNumber t.y 12 t.d ≡ j = rw december at t.is in
+        let is-j : day_number t.y 12 t.d ≡ j = rw december at t.is in
         record { y = t.y + 1; m = 1; d = 1; real = omega arith; is = omega (arith, new-year t.y) }
 
 pub dated : (n : ℕ) → Dated (1721426 + n)
@@ -116,7 +116,7 @@ module _ {y m d : ℕ} (v : Valid y m d) where
   pub real : Real y m d
   real = omega arith
 
-  pub first-to-last : (1721426 ≤ dayNumber y m d) × (dayNumber y m d ≤ 5373484)
+  pub first-to-last : (1721426 ≤ day_number y m d) × (day_number y m d ≤ 5373484)
   first-to-last =
       let next-to : y + 1 ≤ 10000 = omega arith in
       omega (arith, in-year real, before-le v.year-from, before-le next-to, closed 0, closed 9999)

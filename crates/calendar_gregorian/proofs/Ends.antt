@@ -14,32 +14,32 @@ use lib.Seq.{drop-cons}
 use lib.Signed.{le_z}
 use Rattle.base_notation.specs.Choice.{if◌then◌else◌}
 use Rattle.calendar_gregorian.specs.Gregorian.{sum}
-use Rattle.calendar_gregorian.specs.Civil.{lengthsIn, endedBefore, monthOfDay}
+use Rattle.calendar_gregorian.specs.Civil.{lengths_in, ended_before, month_of_day}
 use Rattle.calendar_gregorian.proofs.Lengths.{sum-suc}
 
 -- i months passed, and those after them that end before the day n
 unfoldable pub ended : Bool → ℕ → ℤ → ℕ
-ended inLeap i n = i + endedBefore (sum (take i (lengthsIn inLeap))) (drop i (lengthsIn inLeap)) n
+ended in_leap i n = i + ended_before (sum (take i (lengths_in in_leap))) (drop i (lengths_in in_leap)) n
 
-module _ (inLeap : Bool) (n : ℤ) where
-  pub starts : suc (ended inLeap 0 n) ≡ monthOfDay inLeap n
-  unfolding ended monthOfDay
+module _ (in_leap : Bool) (n : ℤ) where
+  pub starts : suc (ended in_leap 0 n) ≡ month_of_day in_leap n
+  unfolding ended month_of_day
   starts = ap suc (zero-add _)
 
-  pub ends : ended inLeap 12 n ≡ 12
-  unfolding ended endedBefore
+  pub ends : ended in_leap 12 n ≡ 12
+  unfolding ended ended_before
   ends = refl
 
   -- the search at a month that ends after y days
-  module _ (i : ℕ) (h : i < 12) {y : ℤ} (p : y ≡ pos (sum (take (i + 1) (lengthsIn inLeap)))) where
-    at : ended inLeap i n
-        ≡ i + (if le_z n y then 0 else suc (endedBefore (sum (take (i + 1) (lengthsIn inLeap))) (drop (i + 1) (lengthsIn inLeap)) n))
-    unfolding ended endedBefore
-    at = rw (p, drop-cons (lengthsIn inLeap) i 0 h, ← sum-suc (lengthsIn inLeap) i h, add-one)
+  module _ (i : ℕ) (h : i < 12) {y : ℤ} (p : y ≡ pos (sum (take (i + 1) (lengths_in in_leap)))) where
+    at : ended in_leap i n
+        ≡ i + (if le_z n y then 0 else suc (ended_before (sum (take (i + 1) (lengths_in in_leap))) (drop (i + 1) (lengths_in in_leap)) n))
+    unfolding ended ended_before
+    at = rw (p, drop-cons (lengths_in in_leap) i 0 h, ← sum-suc (lengths_in in_leap) i h, add-one)
 
-    pub stops : le_z n y ≡ true → ended inLeap i n ≡ i
+    pub stops : le_z n y ≡ true → ended in_leap i n ≡ i
     stops e = at ∙ rw (e, add-zero)
 
-    pub goes_on : le_z n y ≡ false → ended inLeap (i + 1) n ≡ ended inLeap i n
+    pub goes_on : le_z n y ≡ false → ended in_leap (i + 1) n ≡ ended in_leap i n
     unfolding ended
     goes_on e = sym (at ∙ rw e (omega arith))

@@ -17,20 +17,20 @@ use lib.Signed.{lt_z, non_neg}
 use mir.Facts.{to_z-of_z, Fits-nat_abs}
 use mir.Syntax.{w32, w64}
 use mir.Val.{Fits, SFits, to_z, of_z}
-use Rattle.calendar_gregorian.specs.Gregorian.{isLeap, leap, monthLength, Valid}
-use Rattle.calendar_gregorian.specs.Civil.{lengthsIn, length_of, monthOf}
+use Rattle.calendar_gregorian.specs.Gregorian.{is_leap, leap, month_length, Valid}
+use Rattle.calendar_gregorian.specs.Civil.{lengths_in, length_of, month_of}
 
 -- a month that is not below 1
 pub record From (z : ℤ) (n : ℕ) : Type 0 where
   pub from : 1 ≤ n
-  pub is : monthOf z ≡ n
+  pub is : month_of z ≡ n
 
 -- a month below 1, above 12, or neither
-low : (z : ℤ) → lt_z z (pos 1) ≡ true → monthOf z - 1 ≡ 0
+low : (z : ℤ) → lt_z z (pos 1) ≡ true → month_of z - 1 ≡ 0
 low (pos n) e = omega (arith, ltb-true n 1 e)
 low (negsuc n) e = omega arith
 
-high : (z : ℤ) → lt_z (pos 12) z ≡ true → 12 < monthOf z
+high : (z : ℤ) → lt_z (pos 12) z ≡ true → 12 < month_of z
 high (pos n) e = ltb-true 12 n e
 high (negsuc n) e = absurd (false≢true e)
 
@@ -38,36 +38,36 @@ not_low : (z : ℤ) → lt_z z (pos 1) ≡ false → T (non_neg z) × From z (na
 not_low (pos n) e = (tt, record { from = ltb-false n 1 e; is = refl })
 not_low (negsuc n) e = absurd (false≢true (sym e))
 
-not-high : (z : ℤ) → lt_z (pos 12) z ≡ false → monthOf z ≤ 12
+not-high : (z : ℤ) → lt_z (pos 12) z ≡ false → month_of z ≤ 12
 not-high (pos n) e = ltb-false 12 n e
 not-high (negsuc n) e = omega arith
 
 -- outside 1 to 12 there is no length
-none-low : (inLeap : Bool) (z : ℤ) → lt_z z (pos 1) ≡ true → 0 ≡ length_of inLeap z
-none-low inLeap (pos zero) e = refl
-none-low inLeap (pos (suc n)) e = absurd (let below_one : suc n < 1 = ltb-true (suc n) 1 e in omega arith)
-none-low inLeap (negsuc n) e = refl
+none-low : (in_leap : Bool) (z : ℤ) → lt_z z (pos 1) ≡ true → 0 ≡ length_of in_leap z
+none-low in_leap (pos zero) e = refl
+none-low in_leap (pos (suc n)) e = absurd (let below_one : suc n < 1 = ltb-true (suc n) 1 e in omega arith)
+none-low in_leap (negsuc n) e = refl
 
-none-high : (inLeap : Bool) (z : ℤ) → 12 < monthOf z → 0 ≡ length_of inLeap z
-none-high inLeap (pos zero) h = refl
-none-high inLeap (pos (suc i)) h = sym (get_or-eq_default (lengthsIn inLeap) 0 {n = i} (omega arith))
-none-high inLeap (negsuc i) h = refl
+none-high : (in_leap : Bool) (z : ℤ) → 12 < month_of z → 0 ≡ length_of in_leap z
+none-high in_leap (pos zero) h = refl
+none-high in_leap (pos (suc i)) h = sym (get_or-eq_default (lengths_in in_leap) 0 {n = i} (omega arith))
+none-high in_leap (negsuc i) h = refl
 
 -- from 1 on the length is the row's entry
-row_at : (inLeap : Bool) (z : ℤ) {n : ℕ} → From z n → get_or (lengthsIn inLeap) (n - 1) 0 ≡ length_of inLeap z
-row_at inLeap (pos zero) r = absurd (omega arith)
-row_at inLeap (pos (suc i)) {n} r = let same : n - 1 ≡ i = omega arith in rw same
-row_at inLeap (negsuc i) r = absurd (omega arith)
+row_at : (in_leap : Bool) (z : ℤ) {n : ℕ} → From z n → get_or (lengths_in in_leap) (n - 1) 0 ≡ length_of in_leap z
+row_at in_leap (pos zero) r = absurd (omega arith)
+row_at in_leap (pos (suc i)) {n} r = let same : n - 1 ≡ i = omega arith in rw same
+row_at in_leap (negsuc i) r = absurd (omega arith)
 
 -- the tests on a month, and the month as an unsigned number
 module _ {z : ℤ} (f : SFits w32 z) where
-  pub below : lt_z (to_z w32 (of_z w32 z)) (pos 1) ≡ true → monthOf z - 1 ≡ 0
+  pub below : lt_z (to_z w32 (of_z w32 z)) (pos 1) ≡ true → month_of z - 1 ≡ 0
   below e = low z (rw (to_z-of_z f) at e)
 
-  pub above : lt_z (pos 12) (to_z w32 (of_z w32 z)) ≡ true → 12 < monthOf z
+  pub above : lt_z (pos 12) (to_z w32 (of_z w32 z)) ≡ true → 12 < month_of z
   above e = high z (rw (to_z-of_z f) at e)
 
-  pub not-above : lt_z (pos 12) (to_z w32 (of_z w32 z)) ≡ false → monthOf z ≤ 12
+  pub not-above : lt_z (pos 12) (to_z w32 (of_z w32 z)) ≡ false → month_of z ≤ 12
   not-above e = not-high z (rw (to_z-of_z f) at e)
 
   module _ (e : lt_z (to_z w32 (of_z w32 z)) (pos 1) ≡ false) where
@@ -78,28 +78,28 @@ module _ {z : ℤ} (f : SFits w32 z) where
     unsigned = rw (to_z-of_z f) ((not_low z (rw (to_z-of_z f) at e)).0, Fits-nat_abs tt f)
 
   -- no length outside 1 to 12
-  pub no_length : (inLeap : Bool) → lt_z (to_z w32 (of_z w32 z)) (pos 1) ≡ true → 0 ≡ length_of inLeap z
-  no_length inLeap e = none-low inLeap z (rw (to_z-of_z f) at e)
+  pub no_length : (in_leap : Bool) → lt_z (to_z w32 (of_z w32 z)) (pos 1) ≡ true → 0 ≡ length_of in_leap z
+  no_length in_leap e = none-low in_leap z (rw (to_z-of_z f) at e)
 
-  pub past-length : (inLeap : Bool) → lt_z (pos 12) (to_z w32 (of_z w32 z)) ≡ true → 0 ≡ length_of inLeap z
-  past-length inLeap e = none-high inLeap z (above e)
+  pub past-length : (in_leap : Bool) → lt_z (pos 12) (to_z w32 (of_z w32 z)) ≡ true → 0 ≡ length_of in_leap z
+  past-length in_leap e = none-high in_leap z (above e)
 
 -- a month that has a length is one of the twelve
-pub of-twelve : (inLeap : Bool) (z : ℤ) → 1 ≤ length_of inLeap z → (1 ≤ monthOf z) × (monthOf z ≤ 12)
-of-twelve inLeap (pos zero) h = absurd (omega arith)
-of-twelve inLeap (pos (suc i)) h =
-    (omega arith, lt_of_not-le (λ l. omega (arith, get_or-eq_default (lengthsIn inLeap) 0 {n = i} l)))
-of-twelve inLeap (negsuc n) h = absurd (omega arith)
+pub of-twelve : (in_leap : Bool) (z : ℤ) → 1 ≤ length_of in_leap z → (1 ≤ month_of z) × (month_of z ≤ 12)
+of-twelve in_leap (pos zero) h = absurd (omega arith)
+of-twelve in_leap (pos (suc i)) h =
+    (omega arith, lt_of_not-le (λ l. omega (arith, get_or-eq_default (lengths_in in_leap) 0 {n = i} l)))
+of-twelve in_leap (negsuc n) h = absurd (omega arith)
 
 -- the length that the code reads is the calendar's
-pub month-length : (y m : ℕ) → 1 ≤ m → length_of (isLeap y) (pos m) ≡ monthLength y m
+pub month-length : (y m : ℕ) → 1 ≤ m → length_of (is_leap y) (pos m) ≡ month_length y m
 unfolding leap
-month-length y m h = sym (row_at (isLeap y) (pos m) {n = m} (record { from = h; is = refl }))
+month-length y m h = sym (row_at (is_leap y) (pos m) {n = m} (record { from = h; is = refl }))
 
 -- a date whose day its month has
-pub valid : (y m d : ℕ) → 1 ≤ y → y ≤ 9999 → 1 ≤ d → d ≤ length_of (isLeap y) (pos m) → Valid y m d
+pub valid : (y m d : ℕ) → 1 ≤ y → y ≤ 9999 → 1 ≤ d → d ≤ length_of (is_leap y) (pos m) → Valid y m d
 valid y m d year-from year-to day-from h =
-    let twelve = of-twelve (isLeap y) (pos m) (omega arith) in
+    let twelve = of-twelve (is_leap y) (pos m) (omega arith) in
     record {
       year-from = year-from;
       year-to = year-to;

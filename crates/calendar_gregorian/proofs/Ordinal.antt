@@ -11,54 +11,54 @@ use native.Mathlib.Omega.{arith}
 use borrow.Author.Tests.{le-leb, lt-leb}
 use lib.IntN.{pos, ◌-ℤ◌}
 use lib.ListN.{get_or, length, take, get_or-eq_default}
-use Rattle.calendar_gregorian.specs.Gregorian.{isLeap, leap, sum, beforeMonth, dayNumber, dayOfYear, Valid}
-use Rattle.calendar_gregorian.specs.Civil.{lengthsIn, daysBefore, dayOfYearℤ, endedBefore, monthOfDay}
+use Rattle.calendar_gregorian.specs.Gregorian.{is_leap, leap, sum, before_month, day_number, day_of_year, Valid}
+use Rattle.calendar_gregorian.specs.Civil.{lengths_in, days_before, day_of_year_ℤ, ended_before, month_of_day}
 use Rattle.calendar_gregorian.proofs.Closed.{leap-le}
 use Rattle.calendar_gregorian.proofs.Lengths.{sum-suc, sum-take-le}
 use Rattle.calendar_gregorian.proofs.Signed.{sub_same}
 
 -- where the first month begins after e days, i months end before the day d of the next
-found : (xs : List ℕ) (i e d n : ℕ) → i < length xs → 1 ≤ d → d ≤ get_or xs i 0 → n ≡ e + sum (take i xs) + d → endedBefore e xs (pos n) ≡ i
-unfolding endedBefore
+found : (xs : List ℕ) (i e d n : ℕ) → i < length xs → 1 ≤ d → d ≤ get_or xs i 0 → n ≡ e + sum (take i xs) + d → ended_before e xs (pos n) ≡ i
+unfolding ended_before
 found [] i e d n h from to is = absurd (omega arith)
 found (x ∷ xs) zero e d n h from to is = rw (le-leb n (e + x) (omega arith))
 found (x ∷ xs) (suc i) e d n h from to is =
     rw (lt-leb n (e + x) (omega arith)) (ap suc (found xs i (e + x) d n (omega arith) from to (omega arith)))
 
-module _ (inLeap : Bool) (m d : ℕ) (month-from : 1 ≤ m) (from : 1 ≤ d) (to : d ≤ get_or (lengthsIn inLeap) (m - 1) 0) where
+module _ (in_leap : Bool) (m d : ℕ) (month-from : 1 ≤ m) (from : 1 ≤ d) (to : d ≤ get_or (lengths_in in_leap) (m - 1) 0) where
   month-to : m - 1 < 12
-  month-to = lt_of_not-le (λ h. omega (arith, get_or-eq_default (lengthsIn inLeap) 0 {n = m - 1} h))
+  month-to = lt_of_not-le (λ h. omega (arith, get_or-eq_default (lengths_in in_leap) 0 {n = m - 1} h))
 
   -- a day of a month is found in it
-  pub found_in : monthOfDay inLeap (pos (daysBefore inLeap (pos m) + d)) ≡ m
-  unfolding monthOfDay daysBefore
-  found_in = ap suc (found (lengthsIn inLeap) (m - 1) 0 d _ month-to from to (omega arith)) ∙ omega arith
+  pub found_in : month_of_day in_leap (pos (days_before in_leap (pos m) + d)) ≡ m
+  unfolding month_of_day days_before
+  found_in = ap suc (found (lengths_in in_leap) (m - 1) 0 d _ month-to from to (omega arith)) ∙ omega arith
 
   -- and is one of the year
-  pub in-year : daysBefore inLeap (pos m) + d ≤ sum (lengthsIn inLeap)
-  unfolding daysBefore
-  in-year = omega (arith, sum-suc (lengthsIn inLeap) (m - 1) month-to, sum-take-le (suc (m - 1)) (lengthsIn inLeap))
+  pub in-year : days_before in_leap (pos m) + d ≤ sum (lengths_in in_leap)
+  unfolding days_before
+  in-year = omega (arith, sum-suc (lengths_in in_leap) (m - 1) month-to, sum-take-le (suc (m - 1)) (lengths_in in_leap))
 
 module _ (y m d : ℕ) where
   -- the code's day of the year at a date
-  pub ordinal : dayOfYearℤ (pos y) (pos m) (pos d) ≡ pos (dayOfYear y m d)
-  unfolding dayOfYearℤ daysBefore leap
+  pub ordinal : day_of_year_ℤ (pos y) (pos m) (pos d) ≡ pos (day_of_year y m d)
+  unfolding day_of_year_ℤ days_before leap
   ordinal = refl
 
   -- it counts from January 1
-  pub from-new-year : dayOfYear y m d ≡ dayNumber y m d + 1 - dayNumber y 1 1
+  pub from-new-year : day_of_year y m d ≡ day_number y m d + 1 - day_number y 1 1
   from-new-year = omega arith
 
   -- less the days before the month it is the day of the month
-  pub day-of-month : pos (dayOfYear y m d) -ℤ pos (daysBefore (isLeap y) (pos m)) ≡ pos d
-  unfolding daysBefore leap
-  day-of-month = sub_same (dayOfYear y m d) (beforeMonth (leap y) m) d 0 (omega arith) ∙ ap pos (omega arith)
+  pub day-of-month : pos (day_of_year y m d) -ℤ pos (days_before (is_leap y) (pos m)) ≡ pos d
+  unfolding days_before leap
+  day-of-month = sub_same (day_of_year y m d) (before_month (leap y) m) d 0 (omega arith) ∙ ap pos (omega arith)
 
 module _ {y m d : ℕ} (v : Valid y m d) where
-  pub ordinal-range : (1 ≤ dayOfYear y m d) × (dayOfYear y m d ≤ 366)
-  unfolding leap daysBefore
-  ordinal-range = omega (arith, leap-le y, in-year (isLeap y) m d v.month-from v.day-from v.day-to)
+  pub ordinal-range : (1 ≤ day_of_year y m d) × (day_of_year y m d ≤ 366)
+  unfolding leap days_before
+  ordinal-range = omega (arith, leap-le y, in-year (is_leap y) m d v.month-from v.day-from v.day-to)
 
-  pub ordinal-month : monthOfDay (isLeap y) (pos (dayOfYear y m d)) ≡ m
-  unfolding leap daysBefore
-  ordinal-month = found_in (isLeap y) m d v.month-from v.day-from v.day-to
+  pub ordinal-month : month_of_day (is_leap y) (pos (day_of_year y m d)) ≡ m
+  unfolding leap days_before
+  ordinal-month = found_in (is_leap y) m d v.month-from v.day-from v.day-to

@@ -8,47 +8,47 @@ abbrev pub multiple : ℕ → ℕ → Bool
 multiple k y = eqb (y % k) 0
 
 -- a leap year: each fourth year, but of the centuries only each fourth
-abbrev pub isLeap : ℕ → Bool
-isLeap y = multiple 4 y && (not (multiple 100 y) || multiple 400 y)
+abbrev pub is_leap : ℕ → Bool
+is_leap y = multiple 4 y && (not (multiple 100 y) || multiple 400 y)
 
 -- the leap days of a year: 1 in a leap year, else 0
 unfoldable pub leap : ℕ → ℕ
-leap y = if isLeap y then 1 else 0
+leap y = if is_leap y then 1 else 0
 
 -- the lengths of the months of a year with l leap days
 abbrev pub lengths : ℕ → List ℕ
 lengths l = 31 ∷ (28 + l) ∷ 31 ∷ 30 ∷ 31 ∷ 30 ∷ 31 ∷ 31 ∷ 30 ∷ 31 ∷ 30 ∷ 31 ∷ []
 
 -- the length of a month of 1 to 12
-abbrev pub monthLength : ℕ → ℕ → ℕ
-monthLength y m = get_or (lengths (leap y)) (m - 1) 0
+abbrev pub month_length : ℕ → ℕ → ℕ
+month_length y m = get_or (lengths (leap y)) (m - 1) 0
 
 abbrev pub sum : List ℕ → ℕ
 sum [] = 0
 sum (x ∷ xs) = x + sum xs
 
 -- the days of a year with l leap days before its month m
-abbrev pub beforeMonth : ℕ → ℕ → ℕ
-beforeMonth l m = sum (take (m - 1) (lengths l))
+abbrev pub before_month : ℕ → ℕ → ℕ
+before_month l m = sum (take (m - 1) (lengths l))
 
 -- the days of the years 0 to y - 1
-unfoldable pub beforeYear : ℕ → ℕ
-beforeYear zero = 0
-beforeYear (suc y) = beforeYear y + (365 + leap y)
+unfoldable pub before_year : ℕ → ℕ
+before_year zero = 0
+before_year (suc y) = before_year y + (365 + leap y)
 
 -- the Julian day number of a date: January 1 of year 0 has 1721060. A day past its month's end runs on.
-abbrev pub dayNumber : ℕ → ℕ → ℕ → ℕ
-dayNumber y m d = 1721059 + beforeYear y + beforeMonth (leap y) m + d
+abbrev pub day_number : ℕ → ℕ → ℕ → ℕ
+day_number y m d = 1721059 + before_year y + before_month (leap y) m + d
 
 -- the days of the years -1 to -(n + 1)
-unfoldable pub backTo : ℕ → ℕ
-backTo zero = 365 + leap 1
-backTo (suc n) = backTo n + (365 + leap (suc (suc n)))
+unfoldable pub back_to : ℕ → ℕ
+back_to zero = 365 + leap 1
+back_to (suc n) = back_to n + (365 + leap (suc (suc n)))
 
 -- the Julian day number for any year: one before year 0 is counted backwards
-unfoldable pub dayNumberℤ : ℤ → ℕ → ℕ → ℤ
-dayNumberℤ (pos y) m d = pos (dayNumber y m d)
-dayNumberℤ (negsuc n) m d = pos (1721059 + beforeMonth (leap (suc n)) m + d) -ℤ pos (backTo n)
+unfoldable pub day_number_ℤ : ℤ → ℕ → ℕ → ℤ
+day_number_ℤ (pos y) m d = pos (day_number y m d)
+day_number_ℤ (negsuc n) m d = pos (1721059 + before_month (leap (suc n)) m + d) -ℤ pos (back_to n)
 
 -- a date of the years 1 to 9999
 pub record Valid (y m d : ℕ) : Type 0 where
@@ -57,27 +57,27 @@ pub record Valid (y m d : ℕ) : Type 0 where
   pub month-from : 1 ≤ m
   pub month-to : m ≤ 12
   pub day-from : 1 ≤ d
-  pub day-to : d ≤ monthLength y m
+  pub day-to : d ≤ month_length y m
 
 -- the day of the year, from 1
-abbrev pub dayOfYear : ℕ → ℕ → ℕ → ℕ
-dayOfYear y m d = beforeMonth (leap y) m + d
+abbrev pub day_of_year : ℕ → ℕ → ℕ → ℕ
+day_of_year y m d = before_month (leap y) m + d
 
 -- 1900 is a common year, 2000 and 2024 are leap years
-pub centuries : (isLeap 1900 ≡ false) × (isLeap 2000 ≡ true) × (isLeap 2024 ≡ true)
+pub centuries : (is_leap 1900 ≡ false) × (is_leap 2000 ≡ true) × (is_leap 2024 ≡ true)
 centuries = (refl, refl, refl)
 
 -- December 31 is day 366 of a leap year
-pub last-day : dayOfYear 2024 12 31 ≡ 366
+pub last-day : day_of_year 2024 12 31 ≡ 366
 unfolding leap
 last-day = refl
 
 -- the Julian day number of January 1 of year 1
-pub first-day : dayNumber 1 1 1 ≡ 1721426
-unfolding beforeYear leap
+pub first-day : day_number 1 1 1 ≡ 1721426
+unfolding before_year leap
 first-day = refl
 
 -- Julian days are counted from November 24 of year -4713
-pub day-zero : dayNumberℤ (negsuc 4712) 11 24 ≡ pos 0
-unfolding dayNumberℤ backTo beforeYear leap
+pub day-zero : day_number_ℤ (negsuc 4712) 11 24 ≡ pos 0
+unfolding day_number_ℤ back_to before_year leap
 day-zero = refl

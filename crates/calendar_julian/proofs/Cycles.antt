@@ -4,9 +4,9 @@
 -- `Found` says what is found: the year, and the day from March 1, plus 123.
 use Rattle.std.proofs.Common.{◌≡◌, ℕ, zero, suc, ◌+◌, ◌-◌, ◌*◌, ◌/◌, ◌%◌, ◌<◌, ◌≤◌, pos, sym, refl, ap, ◌∙◌, subst₂, mod-eq_of_lt, arith, eq-eqb, ne_eqb}
 use Rattle.calendar_gregorian.proofs.Dates.{each}
-use Rattle.calendar_julian.specs.ToDate.{shifted, withSkipped, dayOfFour, yearOfFour, dayFromMarch}
+use Rattle.calendar_julian.specs.ToDate.{shifted, with_skipped, day_of_four, year_of_four, day_from_march}
 use Rattle.calendar_julian.proofs.DayNumber.{base}
-use Rattle.calendar_julian.proofs.Fields.{yearOf}
+use Rattle.calendar_julian.proofs.Fields.{year_of}
 
 -- which 400 years a day is in, and which century of them
 cycles : (q x : ℕ) → x < 146097 → (146097 * q + x) / 146097 ≡ q
@@ -17,36 +17,36 @@ centuries e w h k = omega arith
 
 -- the day w of the century e of the q-th 400 years, with the leap days that centuries skip added
 skipped : (q e w : ℕ) → q ≤ 60 → e ≤ 3 → w ≤ 36523 + e / 3
-    → withSkipped (146097 * q + (36524 * e + w)) ≡ 146100 * q + 36525 * e + w + 60
-unfolding withSkipped
+    → with_skipped (146097 * q + (36524 * e + w)) ≡ 146100 * q + 36525 * e + w + 60
+unfolding with_skipped
 skipped q e w l h k =
     let rest : 146097 * q + (36524 * e + w) - q * 146097 ≡ 36524 * e + w = omega arith in
     rw (cycles q (36524 * e + w) (omega arith), rest, centuries e w h k) (omega arith)
 
 -- the days are in the year y, and t is their day from March 1, plus 123
 pub record Found (days y t : ℕ) : Type 0 where
-  pub year : yearOf days ≡ y
-  pub day : dayFromMarch (dayOfFour days) ≡ t
+  pub year : year_of days ≡ y
+  pub day : day_from_march (day_of_four days) ≡ t
 
 -- the same, said of equal numbers
 recast : {days days' y y' t : ℕ} → days ≡ days' → y ≡ y' → Found days y t → Found days' y' t
 recast {t} e f r = subst₂ (λ (n y : ℕ). Found n y t) e f r
 
 -- the day v of the g-th four years
-in_four : (g v k t : ℕ) → v < 1461 → yearOfFour v ≡ k → dayFromMarch v ≡ t → Found (1461 * g + v) (k + g * 4) t
+in_four : (g v k t : ℕ) → v < 1461 → year_of_four v ≡ k → day_from_march v ≡ t → Found (1461 * g + v) (k + g * 4) t
 in_four g v k t h e f =
     let which-four : (1461 * g + v) / 1461 ≡ g = omega arith in
     let day-of-four : 1461 * g + v - g * 1461 ≡ v = omega arith in
     record { year = rw (which-four, day-of-four, e); day = rw (which-four, day-of-four, f) }
 
 -- the day from March 1 in the first of four years, and in the others
-leap-year : (v : ℕ) → yearOfFour v ≡ 0 → dayFromMarch v ≡ (v + 306) % 366 + 123
-unfolding dayFromMarch
-leap-year v e = rw (eq-eqb (yearOfFour v) 0 e)
+leap-year : (v : ℕ) → year_of_four v ≡ 0 → day_from_march v ≡ (v + 306) % 366 + 123
+unfolding day_from_march
+leap-year v e = rw (eq-eqb (year_of_four v) 0 e)
 
-common-year : (v k : ℕ) → yearOfFour v ≡ suc k → dayFromMarch v ≡ (v + 305) % 365 + 123
-unfolding dayFromMarch
-common-year v k e = rw (ne_eqb (yearOfFour v) 0 (λ z. omega arith))
+common-year : (v k : ℕ) → year_of_four v ≡ suc k → day_from_march v ≡ (v + 305) % 365 + 123
+unfolding day_from_march
+common-year v k e = rw (ne_eqb (year_of_four v) 0 (λ z. omega arith))
 
 common-day : (k u : ℕ) → u < 365 → (365 * k + u + 60 + 305) % 365 ≡ u
 common-day k u h = let quotient : (365 * k + u + 60 + 305) / 365 ≡ k + 1 = omega arith in omega arith
@@ -58,7 +58,7 @@ march g k u h l = in_four g (365 * k + u + 60) k (u + 123) (omega arith) (year k
     year : (k : ℕ) → k ≤ 3 → (365 * k + u + 60) * 4 / 1461 ≡ k
     year k h = omega arith
 
-    day : (k : ℕ) → k ≤ 3 → dayFromMarch (365 * k + u + 60) ≡ u + 123
+    day : (k : ℕ) → k ≤ 3 → day_from_march (365 * k + u + 60) ≡ u + 123
     day zero h = leap-year (365 * 0 + u + 60) (year 0 (omega arith)) ∙ omega arith
     day (suc k) h = common-year (365 * suc k + u + 60) k (year (suc k) h) ∙ ap (λ (n : ℕ). n + 123) (common-day (suc k) u (omega arith))
 
@@ -87,11 +87,11 @@ january g k u h l =
         (in_four (g + 1) (u - 306) 0 (u + 123) (omega arith) first-year (leap-year (u - 306) first-year ∙ ap (λ (n : ℕ). n + 123) same-day))
 
 -- the year f of the century e of the q-th 400 years, and its day u
-abbrev yearAt : ℕ → ℕ → ℕ → ℕ
-yearAt q e f = 400 * q + 100 * e + f
+abbrev year_at : ℕ → ℕ → ℕ → ℕ
+year_at q e f = 400 * q + 100 * e + f
 
-abbrev dayAt : ℕ → ℕ → ℕ → ℕ → ℕ
-dayAt q e f u = 146097 * q + (36524 * e + (365 * f + f / 4 + u))
+abbrev day_at : ℕ → ℕ → ℕ → ℕ → ℕ
+day_at q e f u = 146097 * q + (36524 * e + (365 * f + f / 4 + u))
 
 module _ (q e f u : ℕ) (hq : q ≤ 60) (he : e ≤ 3) (hf : f ≤ 99) where
   -- the days, by fours of years
@@ -99,26 +99,26 @@ module _ (q e f u : ℕ) (hq : q ≤ 60) (he : e ≤ 3) (hf : f ≤ 99) where
   in-fours = omega arith
 
   -- from March to December
-  late-at : u ≤ 305 → Found (withSkipped (dayAt q e f u)) (yearAt q e f) (u + 123)
+  late-at : u ≤ 305 → Found (with_skipped (day_at q e f u)) (year_at q e f) (u + 123)
   late-at h =
       recast (sym (skipped q e (365 * f + f / 4 + u) hq he (omega arith) ∙ in-fours)) (omega arith)
       (march (100 * q + 25 * e + f / 4) (f % 4) u (omega arith) h)
 
   -- in January and February
-  early-at : 306 ≤ u → u ≤ 364 + f % 4 / 3 → 365 * f + f / 4 + u ≤ 36523 + e / 3 → Found (withSkipped (dayAt q e f u)) (yearAt q e f + 1) (u + 123)
+  early-at : 306 ≤ u → u ≤ 364 + f % 4 / 3 → 365 * f + f / 4 + u ≤ 36523 + e / 3 → Found (with_skipped (day_at q e f u)) (year_at q e f + 1) (u + 123)
   early-at h k l =
       recast (sym (skipped q e (365 * f + f / 4 + u) hq he l ∙ in-fours)) (omega arith)
       (january (100 * q + 25 * e + f / 4) (f % 4) u (omega arith) h k)
 
   -- the day number, from March 1 of year -4800
-  base-at : 4799 ≤ yearAt q e f → base (yearAt q e f) + (u + 123) + 32044 ≡ dayAt q e f u
+  base-at : 4799 ≤ year_at q e f → base (year_at q e f) + (u + 123) + 32044 ≡ day_at q e f u
   unfolding base
   base-at h = rw (over4, over100, over400) (omega arith)
     where
-      over4 : yearAt q e f / 4 ≡ 100 * q + 25 * e + f / 4
+      over4 : year_at q e f / 4 ≡ 100 * q + 25 * e + f / 4
       over4 = omega arith
 
-      over100 : yearAt q e f / 100 ≡ 4 * q + e
+      over100 : year_at q e f / 100 ≡ 4 * q + e
       over100 = omega arith
 
       over400 : (4 * q + e) / 4 ≡ q
@@ -126,7 +126,7 @@ module _ (q e f u : ℕ) (hq : q ≤ 60) (he : e ≤ 3) (hf : f ≤ 99) where
 
 -- a year by its 400 years, century and year of the century
 module _ (y t : ℕ) (from : 4799 ≤ y) (to : y ≤ 20000) (first : 123 ≤ t) (last : t ≤ 488) where
-  split : yearAt (y / 100 / 4) (y / 100 % 4) (y % 100) ≡ y
+  split : year_at (y / 100 / 4) (y / 100 % 4) (y % 100) ≡ y
   split = omega arith
 
   cycle : y / 100 / 4 ≤ 60
@@ -149,17 +149,17 @@ module _ (y t : ℕ) (from : 4799 ≤ y) (to : y ≤ 20000) (first : 123 ≤ t) 
   unfolding shifted
   shift = omega (arith, small)
 
-  to-day : shifted (pos (base y + t)) ≡ dayAt (y / 100 / 4) (y / 100 % 4) (y % 100) (t - 123)
+  to-day : shifted (pos (base y + t)) ≡ day_at (y / 100 / 4) (y / 100 % 4) (y % 100) (t - 123)
   to-day =
-      let from-4799 : 4799 ≤ yearAt (y / 100 / 4) (y / 100 % 4) (y % 100) = rw split from in
+      let from-4799 : 4799 ≤ year_at (y / 100 / 4) (y / 100 % 4) (y % 100) = rw split from in
       shift ∙ rw (split, back) at (base-at (y / 100 / 4) (y / 100 % 4) (y % 100) (t - 123) cycle century rest from-4799)
 
-  pub found-late : t ≤ 428 → Found (withSkipped (shifted (pos (base y + t)))) y t
+  pub found-late : t ≤ 428 → Found (with_skipped (shifted (pos (base y + t)))) y t
   found-late h =
       rw to-day (rw (split, back) at (late-at (y / 100 / 4) (y / 100 % 4) (y % 100) (t - 123) cycle century rest (omega arith)))
 
   pub found_early : 429 ≤ t → t ≤ 487 + y % 100 % 4 / 3 → 365 * (y % 100) + y % 100 / 4 + t ≤ 36646 + y / 100 % 4 / 3
-      → Found (withSkipped (shifted (pos (base y + t)))) (y + 1) t
+      → Found (with_skipped (shifted (pos (base y + t)))) (y + 1) t
   found_early h k l =
       rw to-day
       (rw (split, back) at (early-at (y / 100 / 4) (y / 100 % 4) (y % 100) (t - 123) cycle century rest (omega arith) (omega arith) (omega arith)))

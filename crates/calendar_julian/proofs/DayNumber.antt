@@ -7,10 +7,10 @@ use Rattle.std.proofs.Common.{◌≡◌, ℕ, zero, suc, ◌+◌, ◌-◌, ◌*�
 use Rattle.base_notation.specs.Choice.{if◌then◌else◌}
 use Rattle.base_wrapping.specs.Wrap.{◌⊕◌}
 use Rattle.base_wrapping.proofs.Small.{wrap-pos, sub-pos}
-use Rattle.calendar_gregorian.specs.Gregorian.{leap, beforeYear, dayNumber, Valid}
+use Rattle.calendar_gregorian.specs.Gregorian.{leap, before_year, day_number, Valid}
 use Rattle.calendar_gregorian.proofs.Closed.{centuries-le, closed, next-year}
 use Rattle.calendar_gregorian.proofs.Dates.{each, length-range}
-use Rattle.calendar_julian.specs.ToDay.{fromMarch, date2j}
+use Rattle.calendar_julian.specs.ToDay.{from_march, date2j}
 
 -- the days of the years from March, where nothing wraps
 unfoldable pub base : ℕ → ℕ
@@ -18,8 +18,8 @@ base y = y * 365 - 32167 + y / 4 - y / 100 + y / 100 / 4
 
 -- nothing wraps up to the year 1000000
 module _ (y m d : ℕ) (from : 4799 ≤ y) (to : y ≤ 1004800) (month : m ≤ 15) (day : d ≤ 1000000) where
-  days-is : fromMarch (pos y) (pos m) (pos d) ≡ pos (base y + 7834 * m / 256 + d)
-  unfolding fromMarch base
+  days-is : from_march (pos y) (pos m) (pos d) ≡ pos (base y + 7834 * m / 256 + d)
+  unfolding from_march base
   days-is =
       let centuries = centuries-le y in
       let fourths : y / 4 ≤ 251200 = omega arith in
@@ -53,34 +53,34 @@ module _ (z : ℕ) where
 sum : (z n a b c : ℕ) → b ≤ a → n ≡ 366 + 365 * z + a - b + c → (z + 4800) * 365 - 32167 + (a + 1200) - (b + 48) + (c + 12) ≡ 1720631 + n
 sum z n a b c h e = omega arith
 
-base-next : (z : ℕ) → base (z + 4800) ≡ 1720631 + beforeYear (suc z)
+base-next : (z : ℕ) → base (z + 4800) ≡ 1720631 + before_year (suc z)
 unfolding base
-base-next z = rw (quarter z, hundredth z, fourth z) (sum z (beforeYear (suc z)) (z / 4) (z / 100) (z / 400) (centuries-le z) (closed z))
+base-next z = rw (quarter z, hundredth z, fourth z) (sum z (before_year (suc z)) (z / 4) (z / 100) (z / 400) (centuries-le z) (closed z))
 
 -- the year from March that January and February belong to
-pub base-early : (y : ℕ) → base (y + 4799) ≡ 1720631 + beforeYear y
-base-early zero = unfold base beforeYear in refl
+pub base-early : (y : ℕ) → base (y + 4799) ≡ 1720631 + before_year y
+base-early zero = unfold base before_year in refl
 base-early (suc z) = ap base (omega arith) ∙ base-next z
 
 -- and that of the other months
-pub base-late : (y : ℕ) → base (y + 4800) ≡ 1720996 + beforeYear y + leap y
-base-late y = base-next y ∙ ap (λ (n : ℕ). 1720631 + beforeYear n) (sym (add-one y)) ∙ omega (arith, next-year y)
+pub base-late : (y : ℕ) → base (y + 4800) ≡ 1720996 + before_year y + leap y
+base-late y = base-next y ∙ ap (λ (n : ℕ). 1720631 + before_year n) (sym (add-one y)) ∙ omega (arith, next-year y)
 
 module _ (y d : ℕ) where
-  pub early-days : (m : ℕ) → 1 ≤ m → m ≤ 2 → base (y + 4799) + 7834 * (m + 13) / 256 + d ≡ dayNumber y m d
-  early-days = each (λ m. base (y + 4799) + 7834 * (m + 13) / 256 + d ≡ dayNumber y m d) 1 1 (omega (arith, base-early y))
+  pub early-days : (m : ℕ) → 1 ≤ m → m ≤ 2 → base (y + 4799) + 7834 * (m + 13) / 256 + d ≡ day_number y m d
+  early-days = each (λ m. base (y + 4799) + 7834 * (m + 13) / 256 + d ≡ day_number y m d) 1 1 (omega (arith, base-early y))
 
-  pub late-days : (m : ℕ) → 3 ≤ m → m ≤ 12 → base (y + 4800) + 7834 * (m + 1) / 256 + d ≡ dayNumber y m d
-  late-days = each (λ m. base (y + 4800) + 7834 * (m + 1) / 256 + d ≡ dayNumber y m d) 3 9 (omega (arith, base-late y))
+  pub late-days : (m : ℕ) → 3 ≤ m → m ≤ 12 → base (y + 4800) + 7834 * (m + 1) / 256 + d ≡ day_number y m d
+  late-days = each (λ m. base (y + 4800) + 7834 * (m + 1) / 256 + d ≡ day_number y m d) 3 9 (omega (arith, base-late y))
 
 -- to the year 1000000, and also for a day past its month's end
 module _ (y m d : ℕ) (year : y ≤ 1000000) (from : 1 ≤ m) (to : m ≤ 12) (day : d ≤ 1000000) where
-  pub date2j-is : date2j (pos y) (pos m) (pos d) ≡ pos (dayNumber y m d)
+  pub date2j-is : date2j (pos y) (pos m) (pos d) ≡ pos (day_number y m d)
   unfolding date2j
   date2j-is = by (ltb 2 m) refl
     where
       by : (t : Bool) → ltb 2 m ≡ t
-          → (if t then fromMarch (pos y ⊕ pos 4800) (pos m ⊕ pos 1) (pos d) else fromMarch (pos y ⊕ pos 4799) (pos m ⊕ pos 13) (pos d)) ≡ pos (dayNumber y m d)
+          → (if t then from_march (pos y ⊕ pos 4800) (pos m ⊕ pos 1) (pos d) else from_march (pos y ⊕ pos 4799) (pos m ⊕ pos 13) (pos d)) ≡ pos (day_number y m d)
       by true e =
           rw (wrap-pos (y + 4800) (omega arith), wrap-pos (m + 1) (omega arith))
           (days-is (y + 4800) (m + 1) d (omega arith) (omega arith) (omega arith) day ∙ ap pos (late-days y d m (ltb-true 2 m e) to))
@@ -89,6 +89,6 @@ module _ (y m d : ℕ) (year : y ≤ 1000000) (from : 1 ≤ m) (to : m ≤ 12) (
           rw (wrap-pos (y + 4799) (omega arith), wrap-pos (m + 13) (omega arith))
           (days-is (y + 4799) (m + 13) d (omega arith) (omega arith) (omega arith) day ∙ ap pos (early-days y d m from to-two))
 
-pub date2j-valid : {y m d : ℕ} → Valid y m d → date2j (pos y) (pos m) (pos d) ≡ pos (dayNumber y m d)
+pub date2j-valid : {y m d : ℕ} → Valid y m d → date2j (pos y) (pos m) (pos d) ≡ pos (day_number y m d)
 date2j-valid {y} {m} {d} v =
     date2j-is y m d (omega arith) v.month-from v.month-to (omega (arith, length-range y m v.month-from v.month-to))

@@ -7,30 +7,30 @@ use mir.Facts.{to_z_pos}
 use Rattle.base_notation.proofs.Cases.{by-if}
 use Rattle.base_notation.proofs.Magnitudes.{add-mag}
 use Rattle.base_wrapping.proofs.Fits.{read}
-use Rattle.calendar_julian.specs.ToDate.{dayOfFour, yearOfFour, dayFromMarch, monthOf, dayOf, date}
+use Rattle.calendar_julian.specs.ToDate.{day_of_four, year_of_four, day_from_march, month_of, day_of, date}
 
-pub march-lt : (day : ℕ) → dayFromMarch day < 489
-unfolding dayFromMarch
+pub march-lt : (day : ℕ) → day_from_march day < 489
+unfolding day_from_march
 march-lt day =
-    by-if (λ n. n + 123 < 489) (eqb (yearOfFour day) 0) ((day + 306) % 366) ((day + 305) % 365) (λ e. omega arith) (λ e. omega arith)
+    by-if (λ n. n + 123 < 489) (eqb (year_of_four day) 0) ((day + 306) % 366) ((day + 305) % 365) (λ e. omega arith) (λ e. omega arith)
 
 -- the year, 4800 years on
-abbrev pub yearOf : ℕ → ℕ
-yearOf days = yearOfFour (dayOfFour days) + days / 1461 * 4
+abbrev pub year_of : ℕ → ℕ
+year_of days = year_of_four (day_of_four days) + days / 1461 * 4
 
 module _ (days : ℕ) (h : days < 2 ^ 32) where
-  year-lt : yearOf days < 2 ^ 24
+  year-lt : year_of days < 2 ^ 24
   year-lt = omega arith
 
-  pub year-is : to_z w32 (yearOf days) ≡ pos (yearOf days)
-  year-is = to_z_pos w32 {n = yearOf days} (omega (arith, year-lt))
+  pub year-is : to_z w32 (year_of days) ≡ pos (year_of days)
+  year-is = to_z_pos w32 {n = year_of days} (omega (arith, year-lt))
 
-  pub year-fits : SFits w32 (pos (yearOf days) -ℤ pos 4800)
-  year-fits = omega (arith, year-lt, add-mag (pos (yearOf days)) (neg_ℤ (pos 4800)))
+  pub year-fits : SFits w32 (pos (year_of days) -ℤ pos 4800)
+  year-fits = omega (arith, year-lt, add-mag (pos (year_of days)) (neg_ℤ (pos 4800)))
 
   -- as the code makes them, and as the definition does
   pub fields : (day : ℕ) → day < 489
-      → date (read (to_z w32 (yearOf days) -ℤ pos 4800)) (to_z w32 (monthOf day)) (to_z w32 (dayOf day))
-      ≡ date (pos (yearOf days) -ℤ pos 4800) (pos (monthOf day)) (pos (dayOf day))
+      → date (read (to_z w32 (year_of days) -ℤ pos 4800)) (to_z w32 (month_of day)) (to_z w32 (day_of day))
+      ≡ date (pos (year_of days) -ℤ pos 4800) (pos (month_of day)) (pos (day_of day))
   fields day l =
-      rw (year-is, to_z-of_z year-fits, to_z_pos w32 {n = monthOf day} (omega arith), to_z_pos w32 {n = dayOf day} (omega arith))
+      rw (year-is, to_z-of_z year-fits, to_z_pos w32 {n = month_of day} (omega arith), to_z_pos w32 {n = day_of day} (omega arith))

@@ -6,12 +6,12 @@ use Rattle.std.proofs.Common.{◌≡◌, ℕ, ◌+◌, ◌-◌, ◌*◌, ◌/◌
 use borrow.Author.Tests.{eqb-false}
 use Rattle.base_notation.specs.Choice.{if◌then◌else◌}
 use Rattle.base_wrapping.proofs.Small.{sub-pos}
-use Rattle.calendar_gregorian.specs.Gregorian.{multiple, leap, monthLength, dayNumber, Valid}
+use Rattle.calendar_gregorian.specs.Gregorian.{multiple, leap, month_length, day_number, Valid}
 use Rattle.calendar_gregorian.proofs.Closed.{leap-le}
 use Rattle.calendar_gregorian.proofs.Dates.{Dated, dated, valid as in-range, each}
 use Rattle.calendar_julian.specs.declared.Date.{Date}
 use Rattle.calendar_julian.specs.ToDay.{date2j}
-use Rattle.calendar_julian.specs.ToDate.{shifted, withSkipped, date, j2date}
+use Rattle.calendar_julian.specs.ToDate.{shifted, with_skipped, date, j2date}
 use Rattle.calendar_julian.proofs.DayNumber.{base, early-days, late-days, date2j-valid}
 use Rattle.calendar_julian.proofs.Cycles.{Found, found_early, found-late}
 
@@ -66,19 +66,19 @@ module _ (y : ℕ) where
 
 -- the days of the month m, which is the month n from March: the first is not before it, the last not past it
 abbrev MonthAt : ℕ → ℕ → ℕ → Type 0
-MonthAt y m n = (n * 65536 ≤ (7834 * n / 256 + 1) * 2141) × ((7834 * n / 256 + monthLength y m) * 2141 < (n + 1) * 65536)
+MonthAt y m n = (n * 65536 ≤ (7834 * n / 256 + 1) * 2141) × ((7834 * n / 256 + month_length y m) * 2141 < (n + 1) * 65536)
 
 module _ (y : ℕ) where
   -- January and February, with their days from March
   early-months : (m : ℕ) → 1 ≤ m → m ≤ 2
-      → MonthAt y m (m + 13) × ((428 ≤ 7834 * (m + 13) / 256) × (7834 * (m + 13) / 256 + monthLength y m ≤ 487 + leap y))
+      → MonthAt y m (m + 13) × ((428 ≤ 7834 * (m + 13) / 256) × (7834 * (m + 13) / 256 + month_length y m ≤ 487 + leap y))
   early-months = each _ 1 1 (omega (arith, leap-le y))
 
   -- March to December
   late-months : (m : ℕ) → 3 ≤ m → m ≤ 12 → MonthAt y m (m + 1)
   late-months = each _ 3 9 (omega arith)
 
-  late-range : (m : ℕ) → 3 ≤ m → m ≤ 12 → (122 ≤ 7834 * (m + 1) / 256) × (7834 * (m + 1) / 256 + monthLength y m ≤ 428)
+  late-range : (m : ℕ) → 3 ≤ m → m ≤ 12 → (122 ≤ 7834 * (m + 1) / 256) × (7834 * (m + 1) / 256 + month_length y m ≤ 428)
   late-range = each _ 3 9 (omega arith)
 
 -- a day that is not past the leap day is not past where four years and a century end
@@ -89,8 +89,8 @@ century-fits : (a t l x : ℕ) → t ≤ 487 + l → a + (487 + l) ≤ x → a +
 century-fits a t l x h k = omega arith
 
 -- the date, from the year and the day that are found
-date-is : (j y m n d : ℕ) → 1 ≤ d → d ≤ monthLength y m → MonthAt y m n → (n + 10) % 12 + 1 ≡ m
-    → Found (withSkipped (shifted (pos j))) (y + 4800) (7834 * n / 256 + d) → j2date (pos j) ≡ date (pos y) (pos m) (pos d)
+date-is : (j y m n d : ℕ) → 1 ≤ d → d ≤ month_length y m → MonthAt y m n → (n + 10) % 12 + 1 ≡ m
+    → Found (with_skipped (shifted (pos j))) (y + 4800) (7834 * n / 256 + d) → j2date (pos j) ≡ date (pos y) (pos m) (pos d)
 unfolding j2date
 date-is j y m n d h k i e f =
     let year-back : y + 4800 - 4800 ≡ y = omega arith in
@@ -99,23 +99,23 @@ date-is j y m n d h k i e f =
     rw (f.year, f.day, month-back, e, day-back, sub-pos (y + 4800) 4800 (omega arith), year-back)
 
 module _ {y m d : ℕ} (v : Valid y m d) where
-  pub j2date-is : j2date (pos (dayNumber y m d)) ≡ date (pos y) (pos m) (pos d)
+  pub j2date-is : j2date (pos (day_number y m d)) ≡ date (pos y) (pos m) (pos d)
   j2date-is = by (ltb 2 m) refl
     where
-      by : (b : Bool) → ltb 2 m ≡ b → j2date (pos (dayNumber y m d)) ≡ date (pos y) (pos m) (pos d)
+      by : (b : Bool) → ltb 2 m ≡ b → j2date (pos (day_number y m d)) ≡ date (pos y) (pos m) (pos d)
       by true e =
           let from-march : 3 ≤ m = ltb-true 2 m e in
           let range = late-range y m from-march v.month-to in
-          let number : base (y + 4800) + (7834 * (m + 1) / 256 + d) ≡ dayNumber y m d = omega (arith, late-days y d m from-march v.month-to) in
-          date-is (dayNumber y m d) y m (m + 1) d v.day-from v.day-to (late-months y m from-march v.month-to) (omega arith)
+          let number : base (y + 4800) + (7834 * (m + 1) / 256 + d) ≡ day_number y m d = omega (arith, late-days y d m from-march v.month-to) in
+          date-is (day_number y m d) y m (m + 1) d v.day-from v.day-to (late-months y m from-march v.month-to) (omega arith)
           (rw number at (found-late (y + 4800) (7834 * (m + 1) / 256 + d) (omega arith) (omega arith) (omega arith) (omega arith) (omega arith)))
       by false e =
           let to-february : m ≤ 2 = ltb-false 2 m e in
           let range = early-months y m v.month-from to-february in
-          let number : base (y + 4799) + (7834 * (m + 13) / 256 + d) ≡ dayNumber y m d = omega (arith, early-days y d m v.month-from to-february) in
+          let number : base (y + 4799) + (7834 * (m + 13) / 256 + d) ≡ day_number y m d = omega (arith, early-days y d m v.month-from to-february) in
           let next-year : y + 4799 + 1 ≡ y + 4800 = omega arith in
           let to-leap-day : 7834 * (m + 13) / 256 + d ≤ 487 + leap y = omega arith in
-          date-is (dayNumber y m d) y m (m + 13) d v.day-from v.day-to range.0 (omega arith)
+          date-is (day_number y m d) y m (m + 13) d v.day-from v.day-to range.0 (omega arith)
           (rw (number, next-year) at (found_early (y + 4799) (7834 * (m + 13) / 256 + d) (omega arith) (omega arith) (omega arith) (omega (arith, leap-le y))
           (omega arith) (fourth-fits _ _ _ to-leap-day (leap-at y).fourth) (century-fits _ _ _ _ to-leap-day (leap-at y).century)))
 
@@ -125,7 +125,7 @@ pub record Answered (j : ℕ) : Type 0 where
   pub m : ℕ
   pub d : ℕ
   pub valid : Valid y m d
-  pub number : dayNumber y m d ≡ j
+  pub number : day_number y m d ≡ j
   pub is : j2date (pos j) ≡ date (pos y) (pos m) (pos d)
   pub back : date2j (pos y) (pos m) (pos d) ≡ pos j
 
@@ -144,7 +144,7 @@ answered j h k =
     }
 
 -- two dates with one day number are the same
-pub one-date : {y m d y' m' d' : ℕ} → Valid y m d → Valid y' m' d' → dayNumber y m d ≡ dayNumber y' m' d'
+pub one-date : {y m d y' m' d' : ℕ} → Valid y m d → Valid y' m' d' → day_number y m d ≡ day_number y' m' d'
     → (y ≡ y') × ((m ≡ m') × (d ≡ d'))
 one-date v w e =
     let same = sym (j2date-is v) ∙ ap (λ (j : ℕ). j2date (pos j)) e ∙ j2date-is w in

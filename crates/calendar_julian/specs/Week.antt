@@ -2,8 +2,8 @@
 use Rattle.std.specs.Prelude.{◌≡◌, ℕ, ℤ, pos, ◌+ℤ◌, int_lt, int_rem, refl}
 use Rattle.base_notation.specs.Choice.{if◌then◌else◌}
 use Rattle.base_wrapping.specs.Wrap.{wrap32, ◌⊕◌, ◌⊖◌, ◌⊗◌, ◌÷◌}
-use Rattle.calendar_julian.specs.ToDate.{shifted, withSkipped, dayFromMarch, j2date}
-use Rattle.calendar_julian.specs.ToDay.{fromMarch, date2j}
+use Rattle.calendar_julian.specs.ToDate.{shifted, with_skipped, day_from_march, j2date}
+use Rattle.calendar_julian.specs.ToDay.{from_march, date2j}
 
 -- the remainder by seven, never negative
 abbrev pub mod7 : ℤ → ℤ
@@ -14,45 +14,45 @@ unfoldable pub j2day : ℤ → ℤ
 j2day date = mod7 (date ⊕ pos 1)
 
 -- the Monday of week 1, which has January 4
-unfoldable pub weekOne : ℤ → ℤ
-weekOne year = let day4 = date2j year (pos 1) (pos 4) in day4 ⊖ j2day (day4 ⊖ pos 1)
+unfoldable pub week_one : ℤ → ℤ
+week_one year = let day4 = date2j year (pos 1) (pos 4) in day4 ⊖ j2day (day4 ⊖ pos 1)
 
 -- the Monday of a week
 unfoldable pub isoweek2j : ℤ → ℤ → ℤ
-isoweek2j year week = (week ⊖ pos 1) ⊗ pos 7 ⊕ weekOne year
+isoweek2j year week = (week ⊖ pos 1) ⊗ pos 7 ⊕ week_one year
 
 -- the year from whose week 1 a day is counted: the year before, if the day is before week 1
-unfoldable pub countedFrom : ℤ → ℤ → ℤ
-countedFrom day year = if int_lt day (weekOne year) then year ⊖ pos 1 else year
+unfoldable pub counted_from : ℤ → ℤ → ℤ
+counted_from day year = if int_lt day (week_one year) then year ⊖ pos 1 else year
 
 -- the week of a day, counted from week 1 of a year
-unfoldable pub weekOf : ℤ → ℤ → ℤ
-weekOf day year = (day ⊖ weekOne year) ÷ pos 7 +ℤ pos 1
+unfoldable pub week_of : ℤ → ℤ → ℤ
+week_of day year = (day ⊖ week_one year) ÷ pos 7 +ℤ pos 1
 
 -- the ISO year of a day that is counted from the year `from`: `next`, if the day is past week 51 and not before
 -- week 1 of `next`
-unfoldable pub weekYear : ℤ → ℤ → ℤ → ℤ
-weekYear day from next =
-    if int_lt (weekOf day from) (pos 52) then from
-    else if int_lt day (weekOne next) then from
+unfoldable pub week_year : ℤ → ℤ → ℤ → ℤ
+week_year day from next =
+    if int_lt (week_of day from) (pos 52) then from
+    else if int_lt day (week_one next) then from
     else next
 
 -- the ISO week of a date
 unfoldable pub date2isoweek : ℤ → ℤ → ℤ → ℤ
 date2isoweek y m d =
     let day = date2j y m d in
-    weekOf day (weekYear day (countedFrom day y) (y ⊕ pos 1))
+    week_of day (week_year day (counted_from day y) (y ⊕ pos 1))
 
 -- the year of the ISO week of a date; unlike `date2isoweek` it looks at the year after the one that it counts from
 unfoldable pub date2isoyear : ℤ → ℤ → ℤ → ℤ
 date2isoyear y m d =
     let day = date2j y m d in
-    let from = countedFrom day y in
-    weekYear day from (from ⊕ pos 1)
+    let from = counted_from day y in
+    week_year day from (from ⊕ pos 1)
 
 -- unfolds all that dates, Julian days and ISO weeks are computed by, for worked examples
 unfoldable pub julian-computes : ℕ
-unfolding j2date dayFromMarch withSkipped shifted date2j fromMarch j2day weekOne isoweek2j countedFrom weekOf weekYear date2isoweek date2isoyear wrap32
+unfolding j2date day_from_march with_skipped shifted date2j from_march j2day week_one isoweek2j counted_from week_of week_year date2isoweek date2isoyear wrap32
 julian-computes = 0
 
 -- January 1 of 2000 was a Saturday

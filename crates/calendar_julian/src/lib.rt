@@ -1,8 +1,8 @@
 // PostgreSQL's Julian days and ISO weeks, in 32-bit arithmetic that wraps.
 ghost use Rattle.std.specs.Prelude.{◌≡◌, ◌<◌};
-ghost use Rattle.calendar_julian.specs.ToDay.{fromMarch, date2j};
-ghost use Rattle.calendar_julian.specs.ToDate.{withSkipped, dayFromMarch, j2date};
-ghost use Rattle.calendar_julian.specs.Week.{j2day, weekOne, isoweek2j, countedFrom, weekOf, weekYear, date2isoweek, date2isoyear};
+ghost use Rattle.calendar_julian.specs.ToDay.{from_march, date2j};
+ghost use Rattle.calendar_julian.specs.ToDate.{with_skipped, day_from_march, j2date};
+ghost use Rattle.calendar_julian.specs.Week.{j2day, week_one, isoweek2j, counted_from, week_of, week_year, date2isoweek, date2isoyear};
 
 use base_wrapping::{bits, wrapping_add, wrapping_mul, wrapping_sub};
 use std::num::wrapping_add_u32;
@@ -16,7 +16,7 @@ pub struct Date {
 
 // The Julian day of a date whose year begins in March and is 4800 years on. March is month 4, February month 15.
 fn from_march(year: i32, month: i32, day: i32) -> i32
-    ensures { result ≡ fromMarch year month day }
+    ensures { result ≡ from_march year month day }
 {
     let century = year / 100;
     let days = wrapping_sub(wrapping_mul(year, 365), 32167);
@@ -44,7 +44,7 @@ pub fn pg_date2j(year: i32, month: i32, day: i32) -> i32
 // Days from March 1 of year -4800, as days from January 1 with a leap day in every fourth year:
 // the leap days that centuries skip are added.
 fn with_skipped(days: u32) -> u32
-    ensures { result ≡ withSkipped days }
+    ensures { result ≡ with_skipped days }
 {
     let quad = days / 146097;
     let extra = (days - quad * 146097) * 4 + 3;
@@ -54,7 +54,7 @@ fn with_skipped(days: u32) -> u32
 // The day of four years as a day from March 1 of its year, plus 123.
 fn day_from_march(day: u32) -> u32
     requires { day < 1461 }
-    ensures { result ≡ dayFromMarch day }
+    ensures { result ≡ day_from_march day }
 {
     if day * 4 / 1461 == 0 {
         (day + 306) % 366 + 123
@@ -90,7 +90,7 @@ pub fn pg_j2day(date: i32) -> i32
 
 // The Monday of week 1 of an ISO year.
 fn week_one(year: i32) -> i32
-    ensures { result ≡ weekOne year }
+    ensures { result ≡ week_one year }
 {
     let day4 = pg_date2j(year, 1, 4);
     wrapping_sub(day4, pg_j2day(wrapping_sub(day4, 1)))
@@ -105,7 +105,7 @@ pub fn pg_isoweek2j(year: i32, week: i32) -> i32
 
 // The year from whose week 1 a day is counted: the year before, if the day is before week 1.
 fn counted_from(day: i32, year: i32) -> i32
-    ensures { result ≡ countedFrom day year }
+    ensures { result ≡ counted_from day year }
 {
     if day < week_one(year) {
         wrapping_sub(year, 1)
@@ -116,7 +116,7 @@ fn counted_from(day: i32, year: i32) -> i32
 
 // The week of a day, counted from week 1 of a year.
 fn week_of(day: i32, year: i32) -> i32
-    ensures { result ≡ weekOf day year }
+    ensures { result ≡ week_of day year }
 {
     wrapping_sub(day, week_one(year)) / 7 + 1
 }
@@ -124,7 +124,7 @@ fn week_of(day: i32, year: i32) -> i32
 // The ISO year of a day that is counted from the year `from`: `next`, if the day is past week 51 and not before
 // week 1 of `next`.
 fn week_year(day: i32, from: i32, next: i32) -> i32
-    ensures { result ≡ weekYear day from next }
+    ensures { result ≡ week_year day from next }
 {
     if week_of(day, from) < 52 {
         return from;

@@ -14,7 +14,7 @@ use mir.Facts.{sfits_widen}
 use mir.Syntax.{w8, w32, w64}
 use mir.Val.{SFits, Fits}
 use Rattle.base_notation.proofs.Cases.{by-if}
-use Rattle.base_refusals.specs.Report.{noPattern}
+use Rattle.base_refusals.specs.Report.{no_pattern}
 use Rattle.base_refusals.specs.declared.Report.{Report}
 use Rattle.template_patterns.specs.Patterns.{name_of}
 use Rattle.template_patterns.proofs.Names.{name-length}
@@ -22,29 +22,29 @@ use Rattle.moment_parts.specs.declared.Parts.{Parts}
 use Rattle.moment_instants.proofs.Seconds.{Ranged}
 use Rattle.line_buffers.specs.Decimal.{decimal}
 use Rattle.line_buffers.proofs.Magnitude.{decimal-length}
-use Rattle.moment_parts.specs.Patterns.{patternName}
-use Rattle.line_answers.specs.Items.{item, numbers, reportText}
-use Rattle.line_answers.specs.Answers.{accepted, momentText, offsetText}
+use Rattle.moment_parts.specs.Patterns.{pattern_name}
+use Rattle.line_answers.specs.Items.{item, numbers, report_text}
+use Rattle.line_answers.specs.Answers.{accepted, moment_text, offset_text}
 
 numbers-append : (xs ys : List ℤ) → numbers (xs ++ ys) ≡ numbers xs ++ numbers ys
 numbers-append [] ys = refl
 numbers-append (x ∷ xs) ys = ap (λ (l : List ℕ). item (decimal x) ++ l) (numbers-append xs ys) ∙ rw append_assoc
 
-abbrev pub dateNumbers : Parts → List ℤ
-dateNumbers p = p.year ∷ p.month ∷ p.day ∷ []
+abbrev pub date_numbers : Parts → List ℤ
+date_numbers p = p.year ∷ p.month ∷ p.day ∷ []
 
-abbrev pub timeNumbers : Parts → List ℤ
-timeNumbers p = p.hour ∷ p.minute ∷ p.second ∷ p.micros ∷ []
+abbrev pub time_numbers : Parts → List ℤ
+time_numbers p = p.hour ∷ p.minute ∷ p.second ∷ p.micros ∷ []
 
-abbrev pub lastItems : Parts → List ℕ
-lastItems p = item (offsetText p.offset) ++ item (decimal (pos p.marks))
+abbrev pub last_items : Parts → List ℕ
+last_items p = item (offset_text p.offset) ++ item (decimal (pos p.marks))
 
-pub moment-is : (p : Parts) → momentText p ≡ accepted (numbers (dateNumbers p) ++ (numbers (timeNumbers p) ++ (item (decimal p.precision) ++ lastItems p)))
-unfolding momentText
+pub moment-is : (p : Parts) → moment_text p ≡ accepted (numbers (date_numbers p) ++ (numbers (time_numbers p) ++ (item (decimal p.precision) ++ last_items p)))
+unfolding moment_text
 moment-is p =
-    let date = dateNumbers p in
-    let time = timeNumbers p in
-    let last = lastItems p in
+    let date = date_numbers p in
+    let time = time_numbers p in
+    let last = last_items p in
     ap (λ (l : List ℕ). accepted (l ++ last)) (numbers-append date (time ++ p.precision ∷ []) ∙ ap (λ (l : List ℕ). numbers date ++ l) (numbers-append time (p.precision ∷ [])))
     ∙ ap (λ (l : List ℕ). accepted l) (append_assoc (numbers date) _ last ∙ ap (λ (l : List ℕ). numbers date ++ l) (append_assoc (numbers time) _ last))
     ∙ ap (λ (l : List ℕ). accepted (numbers date ++ (numbers time ++ (item l ++ last)))) (append-nil (decimal p.precision))
@@ -56,8 +56,8 @@ int-length z f = decimal-length z (sfits_widen {w = w32} {w' = w64} tt f)
 pub value-short : (z : ℤ) → SFits w64 z → length (accepted (item (decimal z))) ≤ 514
 value-short z f = omega (arith, decimal-length z f)
 
-pub moment-short : (p : Parts) → Ranged p → Fits w8 p.marks → length (offsetText p.offset) ≤ 20 → length (momentText p) ≤ 514
-unfolding momentText
+pub moment-short : (p : Parts) → Ranged p → Fits w8 p.marks → length (offset_text p.offset) ≤ 20 → length (moment_text p) ≤ 514
+unfolding moment_text
 moment-short p f m o =
     let year = int-length p.year f.year in
     let month = int-length p.month f.month in
@@ -71,13 +71,13 @@ moment-short p f m o =
     simp length-append (omega arith)
 
 -- a pattern's name
-pattern-length : (p : ℕ) → length (patternName p) ≤ 20
-unfolding patternName
+pattern-length : (p : ℕ) → length (pattern_name p) ≤ 20
+unfolding pattern_name
 pattern-length p =
-    by-if (λ (t : List ℕ). length t ≤ 20) (ltb p noPattern) (name_of p) _ (λ e. omega (arith, (name-length p (ltb-true p noPattern e)).1)) (λ e. omega arith)
+    by-if (λ (t : List ℕ). length t ≤ 20) (ltb p no_pattern) (name_of p) _ (λ e. omega (arith, (name-length p (ltb-true p no_pattern e)).1)) (λ e. omega arith)
 
-pub report-short : (r : Report) → Fits w8 r.number → SFits w64 r.first → SFits w64 r.second → length (reportText r) ≤ 514
-unfolding reportText
+pub report-short : (r : Report) → Fits w8 r.number → SFits w64 r.first → SFits w64 r.second → length (report_text r) ≤ 514
+unfolding report_text
 report-short r n f s =
     let number = decimal-length (pos r.number) (omega arith) in
     let pattern = pattern-length r.pattern in

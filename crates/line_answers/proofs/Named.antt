@@ -12,10 +12,10 @@ use Rattle.base_notation.specs.Text.{utf8}
 use Rattle.base_strtol.specs.Runs.{leading}
 use Rattle.template_patterns.specs.Patterns.{name_of}
 use Rattle.template_patterns.specs.Rows.{filled}
-use Rattle.template_patterns.specs.Search.{nameTable}
+use Rattle.template_patterns.specs.Search.{name_table}
 use Rattle.template_patterns.proofs.Names.{name-length, name-byte, no-space}
 use Rattle.line_buffers.specs.Input.{before, Found}
-use Rattle.moment_parts.specs.Patterns.{patternName}
+use Rattle.moment_parts.specs.Patterns.{pattern_name}
 
 -- the bytes before the spaces that fill a row
 before-filled : (name : List ℕ) (n : ℕ) → ((j : ℕ) → j < length name → get_or name j 0 ≡ 32 → ⊥) → before 32 (name ++ replicate n 32) ≡ length name
@@ -28,11 +28,11 @@ before-filled (c ∷ name) n h =
 
 module _ (k : ℕ) (here : k < 112) where
   abbrev row : List ℕ
-  row = take 5 (drop (5 * k) nameTable)
+  row = take 5 (drop (5 * k) name_table)
 
   row-size : length row ≡ 5
-  unfolding nameTable
-  row-size = length-take 5 (drop (5 * k) nameTable) ∙ omega (arith, length-drop (5 * k) nameTable)
+  unfolding name_table
+  row-size = length-take 5 (drop (5 * k) name_table) ∙ omega (arith, length-drop (5 * k) name_table)
 
   row_is : row ≡ filled 5 (name_of k)
   row_is =
@@ -40,22 +40,22 @@ module _ (k : ℕ) (here : k < 112) where
       let size : length (filled 5 (name_of k)) ≡ 5 = simp (length-append, length-replicate) (omega arith) in
       ext_get_or 0 row (filled 5 (name_of k)) (row-size ∙ sym size)
       (λ j h. let in_row : j < 5 = omega (arith, row-size) in
-      get_or-take 5 (drop (5 * k) nameTable) j 0 in_row ∙ get_or-drop (5 * k) nameTable j 0 ∙ name-byte k here j in_row)
+      get_or-take 5 (drop (5 * k) name_table) j 0 in_row ∙ get_or-drop (5 * k) name_table j 0 ∙ name-byte k here j in_row)
 
   named : take (before 32 row) row ≡ name_of k
   named = rw (row_is, before-filled (name_of k) (5 - length (name_of k)) (no-space k here)) (take-append_seam (name_of k) (replicate (5 - length (name_of k)) 32))
 
   -- so they are where they are found in the table
-  pub found-named : (names : List ℕ) (n r : ℕ) → names ≡ nameTable → n ≡ 5 → Found (take n (drop (5 * k) names)) 0 32 r → take (r - 0) (take n (drop (5 * k) names)) ≡ name_of k
+  pub found-named : (names : List ℕ) (n r : ℕ) → names ≡ name_table → n ≡ 5 → Found (take n (drop (5 * k) names)) 0 32 r → take (r - 0) (take n (drop (5 * k) names)) ≡ name_of k
   found-named names n r e h f =
       let found-is : r ≡ 0 + before 32 row = rw (e, h) at f.is in
       let size : r - 0 ≡ before 32 row = omega arith in
       rw (e, h, size) named
 
-pub none_named : (p : ℕ) → 112 ≤ p → patternName p ≡ utf8 "-"
-unfolding patternName
+pub none_named : (p : ℕ) → 112 ≤ p → pattern_name p ≡ utf8 "-"
+unfolding pattern_name
 none_named p h = rw (le-ltb p 112 h)
 
-pub some-named : (p : ℕ) → p < 112 → patternName p ≡ name_of p
-unfolding patternName
+pub some-named : (p : ℕ) → p < 112 → pattern_name p ≡ name_of p
+unfolding pattern_name
 some-named p h = rw (lt-ltb p 112 h)

@@ -15,11 +15,11 @@ use lib.ListN.{length, take, drop, set, replicate, length-set, length-take}
 use lib.Seq.{drop-drop, take_all, take-suc-set}
 use Rattle.base_strtol.specs.Runs.{leading}
 use Rattle.line_buffers.specs.Input.{before}
-use Rattle.line_numbers.specs.Items.{items_of, itemsAfter}
+use Rattle.line_numbers.specs.Items.{items_of, items_after}
 use Rattle.line_numbers.specs.Numbers.{int_of}
 use Rattle.line_numbers.specs.declared.Int.TheVariants.{Value, Malformed}
 use Rattle.line_numbers.proofs.Items.{first-item}
-use Rattle.line_answers.specs.Moments.{numbersIn, sevenOf}
+use Rattle.line_answers.specs.Moments.{numbers_in, seven_of}
 
 -- the items that begin at a place or after it
 abbrev pub left : List ℕ → ℕ → List (List ℕ)
@@ -27,7 +27,7 @@ left s zero = items_of s
 left [] (suc at) = []
 left (b ∷ s) (suc at) = left s at
 
-after-drop : (s : List ℕ) (at : ℕ) → itemsAfter (drop at s) ≡ left s (suc at)
+after-drop : (s : List ℕ) (at : ℕ) → items_after (drop at s) ≡ left s (suc at)
 after-drop [] zero = refl
 after-drop [] (suc at) = refl
 after-drop (b ∷ s) zero = refl
@@ -55,44 +55,44 @@ module _ (s : List ℕ) where
   pub record Read (values : List ℤ) (at i : ℕ) : Type 0 where
     pub within : i ≤ 7
     pub size : length values ≡ 7
-    pub numbers : numbersIn (items_of s) ≡ take i values ++ numbersIn (left s at)
+    pub numbers : numbers_in (items_of s) ≡ take i values ++ numbers_in (left s at)
     pub count : length (items_of s) ≡ i + length (left s at)
 
   pub begun : (values : List ℤ) → length values ≡ 7 → Read values 0 0
   begun values h = record { within = omega arith; size = h; numbers = refl; count = omega arith }
 
   -- other than seven items
-  no_seven : (length (items_of s) ≡ 7 → ⊥) → sevenOf s ≡ replicate 7 (pos 0)
-  unfolding sevenOf
+  no_seven : (length (items_of s) ≡ 7 → ⊥) → seven_of s ≡ replicate 7 (pos 0)
+  unfolding seven_of
   no_seven h = rw (ne_eqb _ _ h)
 
   -- other than seven numbers
-  no-numbers : (length (numbersIn (items_of s)) ≡ 7 → ⊥) → sevenOf s ≡ replicate 7 (pos 0)
-  unfolding sevenOf
-  no-numbers h = rw (ne_eqb (length (numbersIn (items_of s))) 7 h, and-false)
+  no-numbers : (length (numbers_in (items_of s)) ≡ 7 → ⊥) → seven_of s ≡ replicate 7 (pos 0)
+  unfolding seven_of
+  no-numbers h = rw (ne_eqb (length (numbers_in (items_of s))) 7 h, and-false)
 
   module _ (values : List ℤ) (at i : ℕ) (r : Read values at i) where
-    pub too_few : i < 7 → length s < at → sevenOf s ≡ replicate 7 (pos 0)
+    pub too_few : i < 7 → length s < at → seven_of s ≡ replicate 7 (pos 0)
     too_few l h =
         let none = ap length (none_left s at h) in
         no_seven (λ e. omega (arith, r.count))
 
-    pub too_many : 7 ≤ i → at ≤ length s → sevenOf s ≡ replicate 7 (pos 0)
+    pub too_many : 7 ≤ i → at ≤ length s → seven_of s ≡ replicate 7 (pos 0)
     too_many l h =
         let one_more = ap length (left-on at _ h refl) in
         no_seven (λ e. omega (arith, r.count))
 
-    pub ended : 7 ≤ i → length s < at → sevenOf s ≡ values
-    unfolding sevenOf numbersIn
+    pub ended : 7 ≤ i → length s < at → seven_of s ≡ values
+    unfolding seven_of numbers_in
     ended l h =
         let items-are : length (items_of s) ≡ 7 = omega (arith, r.count, r.within, ap length (none_left s at h)) in
-        let numbers-are : numbersIn (items_of s) ≡ values = r.numbers ∙ rw (none_left s at h, append-nil) (take_all i values (omega (arith, r.size))) in
+        let numbers-are : numbers_in (items_of s) ≡ values = r.numbers ∙ rw (none_left s at h, append-nil) (take_all i values (omega (arith, r.size))) in
         rw (eq-eqb _ _ items-are, numbers-are, eq-eqb (length values) 7 r.size)
 
     -- the item at the place, which ends before a space or the text does
     module _ (end : ℕ) (l : i < 7) (h : at ≤ length s) (e : end ≡ at + before 32 (drop at s)) where
       pub more : (n : ℤ) → int_of (take (end - at) (drop at s)) ≡ Value n → Read (set values i n) (end + 1) (i + 1)
-      unfolding numbersIn
+      unfolding numbers_in
       more n v =
           let on = left-on at end h e in
           record {
@@ -102,8 +102,8 @@ module _ (s : List ℕ) where
             count = omega (arith, r.count, ap length on);
           }
 
-      pub no_number : int_of (take (end - at) (drop at s)) ≡ Malformed → sevenOf s ≡ replicate 7 (pos 0)
-      unfolding numbersIn
+      pub no_number : int_of (take (end - at) (drop at s)) ≡ Malformed → seven_of s ≡ replicate 7 (pos 0)
+      unfolding numbers_in
       no_number v =
-          let none_after : numbersIn (items_of s) ≡ take i values = r.numbers ∙ rw (left-on at end h e, v, append-nil) in
+          let none_after : numbers_in (items_of s) ≡ take i values = r.numbers ∙ rw (left-on at end h e, v, append-nil) in
           no-numbers (λ q. omega (arith, ap length none_after, length-take i values))

@@ -8,33 +8,33 @@ use Rattle.line_numbers.specs.Items.{items_of}
 use Rattle.line_numbers.specs.Numbers.{int_of, narrow, narrowed, number_of}
 use Rattle.line_numbers.specs.declared.Int.{Int}
 use Rattle.line_numbers.specs.declared.Int.TheVariants.{Value, Malformed}
-use Rattle.write_pieces.specs.Moment.{sevenNumbers}
+use Rattle.write_pieces.specs.Moment.{seven_numbers}
 use Rattle.write_pieces.specs.declared.Moment.{Moment}
 
 -- the numbers of 32 bits that items are, up to the first that is none
-abbrev pub numberThen : Int → List ℤ → List ℤ
-numberThen (Value z) rest = z ∷ rest
-numberThen Malformed rest = []
+abbrev pub number_then : Int → List ℤ → List ℤ
+number_then (Value z) rest = z ∷ rest
+number_then Malformed rest = []
 
-unfoldable pub numbersIn : List (List ℕ) → List ℤ
-numbersIn [] = []
-numbersIn (i ∷ is) = numberThen (int_of i) (numbersIn is)
+unfoldable pub numbers_in : List (List ℕ) → List ℤ
+numbers_in [] = []
+numbers_in (i ∷ is) = number_then (int_of i) (numbers_in is)
 
 -- seven items that are numbers; for anything else seven zeros, which are no moment
-unfoldable pub sevenOf : List ℕ → List ℤ
-sevenOf s =
-    let found = numbersIn (items_of s) in
+unfoldable pub seven_of : List ℕ → List ℤ
+seven_of s =
+    let found = numbers_in (items_of s) in
     if eqb (length (items_of s)) 7 && eqb (length found) 7 then found else replicate 7 (pos 0)
 
 -- the moment of the seven numbers, in this order
-unfoldable pub momentOf : List ℕ → Moment
-momentOf s =
-    let number : ℕ → ℤ = λ i. get_or (sevenOf s) i (pos 0) in
-    sevenNumbers (number 0) (number 1) (number 2) (number 3) (number 4) (number 5) (number 6)
+unfoldable pub moment_of : List ℕ → Moment
+moment_of s =
+    let number : ℕ → ℤ = λ i. get_or (seven_of s) i (pos 0) in
+    seven_numbers (number 0) (number 1) (number 2) (number 3) (number 4) (number 5) (number 6)
 
 -- seven numbers; one too many, one too few, and one that is none
 pub sevens
-    : (sevenOf (utf8 "2024 2 29 23 59 59 -1") ≡ pos 2024 ∷ pos 2 ∷ pos 29 ∷ pos 23 ∷ pos 59 ∷ pos 59 ∷ negsuc 0 ∷ [])
-    × (map sevenOf (utf8 "1 2 3 4 5 6 7 8" ∷ utf8 "1 2 3 4 5 6" ∷ utf8 "1 2 3 4 5 6 x" ∷ []) ≡ replicate 3 (replicate 7 (pos 0)))
-unfolding sevenOf numbersIn items_of narrow narrowed number_of strtol-computes
+    : (seven_of (utf8 "2024 2 29 23 59 59 -1") ≡ pos 2024 ∷ pos 2 ∷ pos 29 ∷ pos 23 ∷ pos 59 ∷ pos 59 ∷ negsuc 0 ∷ [])
+    × (map seven_of (utf8 "1 2 3 4 5 6 7 8" ∷ utf8 "1 2 3 4 5 6" ∷ utf8 "1 2 3 4 5 6 x" ∷ []) ≡ replicate 3 (replicate 7 (pos 0)))
+unfolding seven_of numbers_in items_of narrow narrowed number_of strtol-computes
 sevens = (refl, refl)

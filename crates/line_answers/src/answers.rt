@@ -2,8 +2,8 @@
 // are those of the exercise pages.
 ghost use Rattle.base_settings.specs.Limits.{pages};
 ghost use Rattle.moment_parts.specs.Parts.{parts_of};
-ghost use Rattle.moment_instants.specs.ByTemplate.{dateOf, timestampOf};
-ghost use Rattle.line_answers.specs.Answers.{dayAnswer, instantAnswer, partsAnswer};
+ghost use Rattle.moment_instants.specs.ByTemplate.{date_of, timestamp_of};
+ghost use Rattle.line_answers.specs.Answers.{day_answer, instant_answer, parts_answer};
 ghost use Rattle.line_answers.specs.Lines.{Answered};
 
 use crate::items::{put_moment, put_report, put_value};
@@ -11,7 +11,7 @@ use moment_instants::{Day, Instant};
 use moment_parts::Answer;
 
 pub fn parts(t: &[u8], s: &[u8], out: &mut [u8], at: usize) -> usize
-    ensures { Answered out.old at (partsAnswer (parts_of pages t.now s.now)) out.new result }
+    ensures { Answered out.old at (parts_answer (parts_of pages t.now s.now)) out.new result }
 {
     match moment_parts::to_timestamp_parts(base_settings::pages(), t, s) {
         Answer::Moment(p) => put_moment(p, out, at),
@@ -20,7 +20,7 @@ pub fn parts(t: &[u8], s: &[u8], out: &mut [u8], at: usize) -> usize
 }
 
 pub fn instant(t: &[u8], s: &[u8], out: &mut [u8], at: usize) -> usize
-    ensures { Answered out.old at (instantAnswer (timestampOf pages t.now s.now)) out.new result }
+    ensures { Answered out.old at (instant_answer (timestamp_of pages t.now s.now)) out.new result }
 {
     match moment_instants::to_timestamp_text(base_settings::pages(), t, s) {
         Instant::Micros(micros) => put_value(micros, out, at),
@@ -29,7 +29,7 @@ pub fn instant(t: &[u8], s: &[u8], out: &mut [u8], at: usize) -> usize
 }
 
 pub fn day(t: &[u8], s: &[u8], out: &mut [u8], at: usize) -> usize
-    ensures { Answered out.old at (dayAnswer (dateOf pages t.now s.now)) out.new result }
+    ensures { Answered out.old at (day_answer (date_of pages t.now s.now)) out.new result }
 {
     match moment_instants::to_date_text(base_settings::pages(), t, s) {
         Day::Number(days) => put_value(days as i64, out, at),

@@ -1,10 +1,10 @@
 // The items of an answer. Each function puts its part at `at` and gives the place after it.
 ghost use Rattle.std.specs.Prelude.{[], ◌∷◌, ◌≤◌, length};
-ghost use Rattle.moment_parts.specs.Patterns.{patternName};
+ghost use Rattle.moment_parts.specs.Patterns.{pattern_name};
 ghost use Rattle.line_buffers.specs.Decimal.{decimal};
 ghost use Rattle.line_buffers.specs.Output.{Put};
-ghost use Rattle.line_answers.specs.Items.{item, numbers, reportText};
-ghost use Rattle.line_answers.specs.Answers.{accepted, momentText, offsetText};
+ghost use Rattle.line_answers.specs.Items.{item, numbers, report_text};
+ghost use Rattle.line_answers.specs.Answers.{accepted, moment_text, offset_text};
 ghost use Rattle.line_answers.specs.Lines.{Answered};
 
 use base_refusals::{NO_PATTERN, Report};
@@ -47,7 +47,7 @@ pub fn put_value(value: i64, out: &mut [u8], at: usize) -> usize
 }
 
 fn put_offset(offset: Offset, out: &mut [u8], at: usize) -> usize
-    ensures { (Put out.old at (item (offsetText offset)) out.new result) × (length (offsetText offset) ≤ 20) }
+    ensures { (Put out.old at (item (offset_text offset)) out.new result) × (length (offset_text offset) ≤ 20) }
 {
     match offset {
         Offset::Absent => put_item(b"none", out, at),
@@ -74,7 +74,7 @@ fn put_time(hour: i32, minute: i32, second: i32, micros: i32, out: &mut [u8], at
 
 // The parts of a moment.
 pub fn put_moment(p: Parts, out: &mut [u8], at: usize) -> usize
-    ensures { Answered out.old at (momentText p) out.new result }
+    ensures { Answered out.old at (moment_text p) out.new result }
 {
     let number = put_accepted(out, at);
     let date = put_date(p.year, p.month, p.day, out, number);
@@ -87,7 +87,7 @@ pub fn put_moment(p: Parts, out: &mut [u8], at: usize) -> usize
 
 // A pattern by its name, which fills its row up to a space, or `-` for none.
 fn put_pattern(pattern: u8, out: &mut [u8], at: usize) -> usize
-    ensures { Put out.old at (item (patternName pattern)) out.new result }
+    ensures { Put out.old at (item (pattern_name pattern)) out.new result }
 {
     if pattern >= NO_PATTERN {
         return put_item(b"-", out, at);
@@ -100,7 +100,7 @@ fn put_pattern(pattern: u8, out: &mut [u8], at: usize) -> usize
 }
 
 pub fn put_report(r: Report, out: &mut [u8], at: usize) -> usize
-    ensures { Answered out.old at (reportText r) out.new result }
+    ensures { Answered out.old at (report_text r) out.new result }
 {
     let number = line_buffers::put_decimal(r.number as i64, out, at);
     let pattern = put_pattern(r.pattern, out, number);

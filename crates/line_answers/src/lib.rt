@@ -4,7 +4,7 @@ mod items;
 mod moments;
 
 ghost use Rattle.std.specs.Prelude.{◌≡◌};
-ghost use Rattle.line_answers.specs.Lines.{Answered, answerLine, counted, pairAnswer, tooLongAnswer, wholeAnswer, withoutReturn};
+ghost use Rattle.line_answers.specs.Lines.{Answered, answer_line, counted, pair_answer, too_long_answer, whole_answer, without_return};
 
 use base_refusals::Refusal;
 
@@ -24,7 +24,7 @@ const LINE: usize = 769;
 
 // How many bytes of a line count where a moment is written: a carriage return at the end is no part of the line.
 fn without_return(line: &[u8]) -> usize
-    ensures { result ≡ withoutReturn line.now }
+    ensures { result ≡ without_return line.now }
 {
     let len = line.len();
     if len == 0 {
@@ -49,7 +49,7 @@ fn counted(mode: Mode, line: &[u8]) -> usize
 }
 
 fn answer_pair(mode: Mode, t: &[u8], s: &[u8], out: &mut [u8], at: usize) -> usize
-    ensures { Answered out.old at (pairAnswer mode t.now s.now) out.new result }
+    ensures { Answered out.old at (pair_answer mode t.now s.now) out.new result }
 {
     match mode {
         Mode::Parts => answers::parts(t, s, out, at),
@@ -61,7 +61,7 @@ fn answer_pair(mode: Mode, t: &[u8], s: &[u8], out: &mut [u8], at: usize) -> usi
 
 // The line is cut at its first TAB; without one nothing follows the template.
 fn answer_whole(mode: Mode, line: &[u8], out: &mut [u8], at: usize) -> usize
-    ensures { Answered out.old at (wholeAnswer mode line.now) out.new result }
+    ensures { Answered out.old at (whole_answer mode line.now) out.new result }
 {
     let len = line.len();
     if LINE < len {
@@ -76,7 +76,7 @@ fn answer_whole(mode: Mode, line: &[u8], out: &mut [u8], at: usize) -> usize
 
 // Puts the answer to a line at `at` and gives the place after it.
 pub fn answer(mode: Mode, line: &[u8], out: &mut [u8], at: usize) -> usize
-    ensures { Answered out.old at (answerLine mode line.now) out.new result }
+    ensures { Answered out.old at (answer_line mode line.now) out.new result }
 {
     let len = counted(mode, line);
     answer_whole(mode, &line[0..len], out, at)
@@ -84,7 +84,7 @@ pub fn answer(mode: Mode, line: &[u8], out: &mut [u8], at: usize) -> usize
 
 // The answer to a line that is too long; of such a line the beginning may have been left off.
 pub fn answer_too_long(out: &mut [u8], at: usize) -> usize
-    ensures { Answered out.old at tooLongAnswer out.new result }
+    ensures { Answered out.old at too_long_answer out.new result }
 {
     items::put_report(base_refusals::report_of(Refusal::TooLong), out, at)
 }

@@ -2,8 +2,8 @@
 ghost use Rattle.std.specs.Prelude.{◌≡◌, ◌≤◌, length};
 ghost use Rattle.line_answers.specs.Items.{item};
 ghost use Rattle.line_answers.specs.Answers.{accepted};
-ghost use Rattle.line_answers.specs.Moments.{momentOf, sevenOf};
-ghost use Rattle.line_answers.specs.Lines.{Answered, pairAnswer};
+ghost use Rattle.line_answers.specs.Moments.{moment_of, seven_of};
+ghost use Rattle.line_answers.specs.Lines.{Answered, pair_answer};
 ghost use Rattle.line_answers.specs.declared.Mode.TheVariants.{Write};
 
 use crate::items::{put_accepted, put_item, put_report};
@@ -16,7 +16,7 @@ const TEXT: usize = 512;
 
 // Seven numbers with a space between two; all zeros, which are no moment, for anything else.
 fn seven_of(s: &[u8]) -> [i32; 7]
-    ensures { result ≡ sevenOf s.now }
+    ensures { result ≡ seven_of s.now }
 {
     let mut values = [0i32; 7];
     let mut at = 0;
@@ -40,7 +40,7 @@ fn seven_of(s: &[u8]) -> [i32; 7]
 }
 
 fn moment_of(s: &[u8]) -> Moment
-    ensures { result ≡ momentOf s.now }
+    ensures { result ≡ moment_of s.now }
 {
     let v = seven_of(s);
     write_pieces::seven_numbers(v[0], v[1], v[2], v[3], v[4], v[5], v[6])
@@ -56,7 +56,7 @@ fn put_text(text: &[u8], out: &mut [u8], at: usize) -> usize
 }
 
 pub fn text(t: &[u8], s: &[u8], out: &mut [u8], at: usize) -> usize
-    ensures { Answered out.old at (pairAnswer Write t.now s.now) out.new result }
+    ensures { Answered out.old at (pair_answer Write t.now s.now) out.new result }
 {
     let mut buffer = [0u8; TEXT];
     match write_text::write(base_settings::pages(), t, moment_of(s), &mut buffer) {

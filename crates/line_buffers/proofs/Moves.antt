@@ -13,7 +13,7 @@ use borrow.Author.Tests.{eq-eqb, eqb-true, eqb-false, leb-false}
 use lib.Dec.{eqb}
 use lib.ListN.{length, take, get_or, set, length-take, length-drop}
 use lib.Seq.{sets, slice, length-sets, get_or-drop, get_or-take, take_all}
-use Rattle.line_buffers.specs.Input.{tooLong, Keeps}
+use Rattle.line_buffers.specs.Input.{too_long, Keeps}
 use Rattle.line_buffers.specs.Output.{Put}
 use Rattle.line_buffers.proofs.Puts.{kept-after, sets-suc}
 
@@ -62,15 +62,15 @@ module _ (buf₀ : List ℕ) (from to : ℕ) where
         }
 
 -- a line that fits ends before the buffer does, or begins later
-fits : (size from to : ℕ) (long : Bool) → tooLong size from to long ≡ false → from ≡ 0 → to < size
+fits : (size from to : ℕ) (long : Bool) → too_long size from to long ≡ false → from ≡ 0 → to < size
 fits size from to true e z = absurd (false≢true (sym e))
 fits size from to false e z = leb-false size to (rw (eq-eqb from 0 z) at e)
 
 module _ (buf : List ℕ) (from to : ℕ) (long : Bool) where
-  pub left-off : tooLong (length buf) from to long ≡ true → Keeps buf from to long buf (record { count = 0; long = true })
+  pub left-off : too_long (length buf) from to long ≡ true → Keeps buf from to long buf (record { count = 0; long = true })
   left-off e = record { is = rw e; front = rw e; room = omega arith }
 
-  pub kept_whole : (after : List ℕ) (n : ℕ) → tooLong (length buf) from to long ≡ false → Put buf 0 (slice from to buf) after n
+  pub kept_whole : (after : List ℕ) (n : ℕ) → too_long (length buf) from to long ≡ false → Put buf 0 (slice from to buf) after n
       → Keeps buf from to long after (record { count = n; long = false })
   kept_whole after n e p =
       let part-is = part-size buf from to in

@@ -19,16 +19,16 @@ pub record Found (s : List ℕ) (from b r : ℕ) : Type 0 where
   pub within : r ≤ max from (length s)
 
 -- a line from `from` to `to` does not fit a buffer of a size: its beginning was left off before, or it fills the buffer
-abbrev pub tooLong : ℕ → ℕ → ℕ → Bool → Bool
-tooLong size from to long = long || (eqb from 0 && leb size to)
+abbrev pub too_long : ℕ → ℕ → ℕ → Bool → Bool
+too_long size from to long = long || (eqb from 0 && leb size to)
 
 -- the bytes kept of it
 abbrev pub kept : List ℕ → ℕ → ℕ → Bool → List ℕ
-kept buf from to long = if tooLong (length buf) from to long then [] else slice from to buf
+kept buf from to long = if too_long (length buf) from to long then [] else slice from to buf
 
 -- the kept bytes are in front, with room after them
 pub record Keeps (buf : List ℕ) (from to : ℕ) (long : Bool) (after : List ℕ) (r : Kept) : Type 0 where
-  pub is : r ≡ record { count = length (kept buf from to long); long = tooLong (length buf) from to long }
+  pub is : r ≡ record { count = length (kept buf from to long); long = too_long (length buf) from to long }
   pub front : after ≡ sets buf 0 (kept buf from to long)
   pub room : r.count ≤ length buf - 1
 
@@ -39,5 +39,5 @@ found = (refl, refl)
 
 pub fitting
     : (kept (utf8 "ab\nc\ndef") 5 8 false ≡ utf8 "def") × (sets (utf8 "ab\nc\ndef") 0 (utf8 "def") ≡ utf8 "defc\ndef")
-    × (kept (utf8 "abcdefgh") 0 8 false ≡ []) × (tooLong 8 0 8 false ≡ true)
+    × (kept (utf8 "abcdefgh") 0 8 false ≡ []) × (too_long 8 0 8 false ≡ true)
 fitting = (refl, refl, refl, refl)

@@ -2,7 +2,7 @@
 // next read.
 ghost use Rattle.std.specs.Prelude.{◌≡◌, min};
 ghost use Rattle.std.proofs.Math.Seq.{slice};
-ghost use Rattle.line_buffers.specs.Input.{Found, Keeps, tooLong};
+ghost use Rattle.line_buffers.specs.Input.{Found, Keeps, too_long};
 ghost use Rattle.line_buffers.specs.Output.{Put};
 
 // The first place from `from` on at which `b` is; the end where it is at none.
@@ -49,7 +49,7 @@ pub struct Kept {
 }
 
 fn too_long(size: usize, from: usize, to: usize, long: bool) -> bool
-    ensures { result ≡ tooLong size from to long }
+    ensures { result ≡ too_long size from to long }
 {
     if long {
         return true;

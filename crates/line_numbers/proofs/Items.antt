@@ -8,13 +8,13 @@ use lib.Dec.{eqb}
 use lib.ListN.{take, drop}
 use Rattle.base_strtol.specs.Runs.{leading}
 use Rattle.line_buffers.specs.Input.{before}
-use Rattle.line_numbers.specs.Items.{items_of, itemsAfter}
+use Rattle.line_numbers.specs.Items.{items_of, items_after}
 
-pub first-item : (s : List ℕ) → items_of s ≡ take (before 32 s) s ∷ itemsAfter (drop (before 32 s) s)
+pub first-item : (s : List ℕ) → items_of s ≡ take (before 32 s) s ∷ items_after (drop (before 32 s) s)
 unfolding items_of leading
 first-item [] = refl
 first-item (b ∷ s) =
-    (elim (eqb b 32) as (λ t. eqb b 32 ≡ t → items_of (b ∷ s) ≡ take (before 32 (b ∷ s)) (b ∷ s) ∷ itemsAfter (drop (before 32 (b ∷ s)) (b ∷ s))) [
+    (elim (eqb b 32) as (λ t. eqb b 32 ≡ t → items_of (b ∷ s) ≡ take (before 32 (b ∷ s)) (b ∷ s) ∷ items_after (drop (before 32 (b ∷ s)) (b ∷ s))) [
       | true ↦ λ e. rw e
       | false ↦ λ e. rw (e, first-item s)
     ]) refl

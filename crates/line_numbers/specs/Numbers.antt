@@ -29,8 +29,8 @@ abbrev pub int_of : List ℕ → Int
 int_of text = narrow (number_of text)
 
 -- the value of a hexadecimal digit, 16 for any other byte
-unfoldable pub hexDigit : ℕ → ℕ
-hexDigit b =
+unfoldable pub hex_digit : ℕ → ℕ
+hex_digit b =
     if b ∈ code "0" ‥ code "9" then b - code "0"
     else if b ∈ code "a" ‥ code "f" then b - code "a" + 10
     else if b ∈ code "A" ‥ code "F" then b - code "A" + 10
@@ -41,7 +41,7 @@ unfoldable pub bytes_of : List ℕ → List ℕ
 bytes_of [] = []
 bytes_of (a ∷ []) = []
 bytes_of (a ∷ b ∷ s) =
-    if ltb (hexDigit a) 16 && ltb (hexDigit b) 16 then (hexDigit a * 16 + hexDigit b) ∷ bytes_of s else []
+    if ltb (hex_digit a) 16 && ltb (hex_digit b) 16 then (hex_digit a * 16 + hex_digit b) ∷ bytes_of s else []
 
 pub numbers
     : map number_of (utf8 "2024" ∷ utf8 "-7" ∷ utf8 "" ∷ utf8 "-" ∷ utf8 "12x" ∷ utf8 "9223372036854775808" ∷ [])
@@ -56,5 +56,5 @@ unfolding narrow narrowed number_of strtol-computes
 ints = refl
 
 pub hexadecimal : (bytes_of (utf8 "4a0Fff") ≡ 0x4a ∷ 0x0f ∷ 0xff ∷ []) × (bytes_of (utf8 "4ag0ff") ≡ 0x4a ∷ []) × (bytes_of (utf8 "4a0") ≡ 0x4a ∷ [])
-unfolding bytes_of hexDigit
+unfolding bytes_of hex_digit
 hexadecimal = (refl, refl, refl)

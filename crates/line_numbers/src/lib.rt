@@ -1,6 +1,6 @@
 // The items of a line: numbers, and bytes in hexadecimal digits.
 ghost use Rattle.std.specs.Prelude.{◌≡◌};
-ghost use Rattle.line_numbers.specs.Numbers.{number_of, narrowed, int_of, hexDigit, bytes_of};
+ghost use Rattle.line_numbers.specs.Numbers.{number_of, narrowed, int_of, hex_digit, bytes_of};
 ghost use Rattle.line_buffers.specs.Output.{Put};
 
 use line_buffers::put_byte;
@@ -59,7 +59,7 @@ pub fn read_int(text: &[u8]) -> Int
 
 // The value of a hexadecimal digit, 16 for any other byte.
 fn hex_digit(b: u8) -> u8
-    ensures { result ≡ hexDigit b }
+    ensures { result ≡ hex_digit b }
 {
     match b {
         b'0'..=b'9' => b - b'0',

@@ -14,11 +14,11 @@ use lib.Seq.{set_at}
 use Rattle.line_numbers.specs.Numbers.{int_of}
 use Rattle.line_numbers.specs.declared.Int.{Int}
 use Rattle.line_numbers.specs.declared.Int.TheVariants.{Value as Whole, Malformed as NoInt}
-use Rattle.line_questions.specs.Items.{areNumbers, value_of, numbers, numbersOf, numbersAt, itemsAt}
+use Rattle.line_questions.specs.Items.{are_numbers, value_of, numbers, numbers_of, numbers_at, items_at}
 
 -- numbers alone
-all-numbers : (zs : List ℤ) → areNumbers (map Whole zs) ≡ true
-unfolding areNumbers
+all-numbers : (zs : List ℤ) → are_numbers (map Whole zs) ≡ true
+unfolding are_numbers
 all-numbers [] = refl
 all-numbers (z ∷ zs) = all-numbers zs
 
@@ -26,13 +26,13 @@ values-back : (zs : List ℤ) → map value_of (map Whole zs) ≡ zs
 values-back [] = refl
 values-back (z ∷ zs) = ap (λ (l : List ℤ). z ∷ l) (values-back zs)
 
-numbers_of : (zs : List ℤ) → length zs ≤ 3 → numbersOf (map Whole zs) ≡ numbers zs
-unfolding numbersOf
-numbers_of zs h = rw (all-numbers zs, length-map zs Whole, le-leb (length zs) 3 h, values-back zs)
+numbers_of_lem : (zs : List ℤ) → length zs ≤ 3 → numbers_of (map Whole zs) ≡ numbers zs
+unfolding numbers_of
+numbers_of_lem zs h = rw (all-numbers zs, length-map zs Whole, le-leb (length zs) 3 h, values-back zs)
 
 -- an item that is none
-one-is-none : (zs : List ℤ) (ns : List Int) → areNumbers (map Whole zs ++ NoInt ∷ ns) ≡ false
-unfolding areNumbers
+one-is-none : (zs : List ℤ) (ns : List Int) → are_numbers (map Whole zs ++ NoInt ∷ ns) ≡ false
+unfolding are_numbers
 one-is-none [] ns = refl
 one-is-none (z ∷ zs) ns = one-is-none zs ns
 
@@ -42,7 +42,7 @@ pub record Read (line : List ℕ) (from : ℕ) (values : List ℤ) (count at : �
   pub few : length done ≤ 3
   pub size : length done ≡ count
   pub values-are : values ≡ done ++ replicate (3 - count) (pos 0)
-  pub whole : numbersOf (map Whole done ++ map int_of (itemsAt line at)) ≡ numbersAt line from
+  pub whole : numbers_of (map Whole done ++ map int_of (items_at line at)) ≡ numbers_at line from
 
 pub begun : (line : List ℕ) (from : ℕ) → Read line from (replicate 3 (pos 0)) 0 from
 begun line from = record { done = []; few = omega arith; size = refl; values-are = refl; whole = refl }
@@ -59,20 +59,20 @@ map-append [] ys = refl
 map-append (x ∷ xs) ys = ap (λ (l : List Int). Whole x ∷ l) (map-append xs ys)
 
 module _ {line : List ℕ} {from : ℕ} {values : List ℤ} {count at : ℕ} (d : Read line from values count at) where
-  pub ended : itemsAt line at ≡ [] → record { values = values; count = count } ≡ numbersAt line from
+  pub ended : items_at line at ≡ [] → record { values = values; count = count } ≡ numbers_at line from
   ended e =
-      rw (← d.whole, e, append-nil, numbers_of d.done d.few, d.values-are, d.size)
+      rw (← d.whole, e, append-nil, numbers_of_lem d.done d.few, d.values-are, d.size)
 
-  module _ (item : List ℕ) (end : ℕ) (items : itemsAt line at ≡ item ∷ itemsAt line end) where
-    pub no_number : int_of item ≡ NoInt → numbers [] ≡ numbersAt line from
-    unfolding numbersOf
+  module _ (item : List ℕ) (end : ℕ) (items : items_at line at ≡ item ∷ items_at line end) where
+    pub no_number : int_of item ≡ NoInt → numbers [] ≡ numbers_at line from
+    unfolding numbers_of
     no_number e =
-        rw (← d.whole, items, e, one-is-none d.done (map int_of (itemsAt line end)))
+        rw (← d.whole, items, e, one-is-none d.done (map int_of (items_at line end)))
 
-    pub too_many : 2 < count → numbers [] ≡ numbersAt line from
-    unfolding numbersOf
+    pub too_many : 2 < count → numbers [] ≡ numbers_at line from
+    unfolding numbers_of
     too_many h =
-        let all = map Whole d.done ++ int_of item ∷ map int_of (itemsAt line end) in
+        let all = map Whole d.done ++ int_of item ∷ map int_of (items_at line end) in
         let many : 3 < length all = rw length-append (omega (arith, length-map d.done Whole, d.size)) in
         rw (← d.whole, items, lt-leb (length all) 3 many, and-false)
 

@@ -1,6 +1,6 @@
 -- A number that is a place.
 -- `placed`: one that is not below 0 can be cast to 64 bits without a sign, and is a place.
--- `below-0`: one below 0 is no place. `no_place`: past the line's end there is none.
+-- `below-0`: one below 0 is no place. `no_place_lem`: past the line's end there is none.
 -- `next_place`: the next item ends at the next space. `place-small`: a place is below 2 ^ 63. Assumes nothing.
 use mathlib.Core.Path.{◌≡◌, refl, sym, subst}
 use mathlib.Core.Bool.{Bool, true, false, not, ◌||◌}
@@ -20,28 +20,28 @@ use Rattle.base_strtol.specs.Strtol.{answer, limit, minus, signed, strtol, strto
 use Rattle.line_buffers.specs.Input.{Found}
 use Rattle.line_numbers.specs.Numbers.{number_of}
 use Rattle.line_numbers.specs.declared.Number.TheVariants.{Value, Malformed}
-use Rattle.line_questions.specs.Items.{itemsAt, placeOf, noPlace, placeAt}
+use Rattle.line_questions.specs.Items.{items_at, place_of, no_place, place_at}
 use Rattle.line_questions.proofs.Parts.{next-item, no_items}
 
 module _ (from end : ℕ) where
   pub placed : (z : ℤ) → SFits w64 z → lt_z z (pos 0) ≡ false
-      → (T (non_neg z) × Fits w64 (nat_abs z)) × (placeOf (Value z) from end ≡ record { at = nat_abs z; end = end; malformed = false })
-  unfolding placeOf
+      → (T (non_neg z) × Fits w64 (nat_abs z)) × (place_of (Value z) from end ≡ record { at = nat_abs z; end = end; malformed = false })
+  unfolding place_of
   placed (pos n) f e = ((tt, omega arith), refl)
   placed (negsuc n) f e = absurd (subst T e tt)
 
-  pub below-0 : (z : ℤ) → lt_z z (pos 0) ≡ true → placeOf (Value z) from end ≡ noPlace from
-  unfolding placeOf
+  pub below-0 : (z : ℤ) → lt_z z (pos 0) ≡ true → place_of (Value z) from end ≡ no_place from
+  unfolding place_of
   below-0 (pos n) e = absurd (omega (arith, ltb-true n 0 e))
   below-0 (negsuc n) e = refl
 
 module _ (line : List ℕ) (from : ℕ) where
-  pub no_place : length line ≤ from → placeAt line from ≡ noPlace from
-  unfolding placeOf number_of strtol-computes
-  no_place h = rw (no_items line from h)
+  pub no_place_lem : length line ≤ from → place_at line from ≡ no_place from
+  unfolding place_of number_of strtol-computes
+  no_place_lem h = rw (no_items line from h)
 
   pub next_place : (end : ℕ) → from < length line → Found line (from + 1) 32 end
-      → placeAt line from ≡ placeOf (number_of (take (end - (from + 1)) (drop (from + 1) line))) from end
+      → place_at line from ≡ place_of (number_of (take (end - (from + 1)) (drop (from + 1) line))) from end
   next_place end h f =
       let t = drop (from + 1) line in
       let size : from + 1 + length (take (end - (from + 1)) t) ≡ end = omega (arith, f.on, f.within, length-take (end - (from + 1)) t, length-drop (from + 1) line) in
@@ -68,15 +68,15 @@ strtol-small s start n e =
     value-small (eqb (digits (unsigned t)) 0) (minus (trimmed t)) (number (unsigned t)) _ _ _ n e
 
 small_at : (none : Bool) (z : ℤ) (from end : ℕ) → ((n : ℕ) → z ≡ pos n → n < 2 ^ 63)
-    → (placeOf (if none then Malformed else Value z) from end).at < 2 ^ 63
-unfolding placeOf
+    → (place_of (if none then Malformed else Value z) from end).at < 2 ^ 63
+unfolding place_of
 small_at true z from end h = omega arith
 small_at false (pos n) from end h = h n refl
 small_at false (negsuc n) from end h = omega arith
 
-pub place-small : (line : List ℕ) (from : ℕ) → (placeAt line from).at < 2 ^ 63
+pub place-small : (line : List ℕ) (from : ℕ) → (place_at line from).at < 2 ^ 63
 unfolding number_of
 place-small line from =
-    let item = get_or (itemsAt line from) 0 [] in
+    let item = get_or (items_at line from) 0 [] in
     let n = strtol item 0 in
     small_at (n.overflow || eqb n.end 0 || not (eqb n.end (length item))) n.value from (from + 1 + length item) (strtol-small item 0)

@@ -14,8 +14,8 @@ use lib.ListN.{length, take, drop, drop_of_length-le, length-drop}
 use lib.Seq.{sets, sets-eq, take_all, take_at}
 use Rattle.base_notation.specs.Text.{utf8}
 use Rattle.line_buffers.specs.Output.{Put}
-use Rattle.line_numbers.specs.Numbers.{bytes_of, hexDigit}
-use Rattle.line_questions.specs.Items.{same, isHex, textAt, bytes_at, ReadBytes}
+use Rattle.line_numbers.specs.Numbers.{bytes_of, hex_digit}
+use Rattle.line_questions.specs.Items.{same, is_hex, text_at, bytes_at, ReadBytes}
 use Rattle.line_questions.specs.declared.Bytes.{Bytes}
 
 -- two digits are a byte
@@ -24,7 +24,7 @@ unfolding bytes_of
 half [] = omega arith
 half (a ∷ []) = omega arith
 half (a ∷ b ∷ s) =
-    (elim (ltb (hexDigit a) 16 && ltb (hexDigit b) 16) as (λ t. ltb (hexDigit a) 16 && ltb (hexDigit b) 16 ≡ t → 2 * length (bytes_of (a ∷ b ∷ s)) ≤ length (a ∷ b ∷ s)) [
+    (elim (ltb (hex_digit a) 16 && ltb (hex_digit b) 16) as (λ t. ltb (hex_digit a) 16 && ltb (hex_digit b) 16 ≡ t → 2 * length (bytes_of (a ∷ b ∷ s)) ≤ length (a ∷ b ∷ s)) [
       | true ↦ λ e. rw e (omega (arith, half s))
       | false ↦ λ e. rw e (omega arith)
     ]) refl
@@ -46,13 +46,13 @@ module _ (line : List ℕ) (from : ℕ) (before : List ℕ) where
   item-is = take_all (length line - (from + 1)) (drop (from + 1) line) (omega (arith, length-drop (from + 1) line))
 
   module _ (after : List ℕ) (count : ℕ) (within : from < length line) (p : Put before 0 (bytes_of item) after count) where
-    front : after ≡ sets before 0 (textAt line from)
+    front : after ≡ sets before 0 (text_at line from)
     front = p.is ∙ rw item-is
 
     size : length (drop (from + 1) line) ≡ length line - (from + 1)
     size = length-drop (from + 1) line
 
-    count-is : count ≡ min (length (textAt line from)) (length before)
+    count-is : count ≡ min (length (text_at line from)) (length before)
     count-is = omega (arith, rw item-is at p.next)
 
     pub no_bytes : item ≡ utf8 "-" → ReadBytes line from before after (record { count = 0; malformed = false })
@@ -69,12 +69,12 @@ module _ (line : List ℕ) (from : ℕ) (before : List ℕ) where
       no_text n =
           record {
             is =
-                (elim (leb (length (textAt line from)) (length before)) as (λ t. leb (length (textAt line from)) (length before) ≡ t → record { count = 0; malformed = true } ≡ bytes_at line from (length before)) [
+                (elim (leb (length (text_at line from)) (length before)) as (λ t. leb (length (text_at line from)) (length before) ≡ t → record { count = 0; malformed = true } ≡ bytes_at line from (length before)) [
                   | true ↦ λ e.
-                      let fit = leb-true (length (textAt line from)) (length before) e in
+                      let fit = leb-true (length (text_at line from)) (length before) e in
                       rw (
                         rw item-is at other,
-                        ne_eqb (2 * length (textAt line from)) (length (drop (from + 1) line)) (λ q. n (omega (arith, count-is, size))),
+                        ne_eqb (2 * length (text_at line from)) (length (drop (from + 1) line)) (λ q. n (omega (arith, count-is, size))),
                         lt-ltb from (length line) within,
                       )
                   | false ↦ λ e. rw (e, and-false, and-false)
@@ -86,13 +86,13 @@ module _ (line : List ℕ) (from : ℕ) (before : List ℕ) where
       unfolding bytes_at
       whole-text e =
           let most = half (drop (from + 1) line) in
-          let all : count ≡ length (textAt line from) = omega (arith, count-is, size) in
+          let all : count ≡ length (text_at line from) = omega (arith, count-is, size) in
           record {
             is = rw (
               rw item-is at other,
-              eq-eqb (2 * length (textAt line from)) (length (drop (from + 1) line)) (omega (arith, size)),
+              eq-eqb (2 * length (text_at line from)) (length (drop (from + 1) line)) (omega (arith, size)),
               lt-ltb from (length line) within,
-              le-leb (length (textAt line from)) (length before) (omega (arith, count-is)),
+              le-leb (length (text_at line from)) (length before) (omega (arith, count-is)),
               all,
             );
             front = front;
@@ -105,18 +105,18 @@ last-holds false b c e = absurd (false≢true e)
 
 -- the text that was read
 pub text-front : {line before after : List ℕ} {from : ℕ} {r : Bytes} → ReadBytes line from before after r → r.malformed ≡ false
-    → (r.count ≤ length before) × (take r.count after ≡ textAt line from)
+    → (r.count ≤ length before) × (take r.count after ≡ text_at line from)
 unfolding bytes_at
 text-front {line} {before} {after} {from} {r} p e =
-    split (ltb from (length line) && (isHex (drop (from + 1) line) && leb (length (textAt line from)) (length before))) refl
+    split (ltb from (length line) && (is_hex (drop (from + 1) line) && leb (length (text_at line from)) (length before))) refl
   where
-    split : (t : Bool) → ltb from (length line) && (isHex (drop (from + 1) line) && leb (length (textAt line from)) (length before)) ≡ t
-        → (r.count ≤ length before) × (take r.count after ≡ textAt line from)
+    split : (t : Bool) → ltb from (length line) && (is_hex (drop (from + 1) line) && leb (length (text_at line from)) (length before)) ≡ t
+        → (r.count ≤ length before) × (take r.count after ≡ text_at line from)
     split true q =
-        let size = length (textAt line from) in
+        let size = length (text_at line from) in
         let is : r ≡ record { count = size; malformed = false } = rw q at p.is in
-        let fits = leb-true size (length before) (last-holds (ltb from (length line)) (isHex (drop (from + 1) line)) (leb size (length before)) q) in
-        (rw is fits, rw (is, p.front, sets-eq (textAt line from) before 0 (omega arith), zero-add) (take_at (textAt line from) (drop size before) size refl))
+        let fits = leb-true size (length before) (last-holds (ltb from (length line)) (is_hex (drop (from + 1) line)) (leb size (length before)) q) in
+        (rw is fits, rw (is, p.front, sets-eq (text_at line from) before 0 (omega arith), zero-add) (take_at (text_at line from) (drop size before) size refl))
     split false q =
         let is : r ≡ record { count = 0; malformed = true } = rw q at p.is in
         absurd (false≢true (sym e ∙ rw is))

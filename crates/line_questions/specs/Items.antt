@@ -5,8 +5,8 @@ use Rattle.std.proofs.lemmas.List.Edits.{sets}
 use Rattle.base_notation.specs.Choice.{if◌then◌else◌}
 use Rattle.base_notation.specs.Text.{utf8}
 use Rattle.base_strtol.specs.Strtol.{strtol-computes}
-use Rattle.line_numbers.specs.Items.{items_of, itemsAfter}
-use Rattle.line_numbers.specs.Numbers.{number_of, narrowed, narrow, int_of, hexDigit, bytes_of}
+use Rattle.line_numbers.specs.Items.{items_of, items_after}
+use Rattle.line_numbers.specs.Numbers.{number_of, narrowed, narrow, int_of, hex_digit, bytes_of}
 use Rattle.line_numbers.specs.declared.Int.{Int}
 use Rattle.line_numbers.specs.declared.Int.TheVariants.{Value as Whole, Malformed as NoInt}
 use Rattle.line_numbers.specs.declared.Number.{Number}
@@ -16,14 +16,14 @@ use Rattle.line_questions.specs.declared.Numbers.{Numbers}
 use Rattle.line_questions.specs.declared.Place.{Place}
 
 -- the items of a line from the separator at a place on
-abbrev pub itemsAt : List ℕ → ℕ → List (List ℕ)
-itemsAt line from = itemsAfter (drop from line)
+abbrev pub items_at : List ℕ → ℕ → List (List ℕ)
+items_at line from = items_after (drop from line)
 
 -- all are numbers
-unfoldable pub areNumbers : List Int → Bool
-areNumbers [] = true
-areNumbers (Whole z ∷ ns) = areNumbers ns
-areNumbers (NoInt ∷ ns) = false
+unfoldable pub are_numbers : List Int → Bool
+are_numbers [] = true
+are_numbers (Whole z ∷ ns) = are_numbers ns
+are_numbers (NoInt ∷ ns) = false
 
 -- the number itself, 0 where it is none
 abbrev pub value_of : Int → ℤ
@@ -35,27 +35,27 @@ abbrev pub numbers : List ℤ → Numbers
 numbers zs = record { values = zs ++ replicate (3 - length zs) (pos 0); count = length zs }
 
 -- none where one is no number or there are more than three
-unfoldable pub numbersOf : List Int → Numbers
-numbersOf ns = if areNumbers ns && leb (length ns) 3 then numbers (map value_of ns) else numbers []
+unfoldable pub numbers_of : List Int → Numbers
+numbers_of ns = if are_numbers ns && leb (length ns) 3 then numbers (map value_of ns) else numbers []
 
 -- the numbers of the items from a place on
-abbrev pub numbersAt : List ℕ → ℕ → Numbers
-numbersAt line from = numbersOf (map int_of (itemsAt line from))
+abbrev pub numbers_at : List ℕ → ℕ → Numbers
+numbers_at line from = numbers_of (map int_of (items_at line from))
 
 -- no place: the item is not passed
-abbrev pub noPlace : ℕ → Place
-noPlace from = record { at = 0; end = from; malformed = true }
+abbrev pub no_place : ℕ → Place
+no_place from = record { at = 0; end = from; malformed = true }
 
 -- a number of 0 or more is a place
-unfoldable pub placeOf : Number → ℕ → ℕ → Place
-placeOf (Value (pos n)) from end = record { at = n; end = end; malformed = false }
-placeOf (Value (negsuc n)) from end = noPlace from
-placeOf Malformed from end = noPlace from
+unfoldable pub place_of : Number → ℕ → ℕ → Place
+place_of (Value (pos n)) from end = record { at = n; end = end; malformed = false }
+place_of (Value (negsuc n)) from end = no_place from
+place_of Malformed from end = no_place from
 
 -- the next item as a place, and where that item ends
-abbrev pub placeAt : List ℕ → ℕ → Place
-placeAt line from =
-    let item = get_or (itemsAt line from) 0 [] in placeOf (number_of item) from (from + 1 + length item)
+abbrev pub place_at : List ℕ → ℕ → Place
+place_at line from =
+    let item = get_or (items_at line from) 0 [] in place_of (number_of item) from (from + 1 + length item)
 
 -- two texts are the same
 unfoldable pub same : List ℕ → List ℕ → Bool
@@ -65,41 +65,41 @@ same (a ∷ s) [] = false
 same (a ∷ s) (b ∷ t) = eqb a b && same s t
 
 -- `-` for no bytes, or pairs of hexadecimal digits to the end
-abbrev pub isHex : List ℕ → Bool
-isHex item = same item (utf8 "-") || eqb (2 * length (bytes_of item)) (length item)
+abbrev pub is_hex : List ℕ → Bool
+is_hex item = same item (utf8 "-") || eqb (2 * length (bytes_of item)) (length item)
 
 -- the bytes of the last item, which begins after the separator at a place; `-` has none
-abbrev pub textAt : List ℕ → ℕ → List ℕ
-textAt line from = bytes_of (drop (from + 1) line)
+abbrev pub text_at : List ℕ → ℕ → List ℕ
+text_at line from = bytes_of (drop (from + 1) line)
 
 -- how many they are; malformed where there is no item, where it is not hexadecimal, and where they do not fit the room
 unfoldable pub bytes_at : List ℕ → ℕ → ℕ → Bytes
 bytes_at line from room =
-    if ltb from (length line) && (isHex (drop (from + 1) line) && leb (length (textAt line from)) room)
-    then record { count = length (textAt line from); malformed = false }
+    if ltb from (length line) && (is_hex (drop (from + 1) line) && leb (length (text_at line from)) room)
+    then record { count = length (text_at line from); malformed = false }
     else record { count = 0; malformed = true }
 
 -- what is read of them, in front of the buffer `after` that was `before`
 pub record ReadBytes (line : List ℕ) (from : ℕ) (before after : List ℕ) (r : Bytes) : Type 0 where
   pub is : r ≡ bytes_at line from (length before)
-  pub front : after ≡ sets before 0 (textAt line from)
+  pub front : after ≡ sets before 0 (text_at line from)
 
 -- unfolds all that items are computed by, for worked examples
 unfoldable pub items-compute : ℕ
-unfolding items_of areNumbers numbersOf placeOf same bytes_at narrow narrowed number_of bytes_of hexDigit strtol-computes
+unfolding items_of are_numbers numbers_of place_of same bytes_at narrow narrowed number_of bytes_of hex_digit strtol-computes
 items-compute = 0
 
 -- two numbers; a third item that is empty, which is no number; four numbers; no items
 pub three-numbers
-    : (numbersAt (utf8 "q 5 -7") 1 ≡ record { values = pos 5 ∷ negsuc 6 ∷ pos 0 ∷ []; count = 2 })
-    × (numbersAt (utf8 "q 5 -7 ") 1 ≡ numbers []) × (numbersAt (utf8 "q 1 2 3 4") 1 ≡ numbers []) × (numbersAt (utf8 "q") 1 ≡ numbers [])
+    : (numbers_at (utf8 "q 5 -7") 1 ≡ record { values = pos 5 ∷ negsuc 6 ∷ pos 0 ∷ []; count = 2 })
+    × (numbers_at (utf8 "q 5 -7 ") 1 ≡ numbers []) × (numbers_at (utf8 "q 1 2 3 4") 1 ≡ numbers []) × (numbers_at (utf8 "q") 1 ≡ numbers [])
 unfolding items-compute
 three-numbers = (refl, refl, refl, refl)
 
 -- a place; one below 0; one past 64 bits; none
 pub places
-    : (placeAt (utf8 "q 12 3132") 1 ≡ record { at = 12; end = 4; malformed = false }) × (placeAt (utf8 "q -1 31") 1 ≡ noPlace 1)
-    × (placeAt (utf8 "q 9223372036854775808 31") 1 ≡ noPlace 1) × (placeAt (utf8 "q") 1 ≡ noPlace 1)
+    : (place_at (utf8 "q 12 3132") 1 ≡ record { at = 12; end = 4; malformed = false }) × (place_at (utf8 "q -1 31") 1 ≡ no_place 1)
+    × (place_at (utf8 "q 9223372036854775808 31") 1 ≡ no_place 1) × (place_at (utf8 "q") 1 ≡ no_place 1)
 unfolding items-compute
 places = (refl, refl, refl, refl)
 

@@ -1,7 +1,7 @@
 // The items of a question: numbers, a place in a text, and the bytes of a text in hexadecimal digits, `-` for none.
 ghost use Rattle.std.specs.Prelude.{◌≡◌, []};
 ghost use Rattle.line_numbers.specs.declared.Number.TheVariants.{Value};
-ghost use Rattle.line_questions.specs.Items.{ReadBytes, noPlace, numbers, numbersAt, placeAt, placeOf};
+ghost use Rattle.line_questions.specs.Items.{ReadBytes, no_place, numbers, numbers_at, place_at, place_of};
 
 use line_numbers::{Int, Number};
 
@@ -21,7 +21,7 @@ fn no_numbers() -> Numbers
 
 // The numbers of the items from `from` on, where the first one's separator is.
 pub fn read_numbers(line: &[u8], from: usize) -> Numbers
-    ensures { result ≡ numbersAt line.now from }
+    ensures { result ≡ numbers_at line.now from }
 {
     let mut values = [0i32; 3];
     let mut count: usize = 0;
@@ -88,7 +88,7 @@ pub fn read_bytes(line: &[u8], from: usize, text: &mut [u8]) -> Bytes
 }
 
 fn no_place(from: usize) -> Place
-    ensures { result ≡ noPlace from }
+    ensures { result ≡ no_place from }
 {
     Place {
         at: 0,
@@ -99,7 +99,7 @@ fn no_place(from: usize) -> Place
 
 // The number of an item from `from` to `end`, as a place.
 fn place_of(n: i64, from: usize, end: usize) -> Place
-    ensures { result ≡ placeOf (Value n) from end }
+    ensures { result ≡ place_of (Value n) from end }
 {
     if n < 0 {
         return no_place(from);
@@ -113,7 +113,7 @@ fn place_of(n: i64, from: usize, end: usize) -> Place
 
 // The next item of a line as a place in a text, and where that item ends.
 pub fn read_place(line: &[u8], from: usize) -> Place
-    ensures { result ≡ placeAt line.now from }
+    ensures { result ≡ place_at line.now from }
 {
     if line.len() <= from {
         return no_place(from);

@@ -11,49 +11,49 @@ use lib.ListN.{get_or}
 use Rattle.base_notation.specs.Choice.{if◌then◌else◌}
 use Rattle.line_answers.specs.declared.Mode.{Mode}
 use Rattle.line_answers.specs.declared.Mode.TheVariants.{Parts, Instant, Date, Write}
-use Rattle.line_texts.specs.Modes.{modeName, Chosen}
+use Rattle.line_texts.specs.Modes.{mode_name, Chosen}
 use Rattle.line_texts.specs.declared.modes.Choice.{Choice}
 use Rattle.line_texts.specs.declared.modes.Choice.TheVariants.{Of, Unknown}
 
 -- a mode by the first letter of its name
-abbrev byLetter : ℕ → Mode
-byLetter b = if eqb b (code "p") then Parts else if eqb b (code "i") then Instant else if eqb b (code "d") then Date else Write
+abbrev by_letter : ℕ → Mode
+by_letter b = if eqb b (code "p") then Parts else if eqb b (code "i") then Instant else if eqb b (code "d") then Date else Write
 
-letter-back : (m : Mode) → byLetter (get_or (modeName m) 0 0) ≡ m
+letter-back : (m : Mode) → by_letter (get_or (mode_name m) 0 0) ≡ m
 letter-back Parts = refl
 letter-back Instant = refl
 letter-back Date = refl
 letter-back Write = refl
 
 -- two modes have two names
-one_name : (m n : Mode) → modeName m ≡ modeName n → m ≡ n
-one_name m n e = sym (letter-back m) ∙ ap (λ (l : List ℕ). byLetter (get_or l 0 0)) e ∙ letter-back n
+one_name : (m n : Mode) → mode_name m ≡ mode_name n → m ≡ n
+one_name m n e = sym (letter-back m) ∙ ap (λ (l : List ℕ). by_letter (get_or l 0 0)) e ∙ letter-back n
 
-abbrev modeIn : Choice → Mode
-modeIn (Of m) = m
-modeIn Unknown = Parts
+abbrev mode_in : Choice → Mode
+mode_in (Of m) = m
+mode_in Unknown = Parts
 
-abbrev isKnown : Choice → Bool
-isKnown (Of m) = true
-isKnown Unknown = false
+abbrev is_known : Choice → Bool
+is_known (Of m) = true
+is_known Unknown = false
 
 module _ {name : List ℕ} where
-  pub chosen : (m : Mode) → name ≡ modeName m → Chosen name (Of m)
+  pub chosen : (m : Mode) → name ≡ mode_name m → Chosen name (Of m)
   chosen m e =
       record {
         named = λ n f. ap Of (one_name m n (sym e ∙ f));
-        own = λ n f. e ∙ ap (λ (c : Choice). modeName (modeIn c)) f;
+        own = λ n f. e ∙ ap (λ (c : Choice). mode_name (mode_in c)) f;
       }
 
   -- a test that failed, and would not fail of this name
-  pub another : (m : Mode) {b : Bool} → b ≡ false → (name ≡ modeName m → b ≡ true) → name ≡ modeName m → ⊥
+  pub another : (m : Mode) {b : Bool} → b ≡ false → (name ≡ mode_name m → b ≡ true) → name ≡ mode_name m → ⊥
   another m fails passes e = false≢true (sym fails ∙ passes e)
 
-  pub unknown : (name ≡ modeName Parts → ⊥) → (name ≡ modeName Instant → ⊥) → (name ≡ modeName Date → ⊥) → (name ≡ modeName Write → ⊥)
+  pub unknown : (name ≡ mode_name Parts → ⊥) → (name ≡ mode_name Instant → ⊥) → (name ≡ mode_name Date → ⊥) → (name ≡ mode_name Write → ⊥)
       → Chosen name Unknown
-  unknown parts instant date write = record { named = λ m e. absurd (none m e); own = λ m f. absurd (false≢true (ap isKnown f)) }
+  unknown parts instant date write = record { named = λ m e. absurd (none m e); own = λ m f. absurd (false≢true (ap is_known f)) }
     where
-      none : (m : Mode) → name ≡ modeName m → ⊥
+      none : (m : Mode) → name ≡ mode_name m → ⊥
       none Parts e = parts e
       none Instant e = instant e
       none Date e = date e

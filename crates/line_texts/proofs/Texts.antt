@@ -16,27 +16,27 @@ use lib.ListN.{length, take, drop, length-append, length-drop, drop_of_length-le
 use lib.Seq.{drop-drop, take_all}
 use Rattle.base_notation.specs.Choice.{if◌then◌else◌}
 use Rattle.base_strtol.specs.Runs.{leading}
-use Rattle.line_answers.specs.Lines.{Answered, answerLine, tooLongAnswer}
+use Rattle.line_answers.specs.Lines.{Answered, answer_line, too_long_answer}
 use Rattle.line_answers.specs.declared.Mode.{Mode}
 use Rattle.line_buffers.specs.Input.{before, Found}
 use Rattle.line_buffers.specs.Output.{Put}
 use Rattle.line_buffers.proofs.Puts.{put_then, put-size}
-use Rattle.line_texts.specs.Texts.{newline, answerTo, answersAfter, answersTo, longest, NoneLeft, AnswersLine, AnswersLines}
+use Rattle.line_texts.specs.Texts.{newline, answer_to, answers_after, answers_to, longest, NoneLeft, AnswersLine, AnswersLines}
 use Rattle.line_texts.specs.declared.Done.{Done}
 
 -- the first line that ends in a text, after the bytes before the text
 pub next-line : (mode : Mode) (long : Bool) (line text : List ℕ) → before newline text < length text
-    → answersAfter mode long line text
-    ≡ answerTo mode long (line ++ take (before newline text) text) ++ answersTo mode false (drop (suc (before newline text)) text)
-unfolding answersAfter leading
+    → answers_after mode long line text
+    ≡ answer_to mode long (line ++ take (before newline text) text) ++ answers_to mode false (drop (suc (before newline text)) text)
+unfolding answers_after leading
 next-line mode long line [] h = absurd (omega arith)
 next-line mode long line (b ∷ text) h = split (eqb b newline) refl (λ line' h. next-line mode long line' text h)
   where
     split : (t : Bool) → eqb b newline ≡ t
         → ((line' : List ℕ) → before newline text < length text
-        → answersAfter mode long line' text ≡ answerTo mode long (line' ++ take (before newline text) text) ++ answersTo mode false (drop (suc (before newline text)) text))
-        → answersAfter mode long line (b ∷ text)
-        ≡ answerTo mode long (line ++ take (before newline (b ∷ text)) (b ∷ text)) ++ answersTo mode false (drop (suc (before newline (b ∷ text))) (b ∷ text))
+        → answers_after mode long line' text ≡ answer_to mode long (line' ++ take (before newline text) text) ++ answers_to mode false (drop (suc (before newline text)) text))
+        → answers_after mode long line (b ∷ text)
+        ≡ answer_to mode long (line ++ take (before newline (b ∷ text)) (b ∷ text)) ++ answers_to mode false (drop (suc (before newline (b ∷ text))) (b ∷ text))
     split true e again = rw (e, append-nil)
     split false e again = rw e (again (line ++ b ∷ []) (omega (arith, rw e at h)) ∙ rw (append_assoc line (b ∷ []) (take (before newline text) text)))
 
@@ -47,12 +47,12 @@ with_newline {l} {at = at} a q = (put_then l at a.put q, rw length-append (omega
 
 -- the answer to a line whose beginning was left off, and to a whole one
 module _ (mode : Mode) (line : List ℕ) {l l₁ l₂ : List ℕ} {at m r : ℕ} where
-  pub long-answered : Answered l at tooLongAnswer l₁ m → Put l₁ m (newline ∷ []) l₂ r → AnswersLine mode true line l at l₂ r
+  pub long-answered : Answered l at too_long_answer l₁ m → Put l₁ m (newline ∷ []) l₂ r → AnswersLine mode true line l at l₂ r
   long-answered a q =
       let both = with_newline a q in
       record { put = both.0; short = both.1 }
 
-  pub line-answered : Answered l at (answerLine mode line) l₁ m → Put l₁ m (newline ∷ []) l₂ r → AnswersLine mode false line l at l₂ r
+  pub line-answered : Answered l at (answer_line mode line) l₁ m → Put l₁ m (newline ∷ []) l₂ r → AnswersLine mode false line l at l₂ r
   line-answered a q =
       let both = with_newline a q in
       record { put = both.0; short = both.1 }
@@ -60,7 +60,7 @@ module _ (mode : Mode) (line : List ℕ) {l l₁ l₂ : List ℕ} {at m r : ℕ}
 -- lines are answered up to s.from, and the next one ends at `end`
 pub record Answering (mode : Mode) (long : Bool) (text out₀ out : List ℕ) (s : Done) (end : ℕ) : Type 0 where
   pub done : List ℕ
-  pub is : done ++ answersTo mode s.long (drop s.from text) ≡ answersTo mode long text
+  pub is : done ++ answers_to mode s.long (drop s.from text) ≡ answers_to mode long text
   pub put : Put out₀ 0 done out s.at
   pub whole : s.at ≡ length done
   pub within : s.at ≤ length out₀
@@ -98,7 +98,7 @@ module _ (mode : Mode) (long : Bool) (text out₀ : List ℕ) where
     abbrev line : List ℕ
     line = take (end - s.from) rest
 
-    next-is : end < length text → answersTo mode s.long rest ≡ answerTo mode s.long line ++ answersTo mode false (drop (end + 1) text)
+    next-is : end < length text → answers_to mode s.long rest ≡ answer_to mode s.long line ++ answers_to mode false (drop (end + 1) text)
     next-is h =
         let n-is : before newline rest ≡ end - s.from = omega (arith, a.ends) in
         let here : before newline rest < length rest = omega (arith, length-drop s.from text, a.ends) in
@@ -115,7 +115,7 @@ module _ (mode : Mode) (long : Bool) (text out₀ : List ℕ) where
         let size_is = size in
         let put_both = put_then out₀ 0 a.put l.put in
         record {
-          done = a.done ++ answerTo mode s.long line;
+          done = a.done ++ answer_to mode s.long line;
           is = rw append_assoc (rw (next-is h) at a.is);
           put = put_both;
           whole = rw length-append (omega (arith, l.put.next, l.short, a.whole));

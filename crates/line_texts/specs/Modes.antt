@@ -7,13 +7,13 @@ use Rattle.line_texts.specs.declared.modes.Choice.{Choice}
 use Rattle.line_texts.specs.declared.modes.Choice.TheVariants.{Of, Unknown}
 
 -- the name of each mode
-abbrev pub modeName : Mode → List ℕ
-modeName Parts = utf8 "parts"
-modeName Instant = utf8 "instant"
-modeName Date = utf8 "date"
-modeName Write = utf8 "write"
+abbrev pub mode_name : Mode → List ℕ
+mode_name Parts = utf8 "parts"
+mode_name Instant = utf8 "instant"
+mode_name Date = utf8 "date"
+mode_name Write = utf8 "write"
 
 -- r is the mode that has the name, and none where no mode has it
 pub record Chosen (name : List ℕ) (r : Choice) : Type 0 where
-  pub named : (m : Mode) → name ≡ modeName m → r ≡ Of m
-  pub own : (m : Mode) → r ≡ Of m → name ≡ modeName m
+  pub named : (m : Mode) → name ≡ mode_name m → r ≡ Of m
+  pub own : (m : Mode) → r ≡ Of m → name ≡ mode_name m

@@ -10,11 +10,11 @@ use Rattle.base_notation.proofs.Cases.{by-if}
 use Rattle.calendar_julian.specs.ToDate.{j2date}
 use Rattle.calendar_julian.specs.Week.{isoweek2j}
 use Rattle.calendar_julian.specs.declared.Date.{Date as JulianDate}
-use Rattle.template_patterns.specs.Patterns.{isoWeek}
-use Rattle.read_fields.specs.Fields.{get, is_zero, eqℤ, mode, d, year, ww, w, cc, j, mm}
+use Rattle.template_patterns.specs.Patterns.{iso_week}
+use Rattle.read_fields.specs.Fields.{get, is_zero, eq_ℤ, mode, d, year, ww, w, cc, j, mm}
 use Rattle.read_fields.specs.declared.Fields.{Fields}
-use Rattle.moment_date.specs.Dates.{yearBit, monthBit, dayBit, is_set, whole, yearMask, begun, withJulian, dayOfWeek, firstOfWeek, onDayOfYear, onDayOfMonth, withWeek, withMonthWeek, withDay, withMonth, fromDayOfYear, fromDayOfIsoYear, countsDayOfYear, lacksYear, withDayOfYear, thenDayOfYear, thenMonthWeek, thenWeek, datedOf}
-use Rattle.moment_year.specs.Year.{yearOf}
+use Rattle.moment_date.specs.Dates.{year_bit, month_bit, day_bit, is_set, whole, year_mask, begun, with_julian, day_of_week, first_of_week, on_day_of_year, on_day_of_month, with_week, with_month_week, with_day, with_month, from_day_of_year, from_day_of_iso_year, counts_day_of_year, lacks_year, with_day_of_year, then_day_of_year, then_month_week, then_week, dated_of}
+use Rattle.moment_year.specs.Year.{year_of}
 use Rattle.moment_date.specs.declared.Dated.{Dated}
 use Rattle.moment_date.specs.declared.Dated.TheVariants.{Date, Refused}
 use Rattle.moment_date.specs.declared.Days.{Days}
@@ -25,9 +25,9 @@ use Rattle.moment_date.proofs.Bits.{unset-before, unset-added}
 -- what is not set is the year 0, January, the first of the month
 pub record Marked (r : Days) : Type 0 where
   pub mask : r.set < 8
-  pub year : is_set yearBit r.set ≡ false → r.year ≡ pos 0
-  pub month : is_set monthBit r.set ≡ false → r.month ≡ pos 1
-  pub day : is_set dayBit r.set ≡ false → r.day ≡ pos 1
+  pub year : is_set year_bit r.set ≡ false → r.year ≡ pos 0
+  pub month : is_set month_bit r.set ≡ false → r.month ≡ pos 1
+  pub day : is_set day_bit r.set ≡ false → r.day ≡ pos 1
 
 -- of a date that was not refused
 abbrev pub MarkedDate : Dated → Type 0
@@ -40,8 +40,8 @@ value_of (Is z) = z
 value_of (Not why) = pos 0
 
 -- without a year and a century the year is 0
-year-marked : (f : Fields) (y : ℤ) → yearOf f ≡ Is y → is_set yearBit (yearMask f) ≡ false → y ≡ pos 0
-unfolding yearOf value_of
+year-marked : (f : Fields) (y : ℤ) → year_of f ≡ Is y → is_set year_bit (year_mask f) ≡ false → y ≡ pos 0
+unfolding year_of value_of
 year-marked f y is unset = split (is_zero (get f year)) (is_zero (get f cc)) refl refl
   where
     split : (a b : Bool) → is_zero (get f year) ≡ a → is_zero (get f cc) ≡ b → y ≡ pos 0
@@ -50,10 +50,10 @@ year-marked f y is unset = split (is_zero (get f year)) (is_zero (get f cc)) ref
     split false b p q = absurd (false≢true (sym (rw p at unset)))
 
 -- at first, and after each step
-begun-marked : (f : Fields) (y : ℤ) → yearOf f ≡ Is y → Marked (begun f y)
+begun-marked : (f : Fields) (y : ℤ) → year_of f ≡ Is y → Marked (begun f y)
 unfolding begun
 begun-marked f y is = record {
-  mask = by-if (λ (n : ℕ). n < 8) (is_zero (get f year) && is_zero (get f cc)) 0 yearBit (λ e. lit< tt) (λ e. lit< tt);
+  mask = by-if (λ (n : ℕ). n < 8) (is_zero (get f year) && is_zero (get f cc)) 0 year_bit (λ e. lit< tt) (λ e. lit< tt);
   year = year-marked f y is;
   month = λ e. refl;
   day = λ e. refl;
@@ -67,82 +67,82 @@ whole-marked a r = record {
   day = λ e. absurd (false≢true (sym e));
 }
 
-julian-marked : (f : Fields) (r : Days) → Marked r → Marked (withJulian f r)
-unfolding withJulian
+julian-marked : (f : Fields) (r : Days) → Marked r → Marked (with_julian f r)
+unfolding with_julian
 julian-marked f r m = by-if Marked (is_zero (get f j)) r (whole (j2date (get f j)) r) (λ e. m) (λ e. whole-marked (j2date (get f j)) r)
 
-day-of-year-marked : (r : Days) (v : Value) → Marked r → MarkedDate (onDayOfYear r v)
+day-of-year-marked : (r : Days) (v : Value) → Marked r → MarkedDate (on_day_of_year r v)
 day-of-year-marked r (Is n) m = record { mask = m.mask; year = m.year; month = m.month; day = m.day }
 day-of-year-marked r (Not why) m = tt
 
-day-of-month-marked : (r : Days) (v : Value) → Marked r → MarkedDate (onDayOfMonth r v)
+day-of-month-marked : (r : Days) (v : Value) → Marked r → MarkedDate (on_day_of_month r v)
 day-of-month-marked r (Is n) m = record { mask = m.mask; year = m.year; month = m.month; day = m.day }
 day-of-month-marked r (Not why) m = tt
 
-week-marked : (f : Fields) (r : Days) → Marked r → MarkedDate (withWeek f r)
-unfolding withWeek
+week-marked : (f : Fields) (r : Days) → Marked r → MarkedDate (with_week f r)
+unfolding with_week
 week-marked f r m =
     by-if MarkedDate (is_zero (get f ww)) _ _ (λ e. m)
-    (λ e. by-if MarkedDate (eqℤ (get f mode) (pos isoWeek)) _ _
-    (λ e. whole-marked (j2date (dayOfWeek (isoweek2j r.year (get f ww)) (get f d))) r)
-    (λ e. day-of-year-marked r (firstOfWeek (get f ww)) m))
+    (λ e. by-if MarkedDate (eq_ℤ (get f mode) (pos iso_week)) _ _
+    (λ e. whole-marked (j2date (day_of_week (isoweek2j r.year (get f ww)) (get f d))) r)
+    (λ e. day-of-year-marked r (first_of_week (get f ww)) m))
 
-month-week-marked : (f : Fields) (r : Days) → Marked r → MarkedDate (withMonthWeek f r)
-unfolding withMonthWeek
+month-week-marked : (f : Fields) (r : Days) → Marked r → MarkedDate (with_month_week f r)
+unfolding with_month_week
 month-week-marked f r m =
-    by-if MarkedDate (is_zero (get f w)) _ _ (λ e. m) (λ e. day-of-month-marked r (firstOfWeek (get f w)) m)
+    by-if MarkedDate (is_zero (get f w)) _ _ (λ e. m) (λ e. day-of-month-marked r (first_of_week (get f w)) m)
 
-day-marked : (r : Days) → Marked r → Marked (withDay r)
+day-marked : (r : Days) → Marked r → Marked (with_day r)
 day-marked r m =
     by-if Marked (is_zero r.dd) _ _ (λ e. m)
     (λ e. record {
-      mask = or_lt 3 r.set dayBit m.mask (lit< tt);
-      year = λ u. m.year (unset-before r.set dayBit yearBit (lit< tt) u);
-      month = λ u. m.month (unset-before r.set dayBit monthBit (lit< tt) u);
-      day = λ u. absurd (false≢true (sym (unset-added r.set dayBit dayBit (lit< tt) u)));
+      mask = or_lt 3 r.set day_bit m.mask (lit< tt);
+      year = λ u. m.year (unset-before r.set day_bit year_bit (lit< tt) u);
+      month = λ u. m.month (unset-before r.set day_bit month_bit (lit< tt) u);
+      day = λ u. absurd (false≢true (sym (unset-added r.set day_bit day_bit (lit< tt) u)));
     })
 
-month-marked : (f : Fields) (r : Days) → Marked r → Marked (withMonth f r)
+month-marked : (f : Fields) (r : Days) → Marked r → Marked (with_month f r)
 month-marked f r m =
     by-if Marked (is_zero (get f mm)) _ _ (λ e. m)
     (λ e. record {
-      mask = or_lt 3 r.set monthBit m.mask (lit< tt);
-      year = λ u. m.year (unset-before r.set monthBit yearBit (lit< tt) u);
-      month = λ u. absurd (false≢true (sym (unset-added r.set monthBit monthBit (lit< tt) u)));
-      day = λ u. m.day (unset-before r.set monthBit dayBit (lit< tt) u);
+      mask = or_lt 3 r.set month_bit m.mask (lit< tt);
+      year = λ u. m.year (unset-before r.set month_bit year_bit (lit< tt) u);
+      month = λ u. absurd (false≢true (sym (unset-added r.set month_bit month_bit (lit< tt) u)));
+      day = λ u. m.day (unset-before r.set month_bit day_bit (lit< tt) u);
     })
 
-both-marked : (r : Days) → Marked r → Marked (fromDayOfYear r)
-unfolding fromDayOfYear
+both-marked : (r : Days) → Marked r → Marked (from_day_of_year r)
+unfolding from_day_of_year
 both-marked r m = record {
   mask = or_lt 3 r.set 6 m.mask (lit< tt);
-  year = λ u. m.year (unset-before r.set 6 yearBit (lit< tt) u);
-  month = λ u. absurd (false≢true (sym (unset-added r.set 6 monthBit (lit< tt) u)));
-  day = λ u. absurd (false≢true (sym (unset-added r.set 6 dayBit (lit< tt) u)));
+  year = λ u. m.year (unset-before r.set 6 year_bit (lit< tt) u);
+  month = λ u. absurd (false≢true (sym (unset-added r.set 6 month_bit (lit< tt) u)));
+  day = λ u. absurd (false≢true (sym (unset-added r.set 6 day_bit (lit< tt) u)));
 }
 
-with-day-of-year-marked : (f : Fields) (r : Days) → Marked r → MarkedDate (withDayOfYear f r)
-unfolding withDayOfYear
+with-day-of-year-marked : (f : Fields) (r : Days) → Marked r → MarkedDate (with_day_of_year f r)
+unfolding with_day_of_year
 with-day-of-year-marked f r m =
-    by-if MarkedDate (not (countsDayOfYear r)) _ _ (λ e. m)
-    (λ e. by-if MarkedDate (lacksYear f r) _ _ (λ e. tt)
-    (λ e. by-if MarkedDate (eqℤ (get f mode) (pos isoWeek)) _ _ (λ e. whole-marked _ r) (λ e. both-marked r m)))
+    by-if MarkedDate (not (counts_day_of_year r)) _ _ (λ e. m)
+    (λ e. by-if MarkedDate (lacks_year f r) _ _ (λ e. tt)
+    (λ e. by-if MarkedDate (eq_ℤ (get f mode) (pos iso_week)) _ _ (λ e. whole-marked _ r) (λ e. both-marked r m)))
 
 -- each step on what the one before left
-then-day-of-year : (f : Fields) (a : Dated) → MarkedDate a → MarkedDate (thenDayOfYear f a)
+then-day-of-year : (f : Fields) (a : Dated) → MarkedDate a → MarkedDate (then_day_of_year f a)
 then-day-of-year f (Refused why) m = tt
-then-day-of-year f (Date r) m = with-day-of-year-marked f (withMonth f (withDay r)) (month-marked f (withDay r) (day-marked r m))
+then-day-of-year f (Date r) m = with-day-of-year-marked f (with_month f (with_day r)) (month-marked f (with_day r) (day-marked r m))
 
-then-month-week : (f : Fields) (a : Dated) → MarkedDate a → MarkedDate (thenMonthWeek f a)
+then-month-week : (f : Fields) (a : Dated) → MarkedDate a → MarkedDate (then_month_week f a)
 then-month-week f (Refused why) m = tt
-then-month-week f (Date r) m = then-day-of-year f (withMonthWeek f r) (month-week-marked f r m)
+then-month-week f (Date r) m = then-day-of-year f (with_month_week f r) (month-week-marked f r m)
 
-then-week : (f : Fields) (v : Value) → yearOf f ≡ v → MarkedDate (thenWeek f v)
+then-week : (f : Fields) (v : Value) → year_of f ≡ v → MarkedDate (then_week f v)
 then-week f (Not why) is = tt
 then-week f (Is y) is =
-    then-month-week f (withWeek f (withJulian f (begun f y)))
-    (week-marked f (withJulian f (begun f y)) (julian-marked f (begun f y) (begun-marked f y is)))
+    then-month-week f (with_week f (with_julian f (begun f y)))
+    (week-marked f (with_julian f (begun f y)) (julian-marked f (begun f y) (begun-marked f y is)))
 
-pub marked : (f : Fields) → MarkedDate (datedOf f)
-unfolding datedOf
-marked f = then-week f (yearOf f) refl
+pub marked : (f : Fields) → MarkedDate (dated_of f)
+unfolding dated_of
+marked f = then-week f (year_of f) refl

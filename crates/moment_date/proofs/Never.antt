@@ -14,12 +14,12 @@ use Rattle.base_notation.specs.Choice.{if◌then◌else◌}
 use Rattle.calendar_gregorian.specs.Civil.{length_of}
 use Rattle.calendar_gregorian.proofs.Dates.{each}
 use Rattle.moment_sums.specs.Within.{Within}
-use Rattle.moment_date.specs.Dates.{yearBit, monthBit, dayBit, is_set}
+use Rattle.moment_date.specs.Dates.{year_bit, month_bit, day_bit, is_set}
 use Rattle.moment_date.specs.declared.Days.{Days}
 use Rattle.moment_date.proofs.Marks.{Marked}
 
 -- the lengths differ in February alone
-pub longest : (inLeap : Bool) (m : ℤ) → length_of inLeap m ≤ length_of true m
+pub longest : (in_leap : Bool) (m : ℤ) → length_of in_leap m ≤ length_of true m
 longest true m = omega arith
 longest false (pos zero) = omega arith
 longest false (pos (suc zero)) = omega arith
@@ -31,27 +31,27 @@ longest false (negsuc n) = omega arith
 abbrev pub value_of : ℕ → ℕ → ℕ
 value_of bit set = if is_set bit set then bit else 0
 
-pub three-bits : (set : ℕ) → set < 8 → set ≡ value_of yearBit set + value_of monthBit set + value_of dayBit set
+pub three-bits : (set : ℕ) → set < 8 → set ≡ value_of year_bit set + value_of month_bit set + value_of day_bit set
 three-bits set h =
     eqb-true set _
-    (each (λ n. eqb n (value_of yearBit n + value_of monthBit n + value_of dayBit n) ≡ true) 0 7
+    (each (λ n. eqb n (value_of year_bit n + value_of month_bit n + value_of day_bit n) ≡ true) 0 7
     (refl, (refl, (refl, (refl, (refl, (refl, (refl, refl))))))) set zero-le (omega arith))
 
 -- each of the twelve months has a day
-some-day : (inLeap : Bool) (m : ℕ) → 1 ≤ m → m ≤ 12 → 1 ≤ length_of inLeap (pos m)
-some-day inLeap = each (λ m. 1 ≤ length_of inLeap (pos m)) 1 11 (omega arith)
+some-day : (in_leap : Bool) (m : ℕ) → 1 ≤ m → m ≤ 12 → 1 ≤ length_of in_leap (pos m)
+some-day in_leap = each (λ m. 1 ≤ length_of in_leap (pos m)) 1 11 (omega arith)
 
-pub has_first : (inLeap : Bool) (r : Days) → Marked r → Within 1 12 r.month → Within 1 31 r.day
-    → (is_set monthBit r.set ≡ true → is_set dayBit r.set ≡ true → Within 1 (length_of inLeap r.month) r.day)
-    → Within 1 (length_of inLeap r.month) r.day
-has_first inLeap r marks month day marked = split (is_set monthBit r.set) (is_set dayBit r.set) refl refl
+pub has_first : (in_leap : Bool) (r : Days) → Marked r → Within 1 12 r.month → Within 1 31 r.day
+    → (is_set month_bit r.set ≡ true → is_set day_bit r.set ≡ true → Within 1 (length_of in_leap r.month) r.day)
+    → Within 1 (length_of in_leap r.month) r.day
+has_first in_leap r marks month day marked = split (is_set month_bit r.set) (is_set day_bit r.set) refl refl
   where
-    split : (m d : Bool) → is_set monthBit r.set ≡ m → is_set dayBit r.set ≡ d → Within 1 (length_of inLeap r.month) r.day
+    split : (m d : Bool) → is_set month_bit r.set ≡ m → is_set day_bit r.set ≡ d → Within 1 (length_of in_leap r.month) r.day
     split false d p q = rw (marks.month p) day
     split true false p q = record {
       at = 1;
       is = marks.day q;
       from = omega arith;
-      to = rw month.is (some-day inLeap month.at month.from month.to);
+      to = rw month.is (some-day in_leap month.at month.from month.to);
     }
     split true true p q = marked p q

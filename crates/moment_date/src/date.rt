@@ -1,7 +1,7 @@
 // The date, from the year and the fields that were read, and which of year, month and day are set.
 ghost use Rattle.std.specs.Prelude.{◌≡◌, ◌&&◌};
 ghost use Rattle.calendar_julian.specs.ToDate.{j2date};
-ghost use Rattle.moment_date.specs.Dates.{yearMask, whole, begun, withJulian, dayOfWeek, firstOfWeek, withWeek, withMonthWeek, withDay, withMonth, aboveOne, fromDayOfYear, fromDayOfIsoYear, countsDayOfYear, lacksYear, withDayOfYear, datedOf, partInRange, dayInMonth, dateInRange, noSuchDay};
+ghost use Rattle.moment_date.specs.Dates.{year_mask, whole, begun, with_julian, day_of_week, first_of_week, with_week, with_month_week, with_day, with_month, above_one, from_day_of_year, from_day_of_iso_year, counts_day_of_year, lacks_year, with_day_of_year, dated_of, part_in_range, day_in_month, date_in_range, no_such_day};
 
 use super::{Dated, Days};
 use base_refusals::Refusal;
@@ -24,7 +24,7 @@ const ISO_WEEKS: i32 = MODE_ISOWEEK as i32;
 
 // The year is set where a year or a century was read.
 fn year_mask(f: Fields) -> u8
-    ensures { result ≡ yearMask f }
+    ensures { result ≡ year_mask f }
 {
     if f.values[field::YEAR] != 0 {
         return M_YEAR;
@@ -67,7 +67,7 @@ fn whole(jd: i32, r: Days) -> Days
 }
 
 pub fn with_julian(f: Fields, r: Days) -> Days
-    ensures { result ≡ withJulian f r }
+    ensures { result ≡ with_julian f r }
 {
     let j = f.values[field::J];
     if j == 0 {
@@ -78,7 +78,7 @@ pub fn with_julian(f: Fields, r: Days) -> Days
 
 // The day of an ISO week: Monday if no weekday was read; Sunday is 1, Monday 2.
 fn day_of_week(monday: i32, d: i32) -> i32
-    ensures { result ≡ dayOfWeek monday d }
+    ensures { result ≡ day_of_week monday d }
 {
     if d == 0 {
         return monday;
@@ -91,14 +91,14 @@ fn day_of_week(monday: i32, d: i32) -> i32
 
 // The first day of a week, counted from day 1.
 fn first_of_week(week: i32) -> Value
-    ensures { result ≡ firstOfWeek week }
+    ensures { result ≡ first_of_week week }
 {
     checked_add(checked_mul(checked_add(Value::Is(week), -1), 7), 1)
 }
 
 // A week of the year: of the ISO year it gives the date, else the day of the year.
 pub fn with_week(f: Fields, r: Days) -> Dated
-    ensures { result ≡ withWeek f r }
+    ensures { result ≡ with_week f r }
 {
     let week = f.values[field::WW];
     if week == 0 {
@@ -116,7 +116,7 @@ pub fn with_week(f: Fields, r: Days) -> Dated
 
 // A week of the month gives the day of the month.
 pub fn with_month_week(f: Fields, r: Days) -> Dated
-    ensures { result ≡ withMonthWeek f r }
+    ensures { result ≡ with_month_week f r }
 {
     let week = f.values[field::W];
     if week == 0 {
@@ -129,7 +129,7 @@ pub fn with_month_week(f: Fields, r: Days) -> Dated
 }
 
 pub fn with_day(r: Days) -> Days
-    ensures { result ≡ withDay r }
+    ensures { result ≡ with_day r }
 {
     if r.dd == 0 {
         return r;
@@ -142,7 +142,7 @@ pub fn with_day(r: Days) -> Days
 }
 
 pub fn with_month(f: Fields, r: Days) -> Days
-    ensures { result ≡ withMonth f r }
+    ensures { result ≡ with_month f r }
 {
     let month = f.values[field::MM];
     if month == 0 {
@@ -157,7 +157,7 @@ pub fn with_month(f: Fields, r: Days) -> Days
 
 // A month or day above 1 stays, any other is replaced.
 fn above_one(value: i32, other: i32) -> i32
-    ensures { result ≡ aboveOne value other }
+    ensures { result ≡ above_one value other }
 {
     if value <= 1 {
         return other;
@@ -167,7 +167,7 @@ fn above_one(value: i32, other: i32) -> i32
 
 // Month and day from the day of a Gregorian year.
 pub fn from_day_of_year(r: Days) -> Days
-    ensures { result ≡ fromDayOfYear r }
+    ensures { result ≡ from_day_of_year r }
 {
     let leap = pg_is_leap(r.year);
     let month = month_of_day(leap, r.ddd);
@@ -182,7 +182,7 @@ pub fn from_day_of_year(r: Days) -> Days
 
 // The date of a day of an ISO year.
 fn from_day_of_iso_year(r: Days) -> Days
-    ensures { result ≡ fromDayOfIsoYear r }
+    ensures { result ≡ from_day_of_iso_year r }
 {
     let before = wrapping_sub(pg_isoweek2j(r.year, 1), 1);
     whole(wrapping_add(before, r.ddd), r)
@@ -190,7 +190,7 @@ fn from_day_of_iso_year(r: Days) -> Days
 
 // The day of the year counts where month or day is not above 1.
 fn counts_day_of_year(r: Days) -> bool
-    ensures { result ≡ countsDayOfYear r }
+    ensures { result ≡ counts_day_of_year r }
 {
     if r.ddd == 0 {
         return false;
@@ -203,7 +203,7 @@ fn counts_day_of_year(r: Days) -> bool
 
 // It needs a year: one that is not 0, or BC.
 fn lacks_year(f: Fields, r: Days) -> bool
-    ensures { result ≡ lacksYear f r }
+    ensures { result ≡ lacks_year f r }
 {
     if r.year != 0 {
         return false;
@@ -212,7 +212,7 @@ fn lacks_year(f: Fields, r: Days) -> bool
 }
 
 pub fn with_day_of_year(f: Fields, r: Days) -> Dated
-    ensures { result ≡ withDayOfYear f r }
+    ensures { result ≡ with_day_of_year f r }
 {
     if !counts_day_of_year(r) {
         return Dated::Date(r);
@@ -228,7 +228,7 @@ pub fn with_day_of_year(f: Fields, r: Days) -> Dated
 
 // The date that the fields make, each step refused in this order.
 pub fn dated_of(f: Fields) -> Dated
-    ensures { result ≡ datedOf f }
+    ensures { result ≡ dated_of f }
 {
     match year_of(f) {
         Value::Is(year) => match with_week(f, with_julian(f, begun(f, year))) {
@@ -244,7 +244,7 @@ pub fn dated_of(f: Fields) -> Dated
 
 // A month or day that is set lies from 1 to its limit.
 fn part_in_range(set: u8, bit: u8, value: i32, limit: i32) -> bool
-    ensures { result ≡ partInRange set bit value limit }
+    ensures { result ≡ part_in_range set bit value limit }
 {
     if set & bit == 0 {
         return true;
@@ -257,7 +257,7 @@ fn part_in_range(set: u8, bit: u8, value: i32, limit: i32) -> bool
 
 // Where year, month and day are all set the month has the day.
 fn day_in_month(r: Days) -> bool
-    ensures { result ≡ dayInMonth r }
+    ensures { result ≡ day_in_month r }
 {
     if r.set != M_YEAR | M_MONTH | M_DAY {
         return true;
@@ -266,7 +266,7 @@ fn day_in_month(r: Days) -> bool
 }
 
 pub fn date_in_range(r: Days) -> bool
-    ensures { result ≡ dateInRange r }
+    ensures { result ≡ date_in_range r }
 {
     if !part_in_range(r.set, M_MONTH, r.month, 12) {
         return false;
@@ -280,7 +280,7 @@ pub fn date_in_range(r: Days) -> bool
 // Under the strict switch: month and day are set, the year is not, and the month never has the day. In a leap year each
 // month has its most days.
 pub fn no_such_day(strict: bool, set: u8, month: i32, day: i32) -> bool
-    ensures { result ≡ (strict && noSuchDay set month day) }
+    ensures { result ≡ (strict && no_such_day set month day) }
 {
     if !strict {
         return false;

@@ -5,7 +5,7 @@
 -- a + b is refused; where it is not, the sum fits and is an instant.
 -- `below-fits`, `under`, `down_fits`, `down-within`: the same for any other b, by first - b.
 -- `sub_small`: a bound for the difference of two naturals.
--- `day-fits`: a day within the limits of `dayOf` fits 32 bits.
+-- `day-fits`: a day within the limits of `day_of` fits 32 bits.
 use mathlib.Core.Path.{◌≡◌, refl, ◌∙◌, ap, sym}
 use mathlib.Core.Bool.{Bool, true, false, not, cond, ◌&&◌, and-false, false≢true}
 use Prim.Native.Nat.{ℕ, zero, suc, ◌+◌, ◌-◌, ◌≤◌, ◌<◌, ◌^◌}

@@ -11,17 +11,17 @@ use lib.Dec.{ltb}
 use lib.IntN.{ℤ, pos, negsuc, nat_abs, ◌+ℤ◌, ◌-ℤ◌, ◌*ℤ◌}
 use lib.Signed.{lt_z}
 use Rattle.base_notation.proofs.Cases.{by-if, both}
-use Rattle.calendar_gregorian.specs.Civil.{daysFromCivil}
+use Rattle.calendar_gregorian.specs.Civil.{days_from_civil}
 use Rattle.moment_time.specs.declared.Offset.{Offset}
 use Rattle.moment_time.specs.declared.Offset.TheVariants.{Absent, East}
 use Rattle.moment_parts.specs.Ranges.{Answered}
 use Rattle.moment_parts.specs.declared.Answer.{Answer}
 use Rattle.moment_parts.specs.declared.Answer.TheVariants.{Moment, Refused}
 use Rattle.moment_parts.specs.declared.Parts.{Parts}
-use Rattle.moment_instants.specs.ByTemplate.{instantBy, dayBy}
-use Rattle.moment_instants.specs.Instant.{fits64, finite, within, secondsOf, wallOf, lessOffset, epoch2000, away, roundedTo, thenRounded, thenOffset, instantOf, dayOf}
+use Rattle.moment_instants.specs.ByTemplate.{instant_by, day_by}
+use Rattle.moment_instants.specs.Instant.{fits64, finite, within, seconds_of, wall_of, less_offset, epoch2000, away, rounded_to, then_rounded, then_offset, instant_of, day_of}
 use Rattle.moment_instants.specs.Ranges.{Finite64, Finite32, InstantAnswered, DayAnswered}
-use Rattle.moment_instants.specs.Report.{undatedReport}
+use Rattle.moment_instants.specs.Report.{undated_report}
 use Rattle.moment_instants.specs.declared.epoch.Day.TheVariants.{Number, Refused as NoDay}
 use Rattle.moment_instants.specs.declared.epoch.Instant.{Instant}
 use Rattle.moment_instants.specs.declared.epoch.Instant.TheVariants.{Micros, Refused as NoInstant}
@@ -30,11 +30,11 @@ use Rattle.moment_instants.proofs.Range.{first, last, finite-is}
 
 -- refused as out of range: by 17, and by 18
 out : (strict : Bool) → InstantAnswered strict (NoInstant InstantRange)
-unfolding undatedReport
+unfolding undated_report
 out strict = inr refl
 
 no-day : (strict : Bool) → DayAnswered strict (NoDay DateRange)
-unfolding undatedReport
+unfolding undated_report
 no-day strict = inr refl
 
 -- between the numbers next to the ends
@@ -50,44 +50,44 @@ module _ (strict : Bool) where
       (λ e. let tests = both (not (lt_z last z)) _ (sym (finite-is z) ∙ e) in off-ends z (not-true _ tests.0) (not-true _ tests.1)) (λ e. out strict)
 
   -- each step of the definition, on what the one before left
-  wall-answered : (p : Parts) → InstantAnswered strict (wallOf p)
-  unfolding wallOf
+  wall-answered : (p : Parts) → InstantAnswered strict (wall_of p)
+  unfolding wall_of
   wall-answered p =
-      let whole = secondsOf p *ℤ pos 1000000 in
+      let whole = seconds_of p *ℤ pos 1000000 in
       by-if (InstantAnswered strict) (fits64 whole) _ _ (λ e. within-answered (whole +ℤ p.micros)) (λ e. out strict)
 
-  offset-answered : (offset : Offset) (wall : ℤ) → InstantAnswered strict (lessOffset offset wall)
-  unfolding lessOffset
+  offset-answered : (offset : Offset) (wall : ℤ) → InstantAnswered strict (less_offset offset wall)
+  unfolding less_offset
   offset-answered Absent wall = within-answered wall
   offset-answered (East seconds) wall = within-answered (wall -ℤ seconds *ℤ pos 1000000)
 
   -- what is not rounded is handed on
-  rounded-answered : (precision z : ℤ) → Finite64 z → InstantAnswered strict (roundedTo precision z)
-  unfolding roundedTo
+  rounded-answered : (precision z : ℤ) → Finite64 z → InstantAnswered strict (rounded_to precision z)
+  unfolding rounded_to
   rounded-answered precision z h =
       let scale = 10 ^ (6 - nat_abs precision) in
       let count = z -ℤ epoch2000 in
       by-if (InstantAnswered strict) (lt_z precision (pos 1) || lt_z (pos 5) precision) _ _ (λ e. h)
       (λ e. by-if (InstantAnswered strict) (fits64 count && ltb (nat_abs count + scale / 2) (2 ^ 63)) _ _ (λ e. within-answered (away scale count +ℤ epoch2000)) (λ e. out strict))
 
-  then-rounded : (precision : ℤ) (i : Instant) → InstantAnswered strict i → InstantAnswered strict (thenRounded precision i)
+  then-rounded : (precision : ℤ) (i : Instant) → InstantAnswered strict i → InstantAnswered strict (then_rounded precision i)
   then-rounded precision (NoInstant why) h = h
   then-rounded precision (Micros z) h = rounded-answered precision z h
 
-  then-offset : (p : Parts) (i : Instant) → InstantAnswered strict i → InstantAnswered strict (thenOffset p i)
+  then-offset : (p : Parts) (i : Instant) → InstantAnswered strict i → InstantAnswered strict (then_offset p i)
   then-offset p (NoInstant why) h = h
-  then-offset p (Micros wall) h = then-rounded p.precision (lessOffset p.offset wall) (offset-answered p.offset wall)
+  then-offset p (Micros wall) h = then-rounded p.precision (less_offset p.offset wall) (offset-answered p.offset wall)
 
   -- for all answers that are in range or refused by their number
-  pub instant-answered : (a : Answer) → Answered strict a → InstantAnswered strict (instantBy a)
-  unfolding instantOf undatedReport
+  pub instant-answered : (a : Answer) → Answered strict a → InstantAnswered strict (instant_by a)
+  unfolding instant_of undated_report
   instant-answered (Refused why) h = inl h
-  instant-answered (Moment p) h = then-offset p (wallOf p) (wall-answered p)
+  instant-answered (Moment p) h = then-offset p (wall_of p) (wall-answered p)
 
-  pub day-answered : (a : Answer) → Answered strict a → DayAnswered strict (dayBy a)
-  unfolding dayOf undatedReport
+  pub day-answered : (a : Answer) → Answered strict a → DayAnswered strict (day_by a)
+  unfolding day_of undated_report
   day-answered (Refused why) h = inl h
   day-answered (Moment p) h =
-      let n = daysFromCivil p.year p.month p.day in
+      let n = days_from_civil p.year p.month p.day in
       by-if (DayAnswered strict) (lt_z (negsuc 2147483647) n && lt_z n (pos 2147483647)) _ _
       (λ e. let tests = both (lt_z (negsuc 2147483647) n) _ e in record { above = tests.0; below = tests.1 }) (λ e. no-day strict)

@@ -19,7 +19,7 @@ use mir.Syntax.{w32, w64}
 use mir.Val.{SFits, to_z, of_z}
 use mir.Facts.{to_z-of_z}
 use Rattle.base_notation.proofs.Magnitudes.{add-mag, neg-mag}
-use Rattle.calendar_gregorian.specs.Civil.{daysFromCivil}
+use Rattle.calendar_gregorian.specs.Civil.{days_from_civil}
 use Rattle.calendar_gregorian.proofs.DaysFrom.{days-from-mag}
 use Rattle.moment_parts.specs.declared.Parts.{Parts}
 use Rattle.moment_instants.specs.Instant.{fits64}
@@ -65,7 +65,7 @@ pub record Ranged (p : Parts) : Type 0 where
 
 -- the seconds since 1970
 abbrev pub days : Parts → ℤ
-days p = daysFromCivil p.year p.month p.day
+days p = days_from_civil p.year p.month p.day
 
 abbrev pub clock : Parts → ℤ
 clock p = p.hour *ℤ pos 3600 +ℤ p.minute *ℤ pos 60 +ℤ p.second

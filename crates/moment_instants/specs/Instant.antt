@@ -1,9 +1,9 @@
 -- The instant and the day of a moment's parts, counted from 1970 as to_timestamp and to_date count them.
 use Rattle.std.specs.Prelude.{◌≡◌, refl, Bool, true, false, not, ◌&&◌, ◌||◌, ℕ, ◌+◌, ◌-◌, ◌*◌, ◌/◌, ◌^◌, ltb, eqb, ℤ, pos, negsuc, nat_abs, neg_ℤ, ◌+ℤ◌, ◌-ℤ◌, ◌*ℤ◌}
 use Rattle.std.specs.Int.Signed.{lt_z, mag}
-use Rattle.calendar_gregorian.specs.Civil.{civil-computes, daysFromCivil}
+use Rattle.calendar_gregorian.specs.Civil.{civil-computes, days_from_civil}
 use Rattle.base_notation.specs.Choice.{if◌then◌else◌}
-use Rattle.moment_date.specs.Dates.{allBits}
+use Rattle.moment_date.specs.Dates.{all_bits}
 use Rattle.moment_time.specs.declared.Offset.{Offset}
 use Rattle.moment_time.specs.declared.Offset.TheVariants.{Absent, East}
 use Rattle.moment_parts.specs.declared.Parts.{Parts}
@@ -26,19 +26,19 @@ abbrev pub within : ℤ → Instant
 within z = if finite z then Micros z else NoInstant InstantRange
 
 -- the second of the wall clock, and its microseconds: seconds × 1,000,000 fit 64 bits before the fraction is added
-unfoldable pub secondsOf : Parts → ℤ
-secondsOf p =
-    daysFromCivil p.year p.month p.day *ℤ pos 86400 +ℤ (p.hour *ℤ pos 3600 +ℤ p.minute *ℤ pos 60 +ℤ p.second)
+unfoldable pub seconds_of : Parts → ℤ
+seconds_of p =
+    days_from_civil p.year p.month p.day *ℤ pos 86400 +ℤ (p.hour *ℤ pos 3600 +ℤ p.minute *ℤ pos 60 +ℤ p.second)
 
-unfoldable pub wallOf : Parts → Instant
-wallOf p =
-    let whole = secondsOf p *ℤ pos 1000000 in
+unfoldable pub wall_of : Parts → Instant
+wall_of p =
+    let whole = seconds_of p *ℤ pos 1000000 in
     if fits64 whole then within (whole +ℤ p.micros) else NoInstant InstantRange
 
 -- the offset is subtracted; without one the wall clock is read as UTC
-unfoldable pub lessOffset : Offset → ℤ → Instant
-lessOffset Absent wall = within wall
-lessOffset (East seconds) wall = within (wall -ℤ seconds *ℤ pos 1000000)
+unfoldable pub less_offset : Offset → ℤ → Instant
+less_offset Absent wall = within wall
+less_offset (East seconds) wall = within (wall -ℤ seconds *ℤ pos 1000000)
 
 -- January 1 of 2000, from which PostgreSQL counts
 abbrev pub epoch2000 : ℤ
@@ -54,8 +54,8 @@ away scale (pos n) = pos (rounded scale n)
 away scale (negsuc n) = neg_ℤ (pos (rounded scale (n + 1)))
 
 -- to one to five digits of a second; the count from 2000 fits 64 bits, also with the half added that rounds it
-unfoldable pub roundedTo : ℤ → ℤ → Instant
-roundedTo precision z =
+unfoldable pub rounded_to : ℤ → ℤ → Instant
+rounded_to precision z =
     let scale = 10 ^ (6 - nat_abs precision) in
     let count = z -ℤ epoch2000 in
     if lt_z precision (pos 1) || lt_z (pos 5) precision then Micros z
@@ -63,33 +63,33 @@ roundedTo precision z =
     else NoInstant InstantRange
 
 -- what follows once the exact instant is known, and once the wall clock is
-abbrev pub thenRounded : ℤ → Instant → Instant
-thenRounded precision (NoInstant why) = NoInstant why
-thenRounded precision (Micros z) = roundedTo precision z
+abbrev pub then_rounded : ℤ → Instant → Instant
+then_rounded precision (NoInstant why) = NoInstant why
+then_rounded precision (Micros z) = rounded_to precision z
 
-abbrev pub thenOffset : Parts → Instant → Instant
-thenOffset p (NoInstant why) = NoInstant why
-thenOffset p (Micros wall) = thenRounded p.precision (lessOffset p.offset wall)
+abbrev pub then_offset : Parts → Instant → Instant
+then_offset p (NoInstant why) = NoInstant why
+then_offset p (Micros wall) = then_rounded p.precision (less_offset p.offset wall)
 
 -- the instant of a moment's parts
-unfoldable pub instantOf : Parts → Instant
-instantOf p = thenOffset p (wallOf p)
+unfoldable pub instant_of : Parts → Instant
+instant_of p = then_offset p (wall_of p)
 
 -- the day of a moment's parts, from -2147483647 to 2147483646
-unfoldable pub dayOf : Parts → Day
-dayOf p =
-    let n = daysFromCivil p.year p.month p.day in
+unfoldable pub day_of : Parts → Day
+day_of p =
+    let n = days_from_civil p.year p.month p.day in
     if lt_z (negsuc 2147483647) n && lt_z n (pos 2147483647) then Number n else NoDay DateRange
 
 -- parts at midnight, with all three marks
 abbrev pub parts : ℤ → ℕ → ℕ → ℕ → ℕ → Offset → Parts
 parts y m d us precision offset =
-    record { year = y; month = pos m; day = pos d; hour = pos 0; minute = pos 0; second = pos 0; micros = pos us; precision = pos precision; offset = offset; marks = allBits }
+    record { year = y; month = pos m; day = pos d; hour = pos 0; minute = pos 0; second = pos 0; micros = pos us; precision = pos precision; offset = offset; marks = all_bits }
 
 -- January 1 of 2000, one hour east of UTC; half a second rounded away from 2000 on both sides
 pub worked
-    : (instantOf (parts (pos 2000) 1 1 0 0 (East (pos 3600))) ≡ Micros (pos 946681200000000))
-    × (instantOf (parts (pos 2000) 1 1 50000 1 Absent) ≡ Micros (pos 946684800100000))
-    × (instantOf (parts (pos 1999) 12 31 50000 1 Absent) ≡ Micros (pos 946598400000000))
-unfolding instantOf wallOf secondsOf lessOffset roundedTo civil-computes
+    : (instant_of (parts (pos 2000) 1 1 0 0 (East (pos 3600))) ≡ Micros (pos 946681200000000))
+    × (instant_of (parts (pos 2000) 1 1 50000 1 Absent) ≡ Micros (pos 946684800100000))
+    × (instant_of (parts (pos 1999) 12 31 50000 1 Absent) ≡ Micros (pos 946598400000000))
+unfolding instant_of wall_of seconds_of less_offset rounded_to civil-computes
 worked = (refl, refl, refl)

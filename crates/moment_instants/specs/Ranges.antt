@@ -2,7 +2,7 @@
 use Rattle.std.specs.Prelude.{◌≡◌, refl, Bool, true, ◌⊎◌, ℕ, ℤ, pos, negsuc}
 use Rattle.std.specs.Int.Signed.{lt_z}
 use Rattle.moment_parts.specs.Ranges.{ReadNumber}
-use Rattle.moment_instants.specs.Report.{undatedReport}
+use Rattle.moment_instants.specs.Report.{undated_report}
 use Rattle.moment_instants.specs.declared.epoch.Day.{Day}
 use Rattle.moment_instants.specs.declared.epoch.Day.TheVariants.{Number, Refused as NoDay}
 use Rattle.moment_instants.specs.declared.epoch.Instant.{Instant}
@@ -30,12 +30,12 @@ DayNumber strict n = ReadNumber strict n ⊎ (n ≡ 18)
 -- an instant is from -9223372036854775807 to 9223372036854775806, or it is refused by its number
 abbrev pub InstantAnswered : Bool → Instant → Type 0
 InstantAnswered strict (Micros z) = Finite64 z
-InstantAnswered strict (NoInstant why) = InstantNumber strict (undatedReport why).number
+InstantAnswered strict (NoInstant why) = InstantNumber strict (undated_report why).number
 
 -- a day is from -2147483647 to 2147483646, or it is refused by its number
 abbrev pub DayAnswered : Bool → Day → Type 0
 DayAnswered strict (Number z) = Finite32 z
-DayAnswered strict (NoDay why) = DayNumber strict (undatedReport why).number
+DayAnswered strict (NoDay why) = DayNumber strict (undated_report why).number
 
 -- the first and the last instant, and the first and the last day
 pub worked

@@ -1,8 +1,8 @@
 // Instants and days, counted from 1970, of the parts of a moment.
 ghost use Rattle.std.specs.Prelude.{◌≡◌, ◌+◌, ◌-◌, ◌/◌, ◌<◌, ◌≤◌, ◌^◌, pos, nat_abs, ◌+ℤ◌, ◌*ℤ◌};
-ghost use Rattle.calendar_gregorian.specs.Civil.{daysFromCivil};
-ghost use Rattle.moment_instants.specs.Instant.{within, secondsOf, wallOf, lessOffset, rounded, away, roundedTo, instantOf, dayOf};
-ghost use Rattle.moment_instants.specs.Report.{undatedReport};
+ghost use Rattle.calendar_gregorian.specs.Civil.{days_from_civil};
+ghost use Rattle.moment_instants.specs.Instant.{within, seconds_of, wall_of, less_offset, rounded, away, rounded_to, instant_of, day_of};
+ghost use Rattle.moment_instants.specs.Report.{undated_report};
 
 use base_refusals::Report;
 use calendar_gregorian::days_from_civil;
@@ -72,14 +72,14 @@ fn clock_seconds(hour: i32, minute: i32, second: i32) -> i64
 
 // The days since 1970.
 fn days_of(p: Parts) -> i64
-    ensures { result ≡ daysFromCivil p.year p.month p.day }
+    ensures { result ≡ days_from_civil p.year p.month p.day }
 {
     days_from_civil(p.year, p.month, p.day)
 }
 
 // The seconds since 1970, by the wall clock.
 fn seconds_of(p: Parts) -> i64
-    ensures { result ≡ secondsOf p }
+    ensures { result ≡ seconds_of p }
 {
     let clock = clock_seconds(p.hour, p.minute, p.second);
     days_of(p) * 86400 + clock
@@ -87,7 +87,7 @@ fn seconds_of(p: Parts) -> i64
 
 // The microseconds of the wall clock.
 pub fn wall_from_tm(p: Parts) -> Instant
-    ensures { result ≡ wallOf p }
+    ensures { result ≡ wall_of p }
 {
     let seconds = seconds_of(p);
     if seconds < 0 - MOST_SECONDS {
@@ -101,7 +101,7 @@ pub fn wall_from_tm(p: Parts) -> Instant
 
 // The offset is subtracted; without one the wall clock is read as UTC.
 pub fn less_offset(offset: Offset, wall: i64) -> Instant
-    ensures { result ≡ lessOffset offset wall }
+    ensures { result ≡ less_offset offset wall }
 {
     match offset {
         Offset::Absent => added(wall, 0),
@@ -145,7 +145,7 @@ fn rounded_count(scale: u64, count: i64) -> i64
 
 // An instant rounded to one to five digits of a second; any other precision leaves it as it is.
 pub fn round_to_precision(t: i64, precision: i32) -> Instant
-    ensures { result ≡ roundedTo precision t }
+    ensures { result ≡ rounded_to precision t }
 {
     if precision < 1 {
         return Instant::Micros(t);
@@ -162,7 +162,7 @@ pub fn round_to_precision(t: i64, precision: i32) -> Instant
 
 // The instant of a moment's parts.
 pub fn instant_of(p: Parts) -> Instant
-    ensures { result ≡ instantOf p }
+    ensures { result ≡ instant_of p }
 {
     let wall = wall_from_tm(p);
     let Instant::Micros(micros) = wall else {
@@ -178,7 +178,7 @@ pub fn instant_of(p: Parts) -> Instant
 
 // The day of a moment's parts. The ends of the 32-bit range mean the infinities.
 pub fn day_of(p: Parts) -> Day
-    ensures { result ≡ dayOf p }
+    ensures { result ≡ day_of p }
 {
     let days = days_of(p);
     if -2147483648 < days {
@@ -191,7 +191,7 @@ pub fn day_of(p: Parts) -> Day
 
 // By which number a refusal is known, with its pattern and figures.
 pub fn report_of(why: Undated) -> Report
-    ensures { result ≡ undatedReport why }
+    ensures { result ≡ undated_report why }
 {
     match why {
         Undated::Unread(why) => moment_parts::report_of(why),

@@ -2,9 +2,9 @@
 mod epoch;
 
 ghost use Rattle.std.specs.Prelude.{◌≡◌};
-ghost use Rattle.moment_parts.specs.Parts.{partsBy};
-ghost use Rattle.template_nodes.specs.Bytes.{nodesIn};
-ghost use Rattle.moment_instants.specs.ByTemplate.{instantBy, dayBy, timestampOf, dateOf};
+ghost use Rattle.moment_parts.specs.Parts.{parts_by};
+ghost use Rattle.template_nodes.specs.Bytes.{nodes_in};
+ghost use Rattle.moment_instants.specs.ByTemplate.{instant_by, day_by, timestamp_of, date_of};
 
 use base_settings::Settings;
 pub use epoch::{
@@ -15,7 +15,7 @@ use moment_parts::Answer;
 
 // The instant and the day of an answer.
 fn instant_from(answer: Answer) -> Instant
-    ensures { result ≡ instantBy answer }
+    ensures { result ≡ instant_by answer }
 {
     match answer {
         Answer::Moment(p) => instant_of(p),
@@ -24,7 +24,7 @@ fn instant_from(answer: Answer) -> Instant
 }
 
 fn day_from(answer: Answer) -> Day
-    ensures { result ≡ dayBy answer }
+    ensures { result ≡ day_by answer }
 {
     match answer {
         Answer::Moment(p) => day_of(p),
@@ -34,26 +34,26 @@ fn day_from(answer: Answer) -> Day
 
 // The instant and the day of an input by a template.
 pub fn to_timestamp_text(set: Settings, t: &[u8], s: &[u8]) -> Instant
-    ensures { result ≡ timestampOf set t.now s.now }
+    ensures { result ≡ timestamp_of set t.now s.now }
 {
     instant_from(moment_parts::to_timestamp_parts(set, t, s))
 }
 
 pub fn to_date_text(set: Settings, t: &[u8], s: &[u8]) -> Day
-    ensures { result ≡ dateOf set t.now s.now }
+    ensures { result ≡ date_of set t.now s.now }
 {
     day_from(moment_parts::to_timestamp_parts(set, t, s))
 }
 
 // The same by the nodes that any bytes hold. t is the template that they were made from.
 pub fn instant_by(set: Settings, c: &[u8], t: &[u8], s: &[u8]) -> Instant
-    ensures { result ≡ instantBy (partsBy set (nodesIn c.now) t.now s.now) }
+    ensures { result ≡ instant_by (parts_by set (nodes_in c.now) t.now s.now) }
 {
     instant_from(moment_parts::parts_by(set, c, t, s))
 }
 
 pub fn day_by(set: Settings, c: &[u8], t: &[u8], s: &[u8]) -> Day
-    ensures { result ≡ dayBy (partsBy set (nodesIn c.now) t.now s.now) }
+    ensures { result ≡ day_by (parts_by set (nodes_in c.now) t.now s.now) }
 {
     day_from(moment_parts::parts_by(set, c, t, s))
 }

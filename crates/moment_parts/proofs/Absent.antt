@@ -18,7 +18,7 @@ use Rattle.base_notation.proofs.Cases.{both}
 use Rattle.read_fields.specs.Fields.{get, is_zero}
 use Rattle.read_fields.specs.declared.Fields.{Fields}
 use Rattle.moment_sums.proofs.Tests.{zero_bits}
-use Rattle.moment_parts.specs.Plain.{absentAll}
+use Rattle.moment_parts.specs.Plain.{absent_all}
 
 or-le : (a b : ℕ) → a ≤ bit_or a b
 or-le a b = omega (arith, or_add_and a b, and_le_r a b)
@@ -46,23 +46,23 @@ joined a [] = a
 joined a (z ∷ zs) = joined (bit_or a (of_z w32 z)) zs
 
 -- all numbers of a list are 0, and all have 32 bits
-abbrev pub allZero : List ℤ → Bool
-allZero [] = true
-allZero (z ∷ zs) = is_zero z && allZero zs
+abbrev pub all_zero : List ℤ → Bool
+all_zero [] = true
+all_zero (z ∷ zs) = is_zero z && all_zero zs
 
 abbrev pub Fitting : List ℤ → Type 0
 Fitting [] = Unit {0}
 Fitting (z ∷ zs) = (mag z < 2 ^ 31) × Fitting zs
 
-joined-zero : (a : ℕ) (zs : List ℤ) → Fitting zs → eqb (joined a zs) 0 ≡ (eqb a 0 && allZero zs)
+joined-zero : (a : ℕ) (zs : List ℤ) → Fitting zs → eqb (joined a zs) 0 ≡ (eqb a 0 && all_zero zs)
 joined-zero a [] h = and-true (eqb a 0)
 joined-zero a (z ∷ zs) h =
     joined-zero (bit_or a (of_z w32 z)) zs h.1
-    ∙ ap (λ (t : Bool). t && allZero zs) (or-test a (of_z w32 z) ∙ ap (λ (t : Bool). eqb a 0 && t) (zero_bits {z = z} (sfits_of h.0)))
-    ∙ and_assoc (eqb a 0) (is_zero z) (allZero zs)
+    ∙ ap (λ (t : Bool). t && all_zero zs) (or-test a (of_z w32 z) ∙ ap (λ (t : Bool). eqb a 0 && t) (zero_bits {z = z} (sfits_of h.0)))
+    ∙ and_assoc (eqb a 0) (is_zero z) (all_zero zs)
 
-pub all-zero : (z : ℤ) (zs : List ℤ) → Fitting (z ∷ zs) → eqb (joined (of_z w32 z) zs) 0 ≡ allZero (z ∷ zs)
-all-zero z zs h = joined-zero (of_z w32 z) zs h.1 ∙ ap (λ (t : Bool). t && allZero zs) (zero_bits {z = z} (sfits_of h.0))
+pub all-zero : (z : ℤ) (zs : List ℤ) → Fitting (z ∷ zs) → eqb (joined (of_z w32 z) zs) 0 ≡ all_zero (z ∷ zs)
+all-zero z zs h = joined-zero (of_z w32 z) zs h.1 ∙ ap (λ (t : Bool). t && all_zero zs) (zero_bits {z = z} (sfits_of h.0))
 
 pub zero_is : (z : ℤ) → is_zero z ≡ true → z ≡ pos 0
 zero_is (pos a) e = ap pos (eqb-true a 0 e)
@@ -73,6 +73,6 @@ abbrev pub Zeros : Fields → List ℕ → Type 0
 Zeros f [] = Unit {0}
 Zeros f (k ∷ ks) = (get f k ≡ pos 0) × Zeros f ks
 
-pub zeros : (f : Fields) (ks : List ℕ) → absentAll f ks ≡ true → Zeros f ks
+pub zeros : (f : Fields) (ks : List ℕ) → absent_all f ks ≡ true → Zeros f ks
 zeros f [] e = tt
-zeros f (k ∷ ks) e = let tests = both (is_zero (get f k)) (absentAll f ks) e in (zero_is (get f k) tests.0, zeros f ks tests.1)
+zeros f (k ∷ ks) e = let tests = both (is_zero (get f k)) (absent_all f ks) e in (zero_is (get f k) tests.0, zeros f ks tests.1)

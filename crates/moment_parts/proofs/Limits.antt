@@ -13,62 +13,62 @@ use borrow.Author.Tests.{lt-ltb, le-ltb}
 use lib.ListN.{length}
 use Rattle.base_notation.specs.Choice.{if◌then◌else◌}
 use Rattle.base_notation.proofs.Cases.{both}
-use Rattle.base_settings.specs.Limits.{templateLimit, inputLimit}
+use Rattle.base_settings.specs.Limits.{template_limit, input_limit}
 use Rattle.base_settings.specs.declared.Settings.{Settings}
 use Rattle.base_refusals.specs.declared.Refusal.TheVariants.{TooLong, NotUtf8}
-use Rattle.base_chars.specs.Utf8.{wellFormed}
-use Rattle.template_nodes.specs.Template.{nodesBy}
+use Rattle.base_chars.specs.Utf8.{well_formed}
+use Rattle.template_nodes.specs.Template.{nodes_by}
 use Rattle.template_nodes.specs.declared.Node.{Node}
-use Rattle.moment_parts.specs.Parts.{answerBy, partsBy, parts_of, partsRead, refusedBy}
+use Rattle.moment_parts.specs.Parts.{answer_by, parts_by, parts_of, parts_read, refused_by}
 
 -- by a template
 module _ (set : Settings) (t s : List ℕ) where
-  pub long-template : templateLimit set < length t → parts_of set t s ≡ refusedBy TooLong
+  pub long-template : template_limit set < length t → parts_of set t s ≡ refused_by TooLong
   unfolding parts_of
-  long-template h = rw (lt-ltb (templateLimit set) (length t) h)
+  long-template h = rw (lt-ltb (template_limit set) (length t) h)
 
-  module _ (short : length t ≤ templateLimit set) where
-    pub long-input : inputLimit set < length s → parts_of set t s ≡ refusedBy TooLong
+  module _ (short : length t ≤ template_limit set) where
+    pub long-input : input_limit set < length s → parts_of set t s ≡ refused_by TooLong
     unfolding parts_of
-    long-input h = rw (le-ltb (templateLimit set) (length t) short, lt-ltb (inputLimit set) (length s) h)
+    long-input h = rw (le-ltb (template_limit set) (length t) short, lt-ltb (input_limit set) (length s) h)
 
-    module _ (small : length s ≤ inputLimit set) where
-      pub bad-text : (wellFormed t && wellFormed s) ≡ false → parts_of set t s ≡ refusedBy NotUtf8
-      unfolding parts_of partsRead
+    module _ (small : length s ≤ input_limit set) where
+      pub bad-text : (well_formed t && well_formed s) ≡ false → parts_of set t s ≡ refused_by NotUtf8
+      unfolding parts_of parts_read
       bad-text e =
-          rw (le-ltb (templateLimit set) (length t) short, le-ltb (inputLimit set) (length s) small) (split (wellFormed t) (wellFormed s) e)
+          rw (le-ltb (template_limit set) (length t) short, le-ltb (input_limit set) (length s) small) (split (well_formed t) (well_formed s) e)
         where
           split : (a b : Bool) → (a && b) ≡ false
-              → (if not a then refusedBy NotUtf8 else if not b then refusedBy NotUtf8 else answerBy set.strict (nodesBy set.accents t) t s) ≡ refusedBy NotUtf8
+              → (if not a then refused_by NotUtf8 else if not b then refused_by NotUtf8 else answer_by set.strict (nodes_by set.accents t) t s) ≡ refused_by NotUtf8
           split false b e = refl
           split true false e = refl
           split true true e = absurd (false≢true (sym e))
 
-      pub read_by : (wellFormed t && wellFormed s) ≡ true → answerBy set.strict (nodesBy set.accents t) t s ≡ parts_of set t s
-      unfolding parts_of partsRead
+      pub read_by : (well_formed t && well_formed s) ≡ true → answer_by set.strict (nodes_by set.accents t) t s ≡ parts_of set t s
+      unfolding parts_of parts_read
       read_by e =
-          let tests = both (wellFormed t) (wellFormed s) e in
-          rw (le-ltb (templateLimit set) (length t) short, le-ltb (inputLimit set) (length s) small, tests.0, tests.1)
+          let tests = both (well_formed t) (well_formed s) e in
+          rw (le-ltb (template_limit set) (length t) short, le-ltb (input_limit set) (length s) small, tests.0, tests.1)
 
     -- a template in UTF-8, by its nodes
-    pub by-nodes : wellFormed t ≡ true → partsBy set (nodesBy set.accents t) t s ≡ parts_of set t s
-    unfolding parts_of partsBy
-    by-nodes e = rw (le-ltb (templateLimit set) (length t) short, e)
+    pub by-nodes : well_formed t ≡ true → parts_by set (nodes_by set.accents t) t s ≡ parts_of set t s
+    unfolding parts_of parts_by
+    by-nodes e = rw (le-ltb (template_limit set) (length t) short, e)
 
 -- by any nodes
 module _ (ns : List Node) (t s : List ℕ) where
-  pub input-long : (set : Settings) → inputLimit set < length s → refusedBy TooLong ≡ partsBy set ns t s
-  unfolding partsBy
-  input-long set h = rw (lt-ltb (inputLimit set) (length s) h)
+  pub input-long : (set : Settings) → input_limit set < length s → refused_by TooLong ≡ parts_by set ns t s
+  unfolding parts_by
+  input-long set h = rw (lt-ltb (input_limit set) (length s) h)
 
-  pub input-within : (set : Settings) → length s ≤ inputLimit set → partsRead set.strict ns t s ≡ partsBy set ns t s
-  unfolding partsBy
-  input-within set h = rw (le-ltb (inputLimit set) (length s) h)
+  pub input-within : (set : Settings) → length s ≤ input_limit set → parts_read set.strict ns t s ≡ parts_by set ns t s
+  unfolding parts_by
+  input-within set h = rw (le-ltb (input_limit set) (length s) h)
 
-  pub input-bad : (strict : Bool) → wellFormed s ≡ false → refusedBy NotUtf8 ≡ partsRead strict ns t s
-  unfolding partsRead
+  pub input-bad : (strict : Bool) → well_formed s ≡ false → refused_by NotUtf8 ≡ parts_read strict ns t s
+  unfolding parts_read
   input-bad strict e = rw e
 
-  pub input-good : (strict : Bool) → wellFormed s ≡ true → answerBy strict ns t s ≡ partsRead strict ns t s
-  unfolding partsRead
+  pub input-good : (strict : Bool) → well_formed s ≡ true → answer_by strict ns t s ≡ parts_read strict ns t s
+  unfolding parts_read
   input-good strict e = rw e

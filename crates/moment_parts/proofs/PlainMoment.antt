@@ -12,8 +12,8 @@ use lib.Dec.{eqb}
 use lib.Signed.{lt_z}
 use mir.Facts.{to_z_pos}
 use mir.Syntax.{w32}
-use Rattle.calendar_gregorian.specs.Civil.{length_of, monthOf}
-use Rattle.calendar_gregorian.specs.Gregorian.{isLeap}
+use Rattle.calendar_gregorian.specs.Civil.{length_of, month_of}
+use Rattle.calendar_gregorian.specs.Gregorian.{is_leap}
 use Rattle.calendar_gregorian.proofs.Dates.{each}
 use Rattle.calendar_gregorian.proofs.Months.{of-twelve}
 use Rattle.base_notation.specs.Choice.{if◌then◌else◌}
@@ -21,19 +21,19 @@ use Rattle.base_notation.proofs.Cases.{both}
 use Rattle.base_wrapping.specs.Wrap.{wrap32, ◌⊕◌}
 use Rattle.read_fields.specs.Fields.{get, is_zero, hh, mi, ss, ssss, dd, ddd, mm, ms, year, bc, ww, w, cc, j, us, clock, tzsign}
 use Rattle.read_fields.specs.declared.Fields.{Fields}
-use Rattle.moment_date.specs.Dates.{days, begun, withJulian, withWeek, withMonthWeek, withDayOfYear, datedOf, dateInRange, noSuchDay}
+use Rattle.moment_date.specs.Dates.{days, begun, with_julian, with_week, with_month_week, with_day_of_year, dated_of, date_in_range, no_such_day}
 use Rattle.moment_date.specs.declared.Dated.TheVariants.{Date}
 use Rattle.moment_date.specs.declared.Days.{Days}
 use Rattle.moment_sums.specs.Within.{Within, below}
 use Rattle.moment_sums.specs.declared.Value.TheVariants.{Is}
 use Rattle.moment_sums.proofs.Tests.{failed}
 use Rattle.moment_sums.proofs.Within.{from_zero, within}
-use Rattle.moment_time.specs.Time.{◌or◌, hourOf, minuteOf, second_of, clockHour, microsOf, timeInRange, offset_of, offsetInRange, checkedOffset}
+use Rattle.moment_time.specs.Time.{◌or◌, hour_of, minute_of, second_of, clock_hour, micros_of, time_in_range, offset_of, offset_in_range, checked_offset}
 use Rattle.moment_time.specs.declared.Offset.TheVariants.{Absent}
 use Rattle.moment_time.specs.declared.Zoned.TheVariants.{At}
-use Rattle.moment_year.specs.Year.{yearOf}
-use Rattle.moment_parts.specs.Parts.{checkedMoment, momentOf}
-use Rattle.moment_parts.specs.Plain.{is_plain, orFirst, plainMarks, hasDay, hasPlainMoment, plainParts}
+use Rattle.moment_year.specs.Year.{year_of}
+use Rattle.moment_parts.specs.Parts.{checked_moment, moment_of}
+use Rattle.moment_parts.specs.Plain.{is_plain, or_first, plain_marks, has_day, has_plain_moment, plain_parts}
 use Rattle.moment_parts.specs.declared.Answer.TheVariants.{Moment}
 use Rattle.moment_parts.proofs.Absent.{zero_is, zeros}
 
@@ -81,8 +81,8 @@ unfolding wrap32
 small-sum n h = let same : (0 + n) % 2 ^ 32 ≡ n = omega arith in rw same (to_z_pos w32 {n = n} (omega arith))
 
 -- what is marked with a year is no day without one
-with-year : (m n month day : ℤ) → noSuchDay (plainMarks m n) month day ≡ false
-unfolding noSuchDay plainMarks
+with-year : (m n month day : ℤ) → no_such_day (plain_marks m n) month day ≡ false
+unfolding no_such_day plain_marks
 with-year m n month day = split (is_zero m) (is_zero n)
   where
     split : (a b : Bool)
@@ -103,8 +103,8 @@ above (pos n) e = record { at = n; is = refl; from = ltb-false n 1 (failed _ e) 
 above (negsuc n) e = absurd (false≢true e)
 
 -- microseconds that are in range with their time
-in-second : (f : Fields) → timeInRange (get f hh) (get f mi) (get f ss) (get f us) ≡ true → Within 0 999999 (get f us)
-unfolding timeInRange
+in-second : (f : Fields) → time_in_range (get f hh) (get f mi) (get f ss) (get f us) ≡ true → Within 0 999999 (get f us)
+unfolding time_in_range
 in-second f e = from_zero (get f us) (both (below (get f hh) 24 && below (get f mi) 60 && below (get f ss) 60) (below (get f us) 1000000) e).1
 
 and-false : (b : Bool) → (b && false) ≡ false
@@ -112,87 +112,87 @@ and-false true = refl
 and-false false = refl
 
 -- the date, with its marks
-abbrev plainDate : Fields → Days
-plainDate f = days (get f year) (orFirst (get f mm)) (orFirst (get f dd)) (plainMarks (get f mm) (get f dd)) (get f dd) (get f ddd)
+abbrev plain_date : Fields → Days
+plain_date f = days (get f year) (or_first (get f mm)) (or_first (get f dd)) (plain_marks (get f mm) (get f dd)) (get f dd) (get f ddd)
 
 module _ (f : Fields) (p : Plain f) where
-  hour-is : clockHour f ≡ Is (get f hh)
-  unfolding clockHour hourOf
+  hour-is : clock_hour f ≡ Is (get f hh)
+  unfolding clock_hour hour_of
   hour-is = rw (p.clock-is, p.ssss-is) (ap Is (or-zero (get f hh)))
 
-  minute-is : minuteOf f ≡ get f mi
-  unfolding minuteOf
+  minute-is : minute_of f ≡ get f mi
+  unfolding minute_of
   minute-is = rw p.ssss-is (or-zero (get f mi))
 
   second_is : second_of f ≡ get f ss
   unfolding second_of
   second_is = rw p.ssss-is (or-zero (get f ss))
 
-  micros-is : Within 0 999999 (get f us) → microsOf f ≡ Is (get f us)
-  unfolding microsOf
+  micros-is : Within 0 999999 (get f us) → micros_of f ≡ Is (get f us)
+  unfolding micros_of
   micros-is h = rw (p.ms-is, h.is) (ap Is (small-sum h.at h.to))
 
-  offset-is : checkedOffset f ≡ At Absent
-  unfolding checkedOffset offsetInRange offset_of
+  offset-is : checked_offset f ≡ At Absent
+  unfolding checked_offset offset_in_range offset_of
   offset-is = rw p.tzsign-is
 
   -- a year above 0
   module _ (y : Above (get f year)) where
-    year-is : yearOf f ≡ Is (get f year)
-    unfolding yearOf
+    year-is : year_of f ≡ Is (get f year)
+    unfolding year_of
     year-is = rw (p.cc-is, p.bc-is, y.is, ne_eqb y.at 0 (λ e. omega (arith, e, y.from)), le-ltb y.at 0 (omega arith))
 
     not-absent : is_zero (get f year) ≡ false
     not-absent = rw y.is (ne_eqb y.at 0 (λ e. omega (arith, e, y.from)))
 
-    date-by : (a b : Bool) → is_zero (get f mm) ≡ a → is_zero (get f dd) ≡ b → datedOf f ≡ Date (plainDate f)
-    unfolding datedOf begun withJulian withWeek withMonthWeek withDayOfYear orFirst plainMarks
+    date-by : (a b : Bool) → is_zero (get f mm) ≡ a → is_zero (get f dd) ≡ b → dated_of f ≡ Date (plain_date f)
+    unfolding dated_of begun with_julian with_week with_month_week with_day_of_year or_first plain_marks
     date-by true true u v = simp (year-is, not-absent, p.j-is, p.ww-is, p.w-is, p.ddd-is, u, v)
     date-by true false u v = simp (year-is, not-absent, p.j-is, p.ww-is, p.w-is, p.ddd-is, u, v)
     date-by false true u v = simp (year-is, not-absent, p.j-is, p.ww-is, p.w-is, p.ddd-is, u, v)
     date-by false false u v = simp (year-is, not-absent, p.j-is, p.ww-is, p.w-is, p.ddd-is, u, v)
 
-    date-is : datedOf f ≡ Date (plainDate f)
+    date-is : dated_of f ≡ Date (plain_date f)
     date-is = date-by (is_zero (get f mm)) (is_zero (get f dd)) refl refl
 
 -- a month from 1 to 12, by its tests; none has more than 31 days
-of-year : (z : ℤ) → 1 ≤ monthOf z → monthOf z ≤ 12 → (lt_z z (pos 1) ≡ false) × (lt_z (pos 12) z ≡ false)
+of-year : (z : ℤ) → 1 ≤ month_of z → month_of z ≤ 12 → (lt_z z (pos 1) ≡ false) × (lt_z (pos 12) z ≡ false)
 of-year (pos m) h l = (le-ltb m 1 h, le-ltb 12 m l)
 of-year (negsuc m) h l = absurd (omega arith)
 
-most : (inLeap : Bool) (z : ℤ) → 1 ≤ monthOf z → monthOf z ≤ 12 → length_of inLeap z ≤ 31
+most : (in_leap : Bool) (z : ℤ) → 1 ≤ month_of z → month_of z ≤ 12 → length_of in_leap z ≤ 31
 most true (pos m) h l = each (λ m. length_of true (pos m) ≤ 31) 1 11 (omega arith) m h l
 most false (pos m) h l = each (λ m. length_of false (pos m) ≤ 31) 1 11 (omega arith) m h l
-most inLeap (negsuc m) h l = absurd (omega arith)
+most in_leap (negsuc m) h l = absurd (omega arith)
 
 -- a day that its month has is in range, whatever is marked
-module _ (y m n : ℤ) (has : hasDay y m n ≡ true) where
-  tests : (lt_z n (pos 1) ≡ false) × (lt_z (pos (length_of (isLeap (nat_abs y)) m)) n ≡ false)
-  unfolding hasDay
+module _ (y m n : ℤ) (has : has_day y m n ≡ true) where
+  tests : (lt_z n (pos 1) ≡ false) × (lt_z (pos (length_of (is_leap (nat_abs y)) m)) n ≡ false)
+  unfolding has_day
   tests = let two = both (not (lt_z n (pos 1))) _ has in (failed _ two.0, failed _ two.1)
 
-  day-within : Within 1 (length_of (isLeap (nat_abs y)) m) n
+  day-within : Within 1 (length_of (is_leap (nat_abs y)) m) n
   day-within = within n tests.0 tests.1
 
-  month-within : (1 ≤ monthOf m) × (monthOf m ≤ 12)
-  month-within = of-twelve (isLeap (nat_abs y)) m (omega (arith, day-within.from, day-within.to))
+  month-within : (1 ≤ month_of m) × (month_of m ≤ 12)
+  month-within = of-twelve (is_leap (nat_abs y)) m (omega (arith, day-within.from, day-within.to))
 
   at_most : lt_z (pos 31) n ≡ false
   at_most =
-      rw day-within.is (le-ltb 31 day-within.at (omega (arith, day-within.to, most (isLeap (nat_abs y)) m month-within.0 month-within.1)))
+      rw day-within.is (le-ltb 31 day-within.at (omega (arith, day-within.to, most (is_leap (nat_abs y)) m month-within.0 month-within.1)))
 
-  in-range : (set : ℕ) (inMonth inYear : ℤ) → dateInRange (days y m n set inMonth inYear) ≡ true
-  unfolding dateInRange
-  in-range set inMonth inYear =
+  in-range : (set : ℕ) (in_month in_year : ℤ) → date_in_range (days y m n set in_month in_year) ≡ true
+  unfolding date_in_range
+  in-range set in_month in_year =
       let month-tests = of-year m month-within.0 month-within.1 in
       simp (month-tests.0, month-tests.1, tests.0, tests.1, at_most, and-false)
 
-pub plain-moment : (strict : Bool) (f : Fields) → hasPlainMoment f ≡ true → momentOf strict f ≡ Moment (plainParts f)
-unfolding hasPlainMoment momentOf checkedMoment plainParts
+pub plain-moment : (strict : Bool) (f : Fields) → has_plain_moment f ≡ true → moment_of strict f ≡ Moment (plain_parts f)
+unfolding has_plain_moment moment_of checked_moment plain_parts
 plain-moment strict f e =
     let plain-test = both (is_plain f) _ e in
     let year-test = both (not (lt_z (get f year) (pos 1))) _ plain-test.1 in
-    let range-tests = both (hasDay (get f year) (orFirst (get f mm)) (orFirst (get f dd))) (timeInRange (get f hh) (get f mi) (get f ss) (get f us)) year-test.1 in
+    let range-tests = both (has_day (get f year) (or_first (get f mm)) (or_first (get f dd))) (time_in_range (get f hh) (get f mi) (get f ss) (get f us)) year-test.1 in
     let p = plain f plain-test.0 in
     simp (
       hour-is f p,
@@ -201,8 +201,8 @@ plain-moment strict f e =
       minute-is f p,
       second_is f p,
       offset-is f p,
-      in-range _ _ _ range-tests.0 (plainMarks (get f mm) (get f dd)) (get f dd) (get f ddd),
+      in-range _ _ _ range-tests.0 (plain_marks (get f mm) (get f dd)) (get f dd) (get f ddd),
       range-tests.1,
-      with-year (get f mm) (get f dd) (orFirst (get f mm)) (orFirst (get f dd)),
+      with-year (get f mm) (get f dd) (or_first (get f mm)) (or_first (get f dd)),
       and-false strict,
     )

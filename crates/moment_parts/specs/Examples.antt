@@ -7,14 +7,14 @@ use Rattle.moment_time.specs.Time.{time-computes}
 use Rattle.read_input.specs.Examples.{reading-computes}
 use Rattle.base_notation.specs.Text.{utf8}
 use Rattle.base_settings.specs.Limits.{cards, limits-compute, pages}
-use Rattle.base_settings.specs.Strict.{withStrict}
-use Rattle.base_refusals.specs.Report.{reportOf}
+use Rattle.base_settings.specs.Strict.{with_strict}
+use Rattle.base_refusals.specs.Report.{report_of}
 use Rattle.base_refusals.specs.declared.Refusal.TheVariants.{NotUtf8, TooLong}
 use Rattle.base_refusals.specs.declared.Report.{Report}
-use Rattle.base_chars.specs.Utf8.{sequence, wellFormedAfter}
-use Rattle.moment_parts.specs.Parts.{checkedMoment, momentOf, parts_of, partsRead, refusedBy}
-use Rattle.moment_parts.specs.Patterns.{patternName}
-use Rattle.moment_parts.specs.Report.{unreadReport}
+use Rattle.base_chars.specs.Utf8.{sequence, well_formed_after}
+use Rattle.moment_parts.specs.Parts.{checked_moment, moment_of, parts_of, parts_read, refused_by}
+use Rattle.moment_parts.specs.Patterns.{pattern_name}
+use Rattle.moment_parts.specs.Report.{unread_report}
 use Rattle.moment_parts.specs.declared.Answer.{Answer}
 use Rattle.moment_parts.specs.declared.Answer.TheVariants.{Moment, Refused}
 use Rattle.moment_parts.specs.declared.Parts.{Parts}
@@ -28,11 +28,11 @@ pub data Shown : Type 0 where
 
 -- a report and an answer, as they are shown
 abbrev pub reported : Report → Shown
-reported r = refused r.number (patternName r.pattern) r.first r.second
+reported r = refused r.number (pattern_name r.pattern) r.first r.second
 
 abbrev pub shown : Answer → Shown
 shown (Moment p) = accepted p
-shown (Refused why) = reported (unreadReport why)
+shown (Refused why) = reported (unread_report why)
 
 -- what users of the exercise pages see for a template and an input
 abbrev pub reads : String → String → Shown
@@ -76,7 +76,7 @@ Table =
 
 -- unfolds all that the answer to a pair is computed by
 unfoldable pub parts-compute : ℕ
-unfolding parts_of partsRead limits-compute momentOf checkedMoment unreadReport reportOf patternName wellFormedAfter sequence reading-computes time-computes date-computes
+unfolding parts_of parts_read limits-compute moment_of checked_moment unread_report report_of pattern_name well_formed_after sequence reading-computes time-computes date-computes
 parts-compute = 0
 
 pub table : Table
@@ -86,16 +86,16 @@ table = (refl, refl, refl, refl, refl, refl, refl, refl, refl, refl, refl, refl,
 -- each caller has its own limits, which are tested before UTF-8: 64 and 96 bytes for the flash cards, 256 and 512 for
 -- the exercise pages; 0xff is no UTF-8
 pub limited
-    : (parts_of cards (replicate 64 0xff) [] ≡ refusedBy NotUtf8) × (parts_of cards (replicate 65 0xff) [] ≡ refusedBy TooLong)
-    × (parts_of cards [] (replicate 96 0xff) ≡ refusedBy NotUtf8) × (parts_of cards [] (replicate 97 0xff) ≡ refusedBy TooLong)
-    × (parts_of pages (replicate 256 0xff) [] ≡ refusedBy NotUtf8) × (parts_of pages (replicate 257 0xff) [] ≡ refusedBy TooLong)
-    × (parts_of pages [] (replicate 512 0xff) ≡ refusedBy NotUtf8) × (parts_of pages [] (replicate 513 0xff) ≡ refusedBy TooLong)
-unfolding parts_of partsRead limits-compute wellFormedAfter sequence
+    : (parts_of cards (replicate 64 0xff) [] ≡ refused_by NotUtf8) × (parts_of cards (replicate 65 0xff) [] ≡ refused_by TooLong)
+    × (parts_of cards [] (replicate 96 0xff) ≡ refused_by NotUtf8) × (parts_of cards [] (replicate 97 0xff) ≡ refused_by TooLong)
+    × (parts_of pages (replicate 256 0xff) [] ≡ refused_by NotUtf8) × (parts_of pages (replicate 257 0xff) [] ≡ refused_by TooLong)
+    × (parts_of pages [] (replicate 512 0xff) ≡ refused_by NotUtf8) × (parts_of pages [] (replicate 513 0xff) ≡ refused_by TooLong)
+unfolding parts_of parts_read limits-compute well_formed_after sequence
 limited = (refl, refl, refl, refl, refl, refl, refl, refl)
 
 -- what they see under the strict switch
 abbrev pub strictly : String → String → Shown
-strictly t s = shown (parts_of (withStrict true pages) (utf8 t) (utf8 s))
+strictly t s = shown (parts_of (with_strict true pages) (utf8 t) (utf8 s))
 
 -- a day that its month never has is refused by 25, February 29 is not; a year that is read as 0 is not set, and with
 -- any other year it is 15. Before 25 come the ranges of month and day, after it those of the time and of the offset

@@ -1,21 +1,21 @@
 -- The parts answer: limits and UTF-8 first, then the fields that are read, then the moment that they make.
 use Rattle.std.specs.Prelude.{◌≡◌, Bool, true, false, not, ◌&&◌, ◌||◌, List, [], ℕ, ltb, ℤ, pos, length}
 use Rattle.base_notation.specs.Choice.{if◌then◌else◌}
-use Rattle.base_settings.specs.Limits.{templateLimit, inputLimit}
+use Rattle.base_settings.specs.Limits.{template_limit, input_limit}
 use Rattle.base_settings.specs.declared.Settings.{Settings}
 use Rattle.base_refusals.specs.declared.Refusal.{Refusal}
 use Rattle.base_refusals.specs.declared.Refusal.TheVariants.{TooLong, NotUtf8, FieldOverflow}
-use Rattle.base_chars.specs.Utf8.{wellFormed}
+use Rattle.base_chars.specs.Utf8.{well_formed}
 use Rattle.read_fields.specs.Fields.{get, ff}
 use Rattle.read_input.specs.Reader.{read_all}
 use Rattle.read_fields.specs.declared.Fields.{Fields}
 use Rattle.read_fields.specs.declared.Reading.{Reading}
 use Rattle.read_fields.specs.declared.Verdict.{Verdict}
 use Rattle.read_fields.specs.declared.Verdict.TheVariants.{Read as Done, Refused as Stopped}
-use Rattle.template_nodes.specs.Template.{nodesBy}
+use Rattle.template_nodes.specs.Template.{nodes_by}
 use Rattle.template_nodes.specs.declared.Node.{Node}
-use Rattle.moment_date.specs.Dates.{datedOf, dateInRange, noSuchDay}
-use Rattle.moment_time.specs.Time.{clockHour, minuteOf, second_of, microsOf, timeInRange, checkedOffset}
+use Rattle.moment_date.specs.Dates.{dated_of, date_in_range, no_such_day}
+use Rattle.moment_time.specs.Time.{clock_hour, minute_of, second_of, micros_of, time_in_range, checked_offset}
 use Rattle.moment_parts.specs.declared.Answer.{Answer}
 use Rattle.moment_parts.specs.declared.Answer.TheVariants.{Moment, Refused}
 use Rattle.moment_parts.specs.declared.Unread.TheVariants.{By, NoSuchDay}
@@ -29,19 +29,19 @@ use Rattle.moment_time.specs.declared.Zoned.{Zoned}
 use Rattle.moment_time.specs.declared.Zoned.TheVariants.{At, Refused as NoZone}
 
 -- refused, whatever the strict switch
-abbrev pub refusedBy : Refusal → Answer
-refusedBy why = Refused (By why)
+abbrev pub refused_by : Refusal → Answer
+refused_by why = Refused (By why)
 
 -- the moment with its offset
-abbrev pub withOffset : Fields → Days → ℤ → ℤ → Zoned → Answer
-withOffset f r hour us (NoZone why) = refusedBy why
-withOffset f r hour us (At offset) =
+abbrev pub with_offset : Fields → Days → ℤ → ℤ → Zoned → Answer
+with_offset f r hour us (NoZone why) = refused_by why
+with_offset f r hour us (At offset) =
     Moment (record {
       year = r.year;
       month = r.month;
       day = r.day;
       hour = hour;
-      minute = minuteOf f;
+      minute = minute_of f;
       second = second_of f;
       micros = us;
       precision = get f ff;
@@ -51,54 +51,54 @@ withOffset f r hour us (At offset) =
 
 -- the moment of a date, an hour and microseconds; its checks in order: date, under the strict switch the day without a
 -- year, time, offset
-unfoldable pub checkedMoment : Bool → Fields → Days → ℤ → ℤ → Answer
-checkedMoment strict f r hour us =
-    if not (dateInRange r) then refusedBy FieldOverflow
-    else if strict && noSuchDay r.set r.month r.day then Refused NoSuchDay
-    else if not (timeInRange hour (minuteOf f) (second_of f) us) then refusedBy FieldOverflow
-    else withOffset f r hour us (checkedOffset f)
+unfoldable pub checked_moment : Bool → Fields → Days → ℤ → ℤ → Answer
+checked_moment strict f r hour us =
+    if not (date_in_range r) then refused_by FieldOverflow
+    else if strict && no_such_day r.set r.month r.day then Refused NoSuchDay
+    else if not (time_in_range hour (minute_of f) (second_of f) us) then refused_by FieldOverflow
+    else with_offset f r hour us (checked_offset f)
 
 -- what follows once the fraction is known, once the date is, and once the hour is
-abbrev pub thenMoment : Bool → Fields → Days → ℤ → Value → Answer
-thenMoment strict f r hour (Not why) = refusedBy why
-thenMoment strict f r hour (Is us) = checkedMoment strict f r hour us
+abbrev pub then_moment : Bool → Fields → Days → ℤ → Value → Answer
+then_moment strict f r hour (Not why) = refused_by why
+then_moment strict f r hour (Is us) = checked_moment strict f r hour us
 
-abbrev pub thenMicros : Bool → Fields → ℤ → Dated → Answer
-thenMicros strict f hour (NoDate why) = refusedBy why
-thenMicros strict f hour (Date r) = thenMoment strict f r hour (microsOf f)
+abbrev pub then_micros : Bool → Fields → ℤ → Dated → Answer
+then_micros strict f hour (NoDate why) = refused_by why
+then_micros strict f hour (Date r) = then_moment strict f r hour (micros_of f)
 
-abbrev pub thenDate : Bool → Fields → Value → Answer
-thenDate strict f (Not why) = refusedBy why
-thenDate strict f (Is hour) = thenMicros strict f hour (datedOf f)
+abbrev pub then_date : Bool → Fields → Value → Answer
+then_date strict f (Not why) = refused_by why
+then_date strict f (Is hour) = then_micros strict f hour (dated_of f)
 
 -- the moment that the fields make: the hour, the date and the fraction, each refused in this order
-unfoldable pub momentOf : Bool → Fields → Answer
-momentOf strict f = thenDate strict f (clockHour f)
+unfoldable pub moment_of : Bool → Fields → Answer
+moment_of strict f = then_date strict f (clock_hour f)
 
 -- the answer once the fields are read
-abbrev pub thenFields : Bool → Verdict → Fields → Answer
-thenFields strict Done f = momentOf strict f
-thenFields strict (Stopped why) f = refusedBy why
+abbrev pub then_fields : Bool → Verdict → Fields → Answer
+then_fields strict Done f = moment_of strict f
+then_fields strict (Stopped why) f = refused_by why
 
 -- what the nodes of a template t make of an input
-abbrev pub answerBy : Bool → List Node → List ℕ → List ℕ → Answer
-answerBy strict ns t s = let r = read_all t s ns in thenFields strict r.verdict r.fields
+abbrev pub answer_by : Bool → List Node → List ℕ → List ℕ → Answer
+answer_by strict ns t s = let r = read_all t s ns in then_fields strict r.verdict r.fields
 
 -- a verdict and fields make that answer, whatever the strict switch
 abbrev pub Makes : Verdict → Fields → List Node → List ℕ → List ℕ → Type 0
-Makes verdict f ns t s = (strict : Bool) → thenFields strict verdict f ≡ answerBy strict ns t s
+Makes verdict f ns t s = (strict : Bool) → then_fields strict verdict f ≡ answer_by strict ns t s
 
 -- the parts of an input within its limit
-unfoldable pub partsRead : Bool → List Node → List ℕ → List ℕ → Answer
-partsRead strict ns t s = if not (wellFormed s) then refusedBy NotUtf8 else answerBy strict ns t s
+unfoldable pub parts_read : Bool → List Node → List ℕ → List ℕ → Answer
+parts_read strict ns t s = if not (well_formed s) then refused_by NotUtf8 else answer_by strict ns t s
 
 -- the parts of an input by these nodes, for a caller with settings; the nodes have their own mode
-unfoldable pub partsBy : Settings → List Node → List ℕ → List ℕ → Answer
-partsBy set ns t s = if ltb (inputLimit set) (length s) then refusedBy TooLong else partsRead set.strict ns t s
+unfoldable pub parts_by : Settings → List Node → List ℕ → List ℕ → Answer
+parts_by set ns t s = if ltb (input_limit set) (length s) then refused_by TooLong else parts_read set.strict ns t s
 
 -- the parts of an input by a template, which is compiled in the caller's mode
 unfoldable pub parts_of : Settings → List ℕ → List ℕ → Answer
 parts_of set t s =
-    if ltb (templateLimit set) (length t) || ltb (inputLimit set) (length s) then refusedBy TooLong
-    else if not (wellFormed t) then refusedBy NotUtf8
-    else partsRead set.strict (nodesBy set.accents t) t s
+    if ltb (template_limit set) (length t) || ltb (input_limit set) (length s) then refused_by TooLong
+    else if not (well_formed t) then refused_by NotUtf8
+    else parts_read set.strict (nodes_by set.accents t) t s

@@ -3,21 +3,21 @@ use Rattle.std.specs.Prelude.{◌≡◌, refl, List, [], ◌∷◌, ◌⊎◌, �
 use Rattle.std.proofs.Common.{inl, inr, ⊎_elim, arith}
 use Rattle.base_notation.specs.Choice.{if◌then◌else◌}
 use Rattle.base_notation.specs.Text.{utf8}
-use Rattle.base_refusals.specs.Report.{noPattern, reportOf}
+use Rattle.base_refusals.specs.Report.{no_pattern, report_of}
 use Rattle.base_refusals.specs.declared.Refusal.TheVariants.{NoYear, Short}
 use Rattle.template_patterns.specs.Patterns.{name_of}
 use Rattle.template_nodes.specs.Examples.{nodes-compute}
-use Rattle.template_nodes.specs.Template.{action, nodesOf}
+use Rattle.template_nodes.specs.Template.{action, nodes_of}
 use Rattle.template_nodes.specs.declared.Node.{Node}
 use Rattle.moment_parts.specs.declared.Answer.{Answer}
-use Rattle.moment_parts.specs.Report.{unreadReport}
+use Rattle.moment_parts.specs.Report.{unread_report}
 use Rattle.moment_parts.specs.declared.Answer.TheVariants.{Moment, Refused}
 use Rattle.moment_parts.specs.declared.Unread.{Unread}
 use Rattle.moment_parts.specs.declared.Unread.TheVariants.{By, NoSuchDay}
 
 -- a pattern by its name, or - for none
-unfoldable pub patternName : ℕ → List ℕ
-patternName p = if ltb p noPattern then name_of p else utf8 "-"
+unfoldable pub pattern_name : ℕ → List ℕ
+pattern_name p = if ltb p no_pattern then name_of p else utf8 "-"
 
 -- a number is that of a pattern among nodes
 abbrev pub PatternIn : List Node → ℕ → Type 0
@@ -26,11 +26,11 @@ PatternIn (n ∷ ns) k = ((n.kind ≡ action) × (n.pattern ≡ k)) ⊎ PatternI
 
 -- a number is that of no pattern, or of one among nodes
 abbrev pub NoneOrIn : List Node → ℕ → Type 0
-NoneOrIn ns k = (k ≡ noPattern) ⊎ PatternIn ns k
+NoneOrIn ns k = (k ≡ no_pattern) ⊎ PatternIn ns k
 
 -- a refusal names no pattern, or one among nodes
 abbrev pub NamedBy : List Node → Unread → Type 0
-NamedBy ns why = NoneOrIn ns (unreadReport why).pattern
+NamedBy ns why = NoneOrIn ns (unread_report why).pattern
 
 -- so does an answer, if it is a refusal
 abbrev pub NamesOwn : List Node → Answer → Type 0
@@ -39,11 +39,11 @@ NamesOwn ns (Refused why) = NamedBy ns why
 
 -- by the template -DD a day that is too short names DD, the second node; a missing year and a day that its month never
 -- has name none
-pub worked : NamedBy (nodesOf (utf8 "-DD")) (By (Short 9 2 1)) × NamedBy (nodesOf (utf8 "-DD")) (By NoYear) × NamedBy (nodesOf (utf8 "-DD")) NoSuchDay
-unfolding unreadReport reportOf nodes-compute
+pub worked : NamedBy (nodes_of (utf8 "-DD")) (By (Short 9 2 1)) × NamedBy (nodes_of (utf8 "-DD")) (By NoYear) × NamedBy (nodes_of (utf8 "-DD")) NoSuchDay
+unfolding unread_report report_of nodes-compute
 worked = (inr (inr (inl (refl, refl))), inl refl, inl refl)
 
 -- DD is no pattern of DDD; a literal has the number 0 and is no pattern
-pub others : (PatternIn (nodesOf (utf8 "DDD")) 9 → ⊥) × (PatternIn (nodesOf (utf8 "-")) 0 → ⊥)
+pub others : (PatternIn (nodes_of (utf8 "DDD")) 9 → ⊥) × (PatternIn (nodes_of (utf8 "-")) 0 → ⊥)
 unfolding nodes-compute
 others = (⊎_elim (λ h. omega (arith, h.1)) (λ h. h), ⊎_elim (λ h. omega (arith, h.0)) (λ h. h))

@@ -4,10 +4,10 @@ use Rattle.std.specs.Prelude.{◌≡◌, refl, Bool, true, false, ◌⊎◌, ℕ
 use Rattle.std.proofs.Common.{ap, ⊎_elim, arith}
 use Rattle.std.proofs.lemmas.Bool.{false≢true}
 use Rattle.calendar_gregorian.specs.Civil.{length_of}
-use Rattle.calendar_gregorian.specs.Gregorian.{isLeap}
-use Rattle.moment_date.specs.Dates.{yearBit, monthBit, dayBit, allBits, is_set}
+use Rattle.calendar_gregorian.specs.Gregorian.{is_leap}
+use Rattle.moment_date.specs.Dates.{year_bit, month_bit, day_bit, all_bits, is_set}
 pub use Rattle.moment_sums.specs.Within.{Within}
-use Rattle.moment_parts.specs.Report.{unreadReport}
+use Rattle.moment_parts.specs.Report.{unread_report}
 use Rattle.moment_parts.specs.declared.Answer.{Answer}
 use Rattle.moment_parts.specs.declared.Answer.TheVariants.{Moment, Refused}
 use Rattle.moment_time.specs.declared.Offset.{Offset}
@@ -21,7 +21,7 @@ OffsetWithin (East z) = nat_abs z ≤ 57540
 
 -- the day is one that its month has in that year
 abbrev pub HasDay : Parts → Type 0
-HasDay p = Within 1 (length_of (isLeap (nat_abs p.year)) p.month) p.day
+HasDay p = Within 1 (length_of (is_leap (nat_abs p.year)) p.month) p.day
 
 -- the day is one that its month has in a leap year, and so can have
 abbrev pub CanHaveDay : Parts → Type 0
@@ -40,11 +40,11 @@ pub record InRange (strict : Bool) (p : Parts) : Type 0 where
   pub day : Within 1 31 p.day
   pub offset : OffsetWithin p.offset
   pub marks : p.marks < 8
-  pub no-year : is_set yearBit p.marks ≡ false → p.year ≡ pos 0
-  pub no-month : is_set monthBit p.marks ≡ false → p.month ≡ pos 1
-  pub no-day : is_set dayBit p.marks ≡ false → p.day ≡ pos 1
-  pub year : (p.year ≡ pos 0 → ⊥) → is_set yearBit p.marks ≡ true
-  pub in-month : p.marks ≡ allBits → HasDay p
+  pub no-year : is_set year_bit p.marks ≡ false → p.year ≡ pos 0
+  pub no-month : is_set month_bit p.marks ≡ false → p.month ≡ pos 1
+  pub no-day : is_set day_bit p.marks ≡ false → p.day ≡ pos 1
+  pub year : (p.year ≡ pos 0 → ⊥) → is_set year_bit p.marks ≡ true
+  pub in-month : p.marks ≡ all_bits → HasDay p
   pub dated : (p.year ≡ pos 0 → ⊥) → HasDay p
   pub possible : strict ≡ true → CanHaveDay p
 
@@ -55,7 +55,7 @@ ReadNumber strict n = ((1 ≤ n) × (n ≤ 16)) ⊎ ((n ≡ 25) × (strict ≡ t
 -- an answer is a moment in range, or a refusal by such a number, with a pattern and two figures
 abbrev pub Answered : Bool → Answer → Type 0
 Answered strict (Moment p) = InRange strict p
-Answered strict (Refused why) = ReadNumber strict (unreadReport why).number
+Answered strict (Refused why) = ReadNumber strict (unread_report why).number
 
 -- 15:59 east and 15:59 west
 pub ends : OffsetWithin (East (pos 57540)) × OffsetWithin (East (negsuc 57539))

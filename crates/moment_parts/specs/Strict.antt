@@ -1,13 +1,13 @@
 -- What the strict switch changes: a day that its month never has is refused, and nothing else.
 use Rattle.std.specs.Prelude.{◌≡◌, refl, Bool, true, false, List, ◌⊎◌, ℕ, ◌≤◌, ℤ}
 use Rattle.base_notation.specs.Choice.{if◌then◌else◌}
-use Rattle.base_settings.specs.Strict.{withStrict}
+use Rattle.base_settings.specs.Strict.{with_strict}
 use Rattle.base_settings.specs.declared.Settings.{Settings}
 use Rattle.base_refusals.specs.declared.Refusal.TheVariants.{FieldOverflow, OffsetRange}
 use Rattle.calendar_gregorian.specs.Civil.{length_of}
 use Rattle.template_nodes.specs.declared.Node.{Node}
-use Rattle.moment_date.specs.Dates.{noSuchDay}
-use Rattle.moment_parts.specs.Parts.{partsBy, parts_of}
+use Rattle.moment_date.specs.Dates.{no_such_day}
+use Rattle.moment_parts.specs.Parts.{parts_by, parts_of}
 use Rattle.moment_parts.specs.Ranges.{midnight}
 use Rattle.moment_parts.specs.declared.Answer.{Answer}
 use Rattle.moment_parts.specs.declared.Answer.TheVariants.{Moment, Refused}
@@ -16,7 +16,7 @@ use Rattle.moment_parts.specs.declared.Unread.TheVariants.{By, NoSuchDay}
 -- what the strict answer a is where the other one is given: a moment stays, unless its month never has its day; a
 -- refusal stays, but 15 and 16 may come after such a day
 abbrev pub Strictly : (other a : Answer) → Type 0
-Strictly (Moment p) a = a ≡ (if noSuchDay p.marks p.month p.day then Refused NoSuchDay else Moment p)
+Strictly (Moment p) a = a ≡ (if no_such_day p.marks p.month p.day then Refused NoSuchDay else Moment p)
 Strictly (Refused why) a =
     (a ≡ Refused why) ⊎ ((a ≡ Refused NoSuchDay) × ((why ≡ By FieldOverflow) ⊎ (why ≡ By OffsetRange)))
 
@@ -24,11 +24,11 @@ Strictly (Refused why) a =
 pub worked
     : Strictly (Moment (midnight 0 2 30 6)) (Refused NoSuchDay) × Strictly (Moment (midnight 0 2 29 6)) (Moment (midnight 0 2 29 6))
     × Strictly (Moment (midnight 0 1 31 4)) (Moment (midnight 0 1 31 4))
-unfolding noSuchDay
+unfolding no_such_day
 worked = (refl, refl, refl)
 
 -- so it is by any nodes and by a template, for every caller; and no year gives a month more days than a leap year does
 pub record StrictAlone : Type 0 where
-  pub parts-by : (set : Settings) (ns : List Node) (t s : List ℕ) → Strictly (partsBy (withStrict false set) ns t s) (partsBy (withStrict true set) ns t s)
-  pub parts : (set : Settings) (t s : List ℕ) → Strictly (parts_of (withStrict false set) t s) (parts_of (withStrict true set) t s)
-  pub longest : (inLeap : Bool) (m : ℤ) → length_of inLeap m ≤ length_of true m
+  pub parts-by : (set : Settings) (ns : List Node) (t s : List ℕ) → Strictly (parts_by (with_strict false set) ns t s) (parts_by (with_strict true set) ns t s)
+  pub parts : (set : Settings) (t s : List ℕ) → Strictly (parts_of (with_strict false set) t s) (parts_of (with_strict true set) t s)
+  pub longest : (in_leap : Bool) (m : ℤ) → length_of in_leap m ≤ length_of true m

@@ -2,11 +2,11 @@
 mod plain;
 
 ghost use Rattle.std.specs.Prelude.{◌≡◌, ◌&&◌, ◌≤◌, length};
-ghost use Rattle.read_fields.specs.Fields.{fields_of, noFields};
-ghost use Rattle.base_chars.specs.Utf8.{wellFormed};
-ghost use Rattle.template_nodes.specs.Bytes.{nodesIn};
-ghost use Rattle.moment_parts.specs.Parts.{Makes, checkedMoment, momentOf, partsBy, parts_of, thenFields};
-ghost use Rattle.moment_parts.specs.Report.{unreadReport};
+ghost use Rattle.read_fields.specs.Fields.{fields_of, no_fields};
+ghost use Rattle.base_chars.specs.Utf8.{well_formed};
+ghost use Rattle.template_nodes.specs.Bytes.{nodes_in};
+ghost use Rattle.moment_parts.specs.Parts.{Makes, checked_moment, moment_of, parts_by, parts_of, then_fields};
+ghost use Rattle.moment_parts.specs.Report.{unread_report};
 
 use base_refusals::{Refusal, Report};
 use base_settings::Settings;
@@ -50,7 +50,7 @@ pub enum Answer {
 
 // By which number a refusal is known, with its pattern and figures.
 pub fn report_of(why: Unread) -> Report
-    ensures { result ≡ unreadReport why }
+    ensures { result ≡ unread_report why }
 {
     match why {
         Unread::By(refusal) => base_refusals::report_of(refusal),
@@ -61,7 +61,7 @@ pub fn report_of(why: Unread) -> Report
 // The moment of a date, an hour and microseconds. The checks in order: date, under the strict switch the day without a
 // year, time, offset.
 pub fn checked_moment(strict: bool, f: Fields, r: Days, hour: i32, micros: i32) -> Answer
-    ensures { result ≡ checkedMoment strict f r hour micros }
+    ensures { result ≡ checked_moment strict f r hour micros }
 {
     let precision = f.values[field::FF];
     let minute = minute_of(f);
@@ -94,7 +94,7 @@ pub fn checked_moment(strict: bool, f: Fields, r: Days, hour: i32, micros: i32) 
 
 // The moment that the fields make: the hour, the date and the fraction, each refused in this order.
 pub fn moment_of(strict: bool, f: Fields) -> Answer
-    ensures { result ≡ momentOf strict f }
+    ensures { result ≡ moment_of strict f }
 {
     match clock_hour(f) {
         Value::Is(hour) => match dated_of(f) {
@@ -110,7 +110,7 @@ pub fn moment_of(strict: bool, f: Fields) -> Answer
 
 // The answer once the fields are read.
 fn answered(strict: bool, verdict: Verdict, f: Fields) -> Answer
-    ensures { result ≡ thenFields strict verdict f }
+    ensures { result ≡ then_fields strict verdict f }
 {
     match verdict {
         Verdict::Read => moment_of(strict, f),
@@ -120,8 +120,8 @@ fn answered(strict: bool, verdict: Verdict, f: Fields) -> Answer
 
 // What is read of an input that is UTF-8 and within its limit goes into fields that are lent, all absent at first.
 fn fields_within(c: &[u8], t: &[u8], s: &[u8], f: &mut [i32; 24]) -> Verdict
-    requires { (length s.now ≤ 512) × (fields_of f.old ≡ noFields) }
-    ensures { Makes result (fields_of f.new) (nodesIn c.now) t.now s.now }
+    requires { (length s.now ≤ 512) × (fields_of f.old ≡ no_fields) }
+    ensures { Makes result (fields_of f.new) (nodes_in c.now) t.now s.now }
 {
     let read = read_input::dch_from_char(c, t, s, f);
     read.verdict
@@ -129,8 +129,8 @@ fn fields_within(c: &[u8], t: &[u8], s: &[u8], f: &mut [i32; 24]) -> Verdict
 
 // The fields of an input by the nodes that any bytes hold. t is the template that they were made from.
 pub fn fields_by(set: Settings, c: &[u8], t: &[u8], s: &[u8], f: &mut [i32; 24]) -> Verdict
-    requires { fields_of f.old ≡ noFields }
-    ensures { thenFields set.strict result (fields_of f.new) ≡ partsBy set (nodesIn c.now) t.now s.now }
+    requires { fields_of f.old ≡ no_fields }
+    ensures { then_fields set.strict result (fields_of f.new) ≡ parts_by set (nodes_in c.now) t.now s.now }
 {
     let limit = base_settings::input_limit(set);
     if limit < s.len() {
@@ -143,7 +143,7 @@ pub fn fields_by(set: Settings, c: &[u8], t: &[u8], s: &[u8], f: &mut [i32; 24])
 }
 
 fn are_utf8(t: &[u8], s: &[u8]) -> bool
-    ensures { result ≡ (wellFormed t.now && wellFormed s.now) }
+    ensures { result ≡ (well_formed t.now && well_formed s.now) }
 {
     if !base_chars::is_utf8(t) {
         return false;
@@ -153,8 +153,8 @@ fn are_utf8(t: &[u8], s: &[u8]) -> bool
 
 // The fields of an input by a template.
 pub fn fields_of(set: Settings, t: &[u8], s: &[u8], f: &mut [i32; 24]) -> Verdict
-    requires { fields_of f.old ≡ noFields }
-    ensures { thenFields set.strict result (fields_of f.new) ≡ parts_of set t.now s.now }
+    requires { fields_of f.old ≡ no_fields }
+    ensures { then_fields set.strict result (fields_of f.new) ≡ parts_of set t.now s.now }
 {
     if base_settings::template_limit(set) < t.len() {
         return Verdict::Refused(Refusal::TooLong);
@@ -172,7 +172,7 @@ pub fn fields_of(set: Settings, t: &[u8], s: &[u8], f: &mut [i32; 24]) -> Verdic
 
 // The parts of an input by the nodes that any bytes hold, and by a template.
 pub fn parts_by(set: Settings, c: &[u8], t: &[u8], s: &[u8]) -> Answer
-    ensures { result ≡ partsBy set (nodesIn c.now) t.now s.now }
+    ensures { result ≡ parts_by set (nodes_in c.now) t.now s.now }
 {
     let mut values = [0; 24];
     let verdict = fields_by(set, c, t, s, &mut values);

@@ -2,7 +2,7 @@
 // of twelve, seconds of the day, milliseconds and an offset.
 ghost use Rattle.std.specs.Prelude.{◌≡◌};
 ghost use Rattle.read_fields.specs.Fields.{fields_of};
-ghost use Rattle.moment_parts.specs.Plain.{hasDay, hasPlainMoment, is_plain, orFirst, plainMarks, plainParts};
+ghost use Rattle.moment_parts.specs.Plain.{has_day, has_plain_moment, is_plain, or_first, plain_marks, plain_parts};
 
 use crate::Parts;
 use calendar_gregorian::{month_length, pg_is_leap};
@@ -29,7 +29,7 @@ fn is_plain(f: &[i32; 24]) -> bool
 
 // A month or a day that is absent is the first.
 fn or_first(value: i32) -> i32
-    ensures { result ≡ orFirst value }
+    ensures { result ≡ or_first value }
 {
     if value == 0 {
         return 1;
@@ -39,7 +39,7 @@ fn or_first(value: i32) -> i32
 
 // The marks of a date with a year: which of month and day were read.
 fn plain_marks(month: i32, day: i32) -> u8
-    ensures { result ≡ plainMarks month day }
+    ensures { result ≡ plain_marks month day }
 {
     if month == 0 {
         if day == 0 {
@@ -55,7 +55,7 @@ fn plain_marks(month: i32, day: i32) -> u8
 
 // Whether a month of a year has a day. No other number than 1 to 12 is a month.
 fn has_day(year: i32, month: i32, day: i32) -> bool
-    ensures { result ≡ hasDay year month day }
+    ensures { result ≡ has_day year month day }
 {
     if day < 1 {
         return false;
@@ -65,7 +65,7 @@ fn has_day(year: i32, month: i32, day: i32) -> bool
 
 // Whether the fields are plain, with a year above 0, and in range.
 pub fn has_plain_moment(f: &[i32; 24]) -> bool
-    ensures { result ≡ hasPlainMoment (fields_of f.now) }
+    ensures { result ≡ has_plain_moment (fields_of f.now) }
 {
     if !is_plain(f) {
         return false;
@@ -87,7 +87,7 @@ pub fn has_plain_moment(f: &[i32; 24]) -> bool
 
 // The parts of that moment.
 pub fn plain_parts(f: &[i32; 24]) -> Parts
-    ensures { result ≡ plainParts (fields_of f.now) }
+    ensures { result ≡ plain_parts (fields_of f.now) }
 {
     let mm = get(f, field::MM);
     let dd = get(f, field::DD);

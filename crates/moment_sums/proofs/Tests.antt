@@ -12,19 +12,19 @@ use lib.IntN.{ℤ, pos, negsuc}
 use mir.Facts.{to_z-of_z, to_z_pos}
 use mir.Syntax.{w32}
 use mir.Val.{SFits, to_z, of_z}
-use Rattle.read_fields.specs.Fields.{eqℤ, is_zero}
+use Rattle.read_fields.specs.Fields.{eq_ℤ, is_zero}
 
-same : (n : ℕ) (z : ℤ) → z ≡ pos n → eqℤ z (pos n) ≡ true
+same : (n : ℕ) (z : ℤ) → z ≡ pos n → eq_ℤ z (pos n) ≡ true
 same n z e = rw (e, eq-eqb n n refl)
 
-different : (n : ℕ) (z : ℤ) → (z ≡ pos n → ⊥) → eqℤ z (pos n) ≡ false
+different : (n : ℕ) (z : ℤ) → (z ≡ pos n → ⊥) → eq_ℤ z (pos n) ≡ false
 different n (pos a) h = ne_eqb a n (λ e. h (ap pos e))
 different n (negsuc a) h = refl
 
-pub equal : {z : ℤ} {n : ℕ} → n < 2 ^ 31 → SFits w32 z → of_z w32 z ≡ n → eqℤ z (pos n) ≡ true
+pub equal : {z : ℤ} {n : ℕ} → n < 2 ^ 31 → SFits w32 z → of_z w32 z ≡ n → eq_ℤ z (pos n) ≡ true
 equal {z} {n} l f e = same n z (sym (to_z-of_z f) ∙ ap (to_z w32) e ∙ to_z_pos w32 l)
 
-pub unequal : {z : ℤ} {n : ℕ} → SFits w32 z → (of_z w32 z ≡ n → ⊥) → eqℤ z (pos n) ≡ false
+pub unequal : {z : ℤ} {n : ℕ} → SFits w32 z → (of_z w32 z ≡ n → ⊥) → eq_ℤ z (pos n) ≡ false
 unequal {z} {n} f h = different n z (λ e. h (ap (of_z w32) e))
 
 pub absent : {z : ℤ} → SFits w32 z → of_z w32 z ≡ 0 → is_zero z ≡ true

@@ -1,10 +1,10 @@
 -- Sums and products that are refused name no pattern. Assumes nothing.
--- `plus-unnamed`, `times-unnamed`: where P holds of `noPattern`, it holds of the pattern that a refusal names, if it
+-- `plus-unnamed`, `times-unnamed`: where P holds of `no_pattern`, it holds of the pattern that a refusal names, if it
 -- does so of the number that is added to or multiplied.
 use Prim.Native.Nat.{ℕ}
 use lib.IntN.{ℤ, pos, ◌+ℤ◌, ◌*ℤ◌}
 use Rattle.base_notation.proofs.Cases.{by-if}
-use Rattle.base_refusals.specs.Report.{noPattern, reportOf}
+use Rattle.base_refusals.specs.Report.{no_pattern, report_of}
 use Rattle.read_integers.specs.Number.{fits32}
 use Rattle.moment_sums.specs.Checked.{checked, ◌plus◌, ◌times◌}
 use Rattle.moment_sums.specs.declared.Value.{Value}
@@ -13,11 +13,11 @@ use Rattle.moment_sums.specs.declared.Value.TheVariants.{Is, Not}
 -- P holds of the pattern that a refusal names
 abbrev pub ValueNames : (ℕ → Type 0) → Value → Type 0
 ValueNames P (Is z) = Unit {0}
-ValueNames P (Not why) = P (reportOf why).pattern
+ValueNames P (Not why) = P (report_of why).pattern
 
-module _ (P : ℕ → Type 0) (none : P noPattern) where
+module _ (P : ℕ → Type 0) (none : P no_pattern) where
   checked-unnamed : (z : ℤ) → ValueNames P (checked z)
-  unfolding reportOf
+  unfolding report_of
   checked-unnamed z = by-if (ValueNames P) (fits32 z) _ _ (λ e. tt) (λ e. none)
 
   pub plus-unnamed : (v : Value) (b : ℤ) → ValueNames P v → ValueNames P (v plus b)

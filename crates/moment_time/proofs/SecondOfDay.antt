@@ -20,29 +20,29 @@ module _ {f : Fields} (fields : Known f) where
   abbrev second : ℤ
   second = get f ssss
 
-  abbrev inHour : ℤ
-  inHour = rem_z second (pos 3600)
+  abbrev in_hour : ℤ
+  in_hour = rem_z second (pos 3600)
 
   hours-fit : SFits w32 (quot_z second (pos 3600))
   hours-fit = quot_fits second 3600 (fields.fits ssss)
 
-  in-hour-fits : SFits w32 inHour
+  in-hour-fits : SFits w32 in_hour
   in-hour-fits = rem-fits second 3600 (fields.fits ssss)
 
   pub hours-back : read (quot_z second (pos 3600)) ≡ quot_z second (pos 3600)
   hours-back = to_z-of_z hours-fit
 
-  pub in-hour-back : read inHour ≡ inHour
+  pub in-hour-back : read in_hour ≡ in_hour
   in-hour-back = to_z-of_z in-hour-fits
 
-  pub minutes-back : read (quot_z inHour (pos 60)) ≡ quot_z inHour (pos 60)
-  minutes-back = to_z-of_z (quot_fits inHour 60 in-hour-fits)
+  pub minutes-back : read (quot_z in_hour (pos 60)) ≡ quot_z in_hour (pos 60)
+  minutes-back = to_z-of_z (quot_fits in_hour 60 in-hour-fits)
 
-  pub seconds-back : read (rem_z inHour (pos 60)) ≡ rem_z inHour (pos 60)
-  seconds-back = to_z-of_z (rem-fits inHour 60 in-hour-fits)
+  pub seconds-back : read (rem_z in_hour (pos 60)) ≡ rem_z in_hour (pos 60)
+  seconds-back = to_z-of_z (rem-fits in_hour 60 in-hour-fits)
 
   pub by-hour : (0 < 3600) × SFits w32 (quot_z (read second) (pos 3600))
   by-hour = (lit< tt, rw (fields.back ssss) hours-fit)
 
   pub by-minute : (0 < 60) × SFits w32 (quot_z (read (rem_z (read second) (pos 3600))) (pos 60))
-  by-minute = (lit< tt, rw (fields.back ssss, in-hour-back) (quot_fits inHour 60 in-hour-fits))
+  by-minute = (lit< tt, rw (fields.back ssss, in-hour-back) (quot_fits in_hour 60 in-hour-fits))

@@ -1,7 +1,7 @@
 // The time of day, its fraction and the offset, from the fields that were read.
 ghost use Rattle.std.specs.Prelude.{◌≡◌, ◌&&◌};
 ghost use Rattle.moment_sums.specs.Within.{below};
-ghost use Rattle.moment_time.specs.Time.{◌or◌, hourOf, minuteOf, second_of, hourOfTwelve, clockHour, microsOf, timeInRange, checkedOffset};
+ghost use Rattle.moment_time.specs.Time.{◌or◌, hour_of, minute_of, second_of, hour_of_twelve, clock_hour, micros_of, time_in_range, checked_offset};
 
 use base_refusals::Refusal;
 use base_wrapping::wrapping_add;
@@ -33,13 +33,13 @@ fn field_or(value: i32, other: i32) -> i32
 }
 
 pub fn hour_of(f: Fields) -> i32
-    ensures { result ≡ hourOf f }
+    ensures { result ≡ hour_of f }
 {
     field_or(f.values[field::HH], f.values[field::SSSS] / 3600)
 }
 
 pub fn minute_of(f: Fields) -> i32
-    ensures { result ≡ minuteOf f }
+    ensures { result ≡ minute_of f }
 {
     field_or(f.values[field::MI], f.values[field::SSSS] % 3600 / 60)
 }
@@ -52,7 +52,7 @@ pub fn second_of(f: Fields) -> i32
 
 // An hour of the 12-hour clock: 12 AM is 0, 12 PM is 12.
 pub fn hour_of_twelve(pm: i32, hour: i32) -> Value
-    ensures { result ≡ hourOfTwelve pm hour }
+    ensures { result ≡ hour_of_twelve pm hour }
 {
     if hour < 1 {
         return Value::Not(Refusal::HourOfTwelve { hour });
@@ -73,7 +73,7 @@ pub fn hour_of_twelve(pm: i32, hour: i32) -> Value
 }
 
 pub fn clock_hour(f: Fields) -> Value
-    ensures { result ≡ clockHour f }
+    ensures { result ≡ clock_hour f }
 {
     let clock = f.values[field::CLOCK];
     let hour = hour_of(f);
@@ -85,7 +85,7 @@ pub fn clock_hour(f: Fields) -> Value
 
 // Milliseconds and microseconds together.
 pub fn micros_of(f: Fields) -> Value
-    ensures { result ≡ microsOf f }
+    ensures { result ≡ micros_of f }
 {
     let us = f.values[field::US];
     match checked_mul(Value::Is(f.values[field::MS]), 1000) {
@@ -105,7 +105,7 @@ fn below(value: i32, limit: u32) -> bool
 }
 
 pub fn time_in_range(hour: i32, minute: i32, second: i32, micros: i32) -> bool
-    ensures { result ≡ timeInRange hour minute second micros }
+    ensures { result ≡ time_in_range hour minute second micros }
 {
     if !below(hour, 24) {
         return false;
@@ -131,7 +131,7 @@ fn offset_in_range(hours: i32, minutes: i32) -> bool
 
 // The offset in seconds: hours and minutes joined, then negated if the sign is minus.
 pub fn offset_of(f: Fields) -> Zoned
-    ensures { result ≡ checkedOffset f }
+    ensures { result ≡ checked_offset f }
 {
     let sign = f.values[field::TZSIGN];
     if sign == 0 {

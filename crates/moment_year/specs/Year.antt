@@ -10,41 +10,41 @@ use Rattle.moment_sums.specs.declared.Value.{Value}
 use Rattle.moment_sums.specs.declared.Value.TheVariants.{Is}
 
 -- a number with the other sign, before Christ
-abbrev pub signedBy : ℤ → ℤ → ℤ
-signedBy isBc z = if is_zero isBc then z else pos 0 ⊖ z
+abbrev pub signed_by : ℤ → ℤ → ℤ
+signed_by is_bc z = if is_zero is_bc then z else pos 0 ⊖ z
 
 -- the last two digits of a year in a century; before Christ the centuries count backwards
-unfoldable pub yearInCentury : ℤ → ℤ → Value
-yearInCentury century y =
+unfoldable pub year_in_century : ℤ → ℤ → Value
+year_in_century century y =
     if is_zero y then Is (century ⊗ pos 100 ⊕ (if lt_z century (pos 0) then pos 1 else pos 0))
     else if lt_z century (pos 0) then Is (century ⊕ pos 1) times 100 plus neg_ℤ y plus pos 1
     else Is (century ⊖ pos 1) times 100 plus y
 
 -- a year by itself: 1 BC is year 0
-abbrev pub plainYear : ℤ → ℤ
-plainYear y = if lt_z y (pos 0) then y +ℤ pos 1 else y
+abbrev pub plain_year : ℤ → ℤ
+plain_year y = if lt_z y (pos 0) then y +ℤ pos 1 else y
 
 -- the first year of a century
-unfoldable pub firstOfCentury : ℤ → Value
-firstOfCentury century = Is (if lt_z century (pos 0) then century else century ⊖ pos 1) times 100 plus pos 1
+unfoldable pub first_of_century : ℤ → Value
+first_of_century century = Is (if lt_z century (pos 0) then century else century ⊖ pos 1) times 100 plus pos 1
 
 -- the year: with a century only its last two digits count, unless it was read with more; 0 where neither was read
-unfoldable pub yearOf : Fields → Value
-yearOf f =
+unfoldable pub year_of : Fields → Value
+year_of f =
     let y = get f year in
-    let century = signedBy (get f bc) (get f cc) in
-    if is_zero y then (if is_zero (get f cc) then Is (pos 0) else firstOfCentury century)
-    else if not (is_zero (get f cc)) && lt_z (get f yysz) (pos 3) then yearInCentury century (rem_z y (pos 100))
-    else Is (plainYear (signedBy (get f bc) y))
+    let century = signed_by (get f bc) (get f cc) in
+    if is_zero y then (if is_zero (get f cc) then Is (pos 0) else first_of_century century)
+    else if not (is_zero (get f cc)) && lt_z (get f yysz) (pos 3) then year_in_century century (rem_z y (pos 100))
+    else Is (plain_year (signed_by (get f bc) y))
 
 -- unfolds all that a year is computed by, for worked examples
 unfoldable pub year-computes : ℕ
-unfolding yearInCentury firstOfCentury yearOf wrap32
+unfolding year_in_century first_of_century year_of wrap32
 year-computes = 0
 
 -- 00 of century 21 is 2100, 24 is 2024; century 1 BC begins with year -99, which is 100 BC
 pub worked
-    : (yearInCentury (pos 21) (pos 0) ≡ Is (pos 2100)) × (yearInCentury (pos 21) (pos 24) ≡ Is (pos 2024)) × (firstOfCentury (negsuc 0) ≡ Is (negsuc 98))
-    × (plainYear (negsuc 0) ≡ pos 0)
+    : (year_in_century (pos 21) (pos 0) ≡ Is (pos 2100)) × (year_in_century (pos 21) (pos 24) ≡ Is (pos 2024)) × (first_of_century (negsuc 0) ≡ Is (negsuc 98))
+    × (plain_year (negsuc 0) ≡ pos 0)
 unfolding year-computes
 worked = (refl, refl, refl, refl)

@@ -1,7 +1,7 @@
 // The year, from the year, the century and AD or BC. Year 0 is 1 BC.
 ghost use Rattle.std.specs.Prelude.{◌≡◌, pos};
 ghost use Rattle.std.specs.Int.Signed.{rem_z};
-ghost use Rattle.moment_year.specs.Year.{signedBy, plainYear, yearInCentury, firstOfCentury, yearOf};
+ghost use Rattle.moment_year.specs.Year.{signed_by, plain_year, year_in_century, first_of_century, year_of};
 
 use base_wrapping::{wrapping_add, wrapping_mul, wrapping_sub};
 use moment_sums::{Value, checked_add, checked_mul};
@@ -9,7 +9,7 @@ use read_fields::{Fields, field};
 
 // A number with the other sign, before Christ.
 fn signed_by(bc: i32, value: i32) -> i32
-    ensures { result ≡ signedBy bc value }
+    ensures { result ≡ signed_by bc value }
 {
     if bc == 0 {
         return value;
@@ -19,7 +19,7 @@ fn signed_by(bc: i32, value: i32) -> i32
 
 // The last two digits of a year in a century; before Christ the centuries count backwards.
 pub fn year_in_century(century: i32, year: i32) -> Value
-    ensures { result ≡ yearInCentury century (rem_z year (pos 100)) }
+    ensures { result ≡ year_in_century century (rem_z year (pos 100)) }
 {
     let y = year % 100;
     if y == 0 {
@@ -37,7 +37,7 @@ pub fn year_in_century(century: i32, year: i32) -> Value
 
 // The first year of a century.
 pub fn first_of_century(century: i32) -> Value
-    ensures { result ≡ firstOfCentury century }
+    ensures { result ≡ first_of_century century }
 {
     if century < 0 {
         return checked_add(checked_mul(Value::Is(century), 100), 1);
@@ -47,7 +47,7 @@ pub fn first_of_century(century: i32) -> Value
 
 // A year by itself.
 fn plain_year(year: i32) -> i32
-    ensures { result ≡ plainYear year }
+    ensures { result ≡ plain_year year }
 {
     if year < 0 {
         return year + 1;
@@ -56,7 +56,7 @@ fn plain_year(year: i32) -> i32
 }
 
 pub fn year_of(f: Fields) -> Value
-    ensures { result ≡ yearOf f }
+    ensures { result ≡ year_of f }
 {
     let year = f.values[field::YEAR];
     let cc = f.values[field::CC];

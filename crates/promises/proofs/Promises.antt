@@ -13,16 +13,16 @@ use Rattle.moment_parts.specs.Examples.{table}
 use Rattle.moment_parts.specs.Parts.{parts_of}
 use Rattle.moment_parts.specs.Patterns.{NamesOwn}
 use Rattle.moment_parts.specs.Ranges.{Answered}
-use Rattle.moment_instants.specs.ByTemplate.{timestampOf, dateOf}
+use Rattle.moment_instants.specs.ByTemplate.{timestamp_of, date_of}
 use Rattle.moment_instants.specs.Ranges.{InstantAnswered, DayAnswered}
-use Rattle.template_nodes.specs.Template.{nodesBy}
+use Rattle.template_nodes.specs.Template.{nodes_by}
 use Rattle.moment_instants.proofs.Ranges.{instant-answered, day-answered}
 use Rattle.moment_instants.proofs.Own.{instant-own, day-own, timestamp-own, date-own}
 use Rattle.write_pieces.proofs.Moments.{moment-plain, plain-moment}
 use Rattle.write_text.proofs.Own.{written-own, written-in-own}
 use Rattle.write_text.proofs.ByName.{by_name}
 use Rattle.write_text.proofs.OwnCase.{own-case}
-use Rattle.write_text.specs.Writer.{bufferAfter}
+use Rattle.write_text.specs.Writer.{buffer_after}
 use Rattle.write_text.specs.declared.Unwritten.{Unwritten}
 use Rattle.write_text.specs.declared.Written.{Written}
 use Rattle.write_text.specs.declared.Written.TheVariants.{Refused}
@@ -68,8 +68,8 @@ use Rattle.promises.specs.Promises.{EveryAnswer, EveryEquation, RightAndSafe, Ev
 use Rattle.promises.specs.declared.Readings.{Readings}
 
 -- after a refusal the buffer is as it was
-left : (text before : List ℕ) {w : Written} {why : Unwritten} → w ≡ Refused why → bufferAfter w text before ≡ before
-left text before e = ap (λ (w : Written). bufferAfter w text before) e
+left : (text before : List ℕ) {w : Written} {why : Unwritten} → w ≡ Refused why → buffer_after w text before ≡ before
+left text before e = ap (λ (w : Written). buffer_after w text before) e
 
 pub every-answer : EveryAnswer
 every-answer =
@@ -131,9 +131,9 @@ every-equation =
       table = table;
     }
 
-pub right-and-safe : (set : Settings) (t s : List ℕ) (r : Readings) → r.parts ≡ parts_of set t s → r.instant ≡ timestampOf set t s → r.day ≡ dateOf set t s
+pub right-and-safe : (set : Settings) (t s : List ℕ) (r : Readings) → r.parts ≡ parts_of set t s → r.instant ≡ timestamp_of set t s → r.day ≡ date_of set t s
     → RightAndSafe set t s r
-unfolding timestampOf dateOf
+unfolding timestamp_of date_of
 right-and-safe set t s r p i d =
     record {
       parts = p;
@@ -142,7 +142,7 @@ right-and-safe set t s r p i d =
       parts-safe = subst (Answered set.strict) (sym p) (answered set t s);
       instant-safe = subst (InstantAnswered set.strict) (sym i) (instant-answered set.strict (parts_of set t s) (answered set t s));
       day-safe = subst (DayAnswered set.strict) (sym d) (day-answered set.strict (parts_of set t s) (answered set t s));
-      names = subst (NamesOwn (nodesBy set.accents t)) (sym p) (named-in-template set t s);
+      names = subst (NamesOwn (nodes_by set.accents t)) (sym p) (named-in-template set t s);
     }
 
 pub every-moment : EveryMoment

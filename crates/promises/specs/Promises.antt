@@ -6,28 +6,28 @@ use Rattle.std.specs.Prelude.{◌≡◌, Bool, true, List, ℕ, length}
 use Rattle.base_settings.specs.declared.Settings.{Settings}
 use Rattle.read_words.specs.FoldOnce.{FoldOnce}
 use Rattle.template_nodes.specs.Cover.{Covered}
-use Rattle.template_nodes.specs.Template.{nodesBy, nodesOf}
-use Rattle.template_nodes.specs.Bytes.{nodesIn}
+use Rattle.template_nodes.specs.Template.{nodes_by, nodes_of}
+use Rattle.template_nodes.specs.Bytes.{nodes_in}
 use Rattle.template_nodes.specs.declared.Node.{Node}
-use Rattle.moment_parts.specs.Parts.{partsBy, parts_of}
+use Rattle.moment_parts.specs.Parts.{parts_by, parts_of}
 use Rattle.moment_parts.specs.Ranges.{Answered}
 use Rattle.moment_parts.specs.Strict.{StrictAlone}
 use Rattle.moment_parts.specs.Patterns.{NamesOwn, NoneOrIn}
 use Rattle.moment_parts.specs.Examples.{Table}
 use Rattle.moment_parts.specs.declared.Answer.{Answer}
-use Rattle.moment_instants.specs.ByTemplate.{instantBy, dayBy, timestampOf, dateOf}
+use Rattle.moment_instants.specs.ByTemplate.{instant_by, day_by, timestamp_of, date_of}
 use Rattle.moment_instants.specs.Ranges.{InstantAnswered, DayAnswered}
-use Rattle.moment_instants.specs.Report.{undatedReport}
+use Rattle.moment_instants.specs.Report.{undated_report}
 use Rattle.moment_instants.specs.declared.epoch.Day.TheVariants.{Refused as NoDay}
 use Rattle.moment_instants.specs.declared.epoch.Instant.TheVariants.{Refused as NoInstant}
 use Rattle.moment_instants.specs.declared.epoch.Undated.{Undated}
-use Rattle.write_pieces.specs.Moment.{isMoment, PlainMoment}
+use Rattle.write_pieces.specs.Moment.{is_moment, PlainMoment}
 use Rattle.write_pieces.specs.declared.Moment.{Moment}
 use Rattle.write_text.specs.ByName.{ByName}
 use Rattle.write_text.specs.OwnCase.{OwnCase}
-use Rattle.write_text.specs.Report.{unwrittenReport}
+use Rattle.write_text.specs.Report.{unwritten_report}
 use Rattle.write_text.specs.Text.{text_of}
-use Rattle.write_text.specs.Writer.{bufferAfter, textIn, writtenIn, writtenTo}
+use Rattle.write_text.specs.Writer.{buffer_after, text_in, written_in, written_to}
 use Rattle.write_text.specs.declared.Unwritten.{Unwritten}
 use Rattle.write_text.specs.declared.Written.TheVariants.{Refused as NotWritten}
 use Rattle.sorbilgan_records.specs.Ranges.{PartsRecorded, InstantRecorded, DayRecorded}
@@ -76,54 +76,54 @@ pub record EveryAnswer : Type 0 where
   -- the parts, by any nodes and by a template, said of the answer alone. In range: each part by itself; what has no
   -- mark has its default, and a year other than 0 has its mark; with all three marks, and in every year but 0, the
   -- month has the day; under the strict switch it can have the day. A refusal is by 1 to 16, or under that switch by 25
-  pub parts-by : (set : Settings) (ns : List Node) (t s : List ℕ) → Answered set.strict (partsBy set ns t s)
+  pub parts-by : (set : Settings) (ns : List Node) (t s : List ℕ) → Answered set.strict (parts_by set ns t s)
   pub parts : (set : Settings) (t s : List ℕ) → Answered set.strict (parts_of set t s)
   -- the instant and the day of any such answer: neither end of 64 bits, neither end of 32 bits
-  pub instant : (strict : Bool) (a : Answer) → Answered strict a → InstantAnswered strict (instantBy a)
-  pub day : (strict : Bool) (a : Answer) → Answered strict a → DayAnswered strict (dayBy a)
+  pub instant : (strict : Bool) (a : Answer) → Answered strict a → InstantAnswered strict (instant_by a)
+  pub day : (strict : Bool) (a : Answer) → Answered strict a → DayAnswered strict (day_by a)
   -- the records that other languages get, by any nodes and by a template; refused: what would have been read is 0
-  pub parts-by-record : (set : Settings) (ns : List Node) (t s : List ℕ) → PartsRecorded set.strict (partsBy set ns t s)
+  pub parts-by-record : (set : Settings) (ns : List Node) (t s : List ℕ) → PartsRecorded set.strict (parts_by set ns t s)
   pub parts-record : (set : Settings) (t s : List ℕ) → PartsRecorded set.strict (parts_of set t s)
-  pub instant-record : (strict : Bool) (a : Answer) → Answered strict a → InstantRecorded strict (instantBy a)
-  pub day-record : (strict : Bool) (a : Answer) → Answered strict a → DayRecorded strict (dayBy a)
+  pub instant-record : (strict : Bool) (a : Answer) → Answered strict a → InstantRecorded strict (instant_by a)
+  pub day-record : (strict : Bool) (a : Answer) → Answered strict a → DayRecorded strict (day_by a)
   -- a refusal names no pattern, or one of the nodes'
-  pub names-by : (set : Settings) (ns : List Node) (t s : List ℕ) → NamesOwn ns (partsBy set ns t s)
-  pub instant-names-by : (set : Settings) (ns : List Node) (t s : List ℕ) {why : Undated} → instantBy (partsBy set ns t s) ≡ NoInstant why
-      → NoneOrIn ns (undatedReport why).pattern
-  pub day-names-by : (set : Settings) (ns : List Node) (t s : List ℕ) {why : Undated} → dayBy (partsBy set ns t s) ≡ NoDay why
-      → NoneOrIn ns (undatedReport why).pattern
-  pub text-names-by : (set : Settings) (c t : List ℕ) (m : Moment) (room : ℕ) {why : Unwritten} → writtenIn set c t m room ≡ NotWritten why
-      → NoneOrIn (nodesIn c) (unwrittenReport why).pattern
+  pub names-by : (set : Settings) (ns : List Node) (t s : List ℕ) → NamesOwn ns (parts_by set ns t s)
+  pub instant-names-by : (set : Settings) (ns : List Node) (t s : List ℕ) {why : Undated} → instant_by (parts_by set ns t s) ≡ NoInstant why
+      → NoneOrIn ns (undated_report why).pattern
+  pub day-names-by : (set : Settings) (ns : List Node) (t s : List ℕ) {why : Undated} → day_by (parts_by set ns t s) ≡ NoDay why
+      → NoneOrIn ns (undated_report why).pattern
+  pub text-names-by : (set : Settings) (c t : List ℕ) (m : Moment) (room : ℕ) {why : Unwritten} → written_in set c t m room ≡ NotWritten why
+      → NoneOrIn (nodes_in c) (unwritten_report why).pattern
   -- the same by a template: one of the template's
-  pub names : (set : Settings) (t s : List ℕ) → NamesOwn (nodesBy set.accents t) (parts_of set t s)
-  pub instant-names : (set : Settings) (t s : List ℕ) {why : Undated} → timestampOf set t s ≡ NoInstant why
-      → NoneOrIn (nodesBy set.accents t) (undatedReport why).pattern
-  pub day-names : (set : Settings) (t s : List ℕ) {why : Undated} → dateOf set t s ≡ NoDay why
-      → NoneOrIn (nodesBy set.accents t) (undatedReport why).pattern
-  pub text-names : (set : Settings) (t : List ℕ) (m : Moment) (room : ℕ) {why : Unwritten} → writtenTo set t m room ≡ NotWritten why
-      → NoneOrIn (nodesOf t) (unwrittenReport why).pattern
+  pub names : (set : Settings) (t s : List ℕ) → NamesOwn (nodes_by set.accents t) (parts_of set t s)
+  pub instant-names : (set : Settings) (t s : List ℕ) {why : Undated} → timestamp_of set t s ≡ NoInstant why
+      → NoneOrIn (nodes_by set.accents t) (undated_report why).pattern
+  pub day-names : (set : Settings) (t s : List ℕ) {why : Undated} → date_of set t s ≡ NoDay why
+      → NoneOrIn (nodes_by set.accents t) (undated_report why).pattern
+  pub text-names : (set : Settings) (t : List ℕ) (m : Moment) (room : ℕ) {why : Unwritten} → written_to set t m room ≡ NotWritten why
+      → NoneOrIn (nodes_of t) (unwritten_report why).pattern
   -- a refusal of the writer leaves the buffer as it was
-  pub buffer : (set : Settings) (t : List ℕ) (m : Moment) (before : List ℕ) {why : Unwritten} → writtenTo set t m (length before) ≡ NotWritten why
-      → bufferAfter (writtenTo set t m (length before)) (text_of t m) before ≡ before
-  pub buffer-by : (set : Settings) (c t : List ℕ) (m : Moment) (before : List ℕ) {why : Unwritten} → writtenIn set c t m (length before) ≡ NotWritten why
-      → bufferAfter (writtenIn set c t m (length before)) (textIn c t m) before ≡ before
+  pub buffer : (set : Settings) (t : List ℕ) (m : Moment) (before : List ℕ) {why : Unwritten} → written_to set t m (length before) ≡ NotWritten why
+      → buffer_after (written_to set t m (length before)) (text_of t m) before ≡ before
+  pub buffer-by : (set : Settings) (c t : List ℕ) (m : Moment) (before : List ℕ) {why : Unwritten} → written_in set c t m (length before) ≡ NotWritten why
+      → buffer_after (written_in set c t m (length before)) (text_in c t m) before ≡ before
 
 -- Demand 2: right by the public document. `statement` is the checker's theorem of a function: for all arguments it
 -- never traps, it returns, and its contract holds. The contract is the equation that the comment gives; src/ has it.
 pub record EveryEquation : Type 2 where
-  -- to_timestamp_parts set t s = parts_of set t s, and by bytes as nodes partsBy set (nodesIn c) t s
+  -- to_timestamp_parts set t s = parts_of set t s, and by bytes as nodes parts_by set (nodes_in c) t s
   pub to-timestamp-parts : {M : Type 1} → ToTimestampParts.statement M
   pub parts-by : {M : Type 1} → PartsBy.statement M
-  -- to_timestamp_text set t s = timestampOf set t s, and by bytes as nodes instantBy (partsBy set (nodesIn c) t s)
+  -- to_timestamp_text set t s = timestamp_of set t s, and by bytes as nodes instant_by (parts_by set (nodes_in c) t s)
   pub to-timestamp-text : {M : Type 1} → ToTimestampText.statement M
   pub instant-by : {M : Type 1} → InstantBy.statement M
-  -- to_date_text set t s = dateOf set t s, and by bytes as nodes dayBy (partsBy set (nodesIn c) t s)
+  -- to_date_text set t s = date_of set t s, and by bytes as nodes day_by (parts_by set (nodes_in c) t s)
   pub to-date-text : {M : Type 1} → ToDateText.statement M
   pub day-by : {M : Type 1} → DayBy.statement M
-  -- write set t m = writtenTo set t m, and by bytes as nodes writtenIn set c t m; the buffer after it is bufferAfter
+  -- write set t m = written_to set t m, and by bytes as nodes written_in set c t m; the buffer after it is buffer_after
   pub write : {M : Type 1} → Write.statement M
   pub write-by : {M : Type 1} → WriteBy.statement M
-  -- the exports: the same answers as records, the bytes of a compiled template; with settings as bits, settingsOf, and
+  -- the exports: the same answers as records, the bytes of a compiled template; with settings as bits, settings_of, and
   -- for the exercise pages
   pub sorbilgan-parts-with : {M : Type 1} → SorbilganPartsWith.statement M
   pub sorbilgan-parts-by-with : {M : Type 1} → SorbilganPartsByWith.statement M
@@ -143,12 +143,12 @@ pub record EveryEquation : Type 2 where
   pub sorbilgan-write : {M : Type 1} → SorbilganWrite.statement M
   pub sorbilgan-write-by : {M : Type 1} → SorbilganWriteBy.statement M
   pub sorbilgan-compile : {M : Type 1} → SorbilganCompile.statement M
-  -- whether a mark counts alone in a compiled template: hasLoneMark t (nodesIn c)
+  -- whether a mark counts alone in a compiled template: has_lone_mark t (nodes_in c)
   pub sorbilgan-has-lone-mark : {M : Type 1} → SorbilganHasLoneMark.statement M
   -- the name of a pattern, and the version
   pub sorbilgan-pattern : {M : Type 1} → SorbilganPattern.statement M
   pub sorbilgan-version : {M : Type 1} → SorbilganVersion.statement M
-  -- the line program: answer mode line = answerLine mode line, and the lines of a text one after another, answersTo
+  -- the line program: answer mode line = answer_line mode line, and the lines of a text one after another, answers_to
   pub answer : {M : Type 1} → AnswerLine.statement M
   pub answer-lines : {M : Type 1} → AnswerLines.statement M
   -- the worked table P1 to P15
@@ -157,12 +157,12 @@ pub record EveryEquation : Type 2 where
 -- Demands 1 and 2 together, on the function that reads: r is the answers of the definitions, and each is in range
 pub record RightAndSafe (set : Settings) (t s : List ℕ) (r : Readings) : Type 0 where
   pub parts : r.parts ≡ parts_of set t s
-  pub instant : r.instant ≡ timestampOf set t s
-  pub day : r.day ≡ dateOf set t s
+  pub instant : r.instant ≡ timestamp_of set t s
+  pub day : r.day ≡ date_of set t s
   pub parts-safe : Answered set.strict r.parts
   pub instant-safe : InstantAnswered set.strict r.instant
   pub day-safe : DayAnswered set.strict r.day
-  pub names : NamesOwn (nodesBy set.accents t) r.parts
+  pub names : NamesOwn (nodes_by set.accents t) r.parts
 
 -- Demand 3: every full template writes every moment of the years 1 to 9999, two moments have the same text exactly
 -- where they are the same, and the text is read back as that moment in all answers, with all three marks; for every
@@ -173,8 +173,8 @@ pub record EveryMoment : Type 2 where
   -- the same on the functions themselves
   pub write-and-read : {M : Type 1} → WriteAndRead.statement M
   -- the test of a moment, and the plain ranges of its seven numbers: each way
-  pub tested : (m : Moment) → isMoment m ≡ true → PlainMoment m
-  pub plain : (m : Moment) → PlainMoment m → isMoment m ≡ true
+  pub tested : (m : Moment) → is_moment m ≡ true → PlainMoment m
+  pub plain : (m : Moment) → PlainMoment m → is_moment m ≡ true
 
 -- Templates: each byte is in one node, but for quotes, backslashes, prefixes and suffixes; the bytes of a pattern's
 -- node are its name; so it is in both modes of characters. What is compiled once gives the answers of the template in

@@ -2,7 +2,7 @@
 -- `onward-own`: where P holds of the pattern that a reading names, and of that which the rest after it names, it holds
 -- of the pattern that the two in turn name.
 use Prim.Native.Nat.{ℕ}
-use Rattle.base_refusals.specs.Report.{reportOf}
+use Rattle.base_refusals.specs.Report.{report_of}
 use Rattle.read_fields.specs.Fields.{onward}
 use Rattle.read_fields.specs.declared.Reading.{Reading}
 use Rattle.read_fields.specs.declared.Verdict.{Verdict}
@@ -11,7 +11,7 @@ use Rattle.read_fields.specs.declared.Verdict.TheVariants.{Read, Refused}
 -- P holds of the pattern that a refusal names
 abbrev pub VerdictNames : (ℕ → Type 0) → Verdict → Type 0
 VerdictNames P Read = Unit {0}
-VerdictNames P (Refused why) = P (reportOf why).pattern
+VerdictNames P (Refused why) = P (report_of why).pattern
 
 abbrev pub ReadingNames : (ℕ → Type 0) → Reading → Type 0
 ReadingNames P r = VerdictNames P r.verdict

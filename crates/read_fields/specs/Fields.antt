@@ -1,7 +1,7 @@
 -- The fields that a template reads (TmFromChar of formatting.c): a list of numbers, 0 where a field is absent.
 use Rattle.std.specs.Prelude.{Bool, not, List, ℕ, eqb, ℤ, pos, get_or, set, replicate}
 use Rattle.base_refusals.specs.declared.Refusal.{Refusal}
-pub use Rattle.read_integers.specs.Setting.{eqℤ, is_zero, conflicts}
+pub use Rattle.read_integers.specs.Setting.{eq_ℤ, is_zero, conflicts}
 use Rattle.read_fields.specs.declared.Fields.{Fields}
 use Rattle.read_fields.specs.declared.Outcome.{Outcome}
 use Rattle.read_fields.specs.declared.Place.{Place}
@@ -86,8 +86,8 @@ abbrev pub ff : ℕ
 ff = 23
 
 -- no field read
-abbrev pub noFields : Fields
-noFields = record { values = replicate 24 (pos 0) }
+abbrev pub no_fields : Fields
+no_fields = record { values = replicate 24 (pos 0) }
 
 -- the fields that an array lends
 abbrev pub fields_of : List ℤ → Fields
@@ -110,15 +110,15 @@ refuse why f p = record { verdict = Refused why; fields = f; place = p }
 abbrev pub went : Verdict → Place → Outcome
 went v p = record { verdict = v; place = p }
 
-abbrev pub readInto : Outcome → List ℤ → Reading
-readInto o values = record { verdict = o.verdict; fields = fields_of values; place = o.place }
+abbrev pub read_into : Outcome → List ℤ → Reading
+read_into o values = record { verdict = o.verdict; fields = fields_of values; place = o.place }
 
 -- FX was read
-abbrev pub isExact : Place → Bool
-isExact p = not (eqb p.fx 0)
+abbrev pub is_exact : Place → Bool
+is_exact p = not (eqb p.fx 0)
 
-abbrev pub atPlace : Place → ℕ → Place
-atPlace p at = record { at = at; extra = p.extra; fx = p.fx }
+abbrev pub at_place : Place → ℕ → Place
+at_place p at = record { at = at; extra = p.extra; fx = p.fx }
 
 -- the reading goes on with the rest after what was read, and ends at a refusal
 abbrev pub onward : Verdict → Reading → Reading → Reading

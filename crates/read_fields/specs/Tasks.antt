@@ -5,7 +5,7 @@ use Prim.Native.String.{String}
 use Rattle.base_notation.specs.Choice.{if◌then◌else◌}
 use Rattle.base_notation.specs.Text.{utf8}
 use Rattle.base_chars.specs.Fold.{folded}
-use Rattle.template_patterns.specs.Patterns.{name_of, patternOf}
+use Rattle.template_patterns.specs.Patterns.{name_of, pattern_of}
 use Rattle.read_fields.specs.Fields as F
 use Rattle.read_fields.specs.declared.Task.{Task}
 
@@ -25,14 +25,14 @@ word = 3
 abbrev pub dropped : ℕ
 dropped = 4
 
-abbrev pub commaYear : ℕ
-commaYear = 5
+abbrev pub comma_year : ℕ
+comma_year = 5
 
 abbrev pub offset : ℕ
 offset = 6
 
-abbrev pub offsetMinutes : ℕ
-offsetMinutes = 7
+abbrev pub offset_minutes : ℕ
+offset_minutes = 7
 
 -- rules for a number: as it is; on the 12-hour clock; scaled to milliseconds; scaled to microseconds, without and with
 -- digits of its own; an ISO weekday; a whole year; a year of few digits
@@ -51,22 +51,22 @@ micros = 3
 abbrev pub fraction : ℕ
 fraction = 4
 
-abbrev pub isoDay : ℕ
-isoDay = 5
+abbrev pub iso_day : ℕ
+iso_day = 5
 
-abbrev pub wholeYear : ℕ
-wholeYear = 6
+abbrev pub whole_year : ℕ
+whole_year = 6
 
-abbrev pub partYear : ℕ
-partYear = 7
+abbrev pub part_year : ℕ
+part_year = 7
 
 -- rules for a word by its index in its list: odd indices; the same on the 12-hour clock; a month; a weekday; a Roman
 -- month
 abbrev pub odd : ℕ
 odd = 0
 
-abbrev pub oddHour12 : ℕ
-oddHour12 = 1
+abbrev pub odd_hour12 : ℕ
+odd_hour12 = 1
 
 abbrev pub month : ℕ
 month = 2
@@ -74,46 +74,46 @@ month = 2
 abbrev pub weekday : ℕ
 weekday = 3
 
-abbrev pub romanMonth : ℕ
-romanMonth = 4
+abbrev pub roman_month : ℕ
+roman_month = 4
 
 -- the word lists by number
-abbrev pub monthsFull : ℕ
-monthsFull = 0
+abbrev pub months_full : ℕ
+months_full = 0
 
-abbrev pub monthsAbbrev : ℕ
-monthsAbbrev = 1
+abbrev pub months_abbrev : ℕ
+months_abbrev = 1
 
-abbrev pub daysFull : ℕ
-daysFull = 2
+abbrev pub days_full : ℕ
+days_full = 2
 
-abbrev pub daysAbbrev : ℕ
-daysAbbrev = 3
+abbrev pub days_abbrev : ℕ
+days_abbrev = 3
 
-abbrev pub amPm : ℕ
-amPm = 4
+abbrev pub am_pm : ℕ
+am_pm = 4
 
-abbrev pub amPmLong : ℕ
-amPmLong = 5
+abbrev pub am_pm_long : ℕ
+am_pm_long = 5
 
-abbrev pub adBc : ℕ
-adBc = 6
+abbrev pub ad_bc : ℕ
+ad_bc = 6
 
-abbrev pub adBcLong : ℕ
-adBcLong = 7
+abbrev pub ad_bc_long : ℕ
+ad_bc_long = 7
 
-abbrev pub romanMonths : ℕ
-romanMonths = 8
+abbrev pub roman_months : ℕ
+roman_months = 8
 
 -- rules for an offset: hours alone; hours and minutes; the same, where a letter is refused
 abbrev pub hours : ℕ
 hours = 0
 
-abbrev pub hoursMinutes : ℕ
-hoursMinutes = 1
+abbrev pub hours_minutes : ℕ
+hours_minutes = 1
 
-abbrev pub noLetter : ℕ
-noLetter = 2
+abbrev pub no_letter : ℕ
+no_letter = 2
 
 -- a task by its kind, its field, its rule and its operand: the width of a number, or the number of a word list
 abbrev pub task : ℕ → ℕ → ℕ → ℕ → Task
@@ -145,34 +145,34 @@ rows =
     ∷ ("FF4" ∷ [] ⇒ task number F.us fraction 4)
     ∷ ("FF5" ∷ [] ⇒ task number F.us fraction 5)
     ∷ ("FF6" ∷ [] ⇒ task number F.us fraction 6)
-    ∷ ("AM" ∷ "PM" ∷ [] ⇒ task word F.pm oddHour12 amPm)
-    ∷ ("A.M." ∷ "P.M." ∷ [] ⇒ task word F.pm oddHour12 amPmLong)
-    ∷ ("AD" ∷ "BC" ∷ [] ⇒ task word F.bc odd adBc)
-    ∷ ("A.D." ∷ "B.C." ∷ [] ⇒ task word F.bc odd adBcLong)
-    ∷ ("MONTH" ∷ [] ⇒ task word F.mm month monthsFull)
-    ∷ ("MON" ∷ [] ⇒ task word F.mm month monthsAbbrev)
-    ∷ ("RM" ∷ [] ⇒ task word F.mm romanMonth romanMonths)
-    ∷ ("DAY" ∷ [] ⇒ task word F.d weekday daysFull)
-    ∷ ("DY" ∷ [] ⇒ task word F.d weekday daysAbbrev)
+    ∷ ("AM" ∷ "PM" ∷ [] ⇒ task word F.pm odd_hour12 am_pm)
+    ∷ ("A.M." ∷ "P.M." ∷ [] ⇒ task word F.pm odd_hour12 am_pm_long)
+    ∷ ("AD" ∷ "BC" ∷ [] ⇒ task word F.bc odd ad_bc)
+    ∷ ("A.D." ∷ "B.C." ∷ [] ⇒ task word F.bc odd ad_bc_long)
+    ∷ ("MONTH" ∷ [] ⇒ task word F.mm month months_full)
+    ∷ ("MON" ∷ [] ⇒ task word F.mm month months_abbrev)
+    ∷ ("RM" ∷ [] ⇒ task word F.mm roman_month roman_months)
+    ∷ ("DAY" ∷ [] ⇒ task word F.d weekday days_full)
+    ∷ ("DY" ∷ [] ⇒ task word F.d weekday days_abbrev)
     ∷ ("MM" ∷ [] ⇒ task number F.mm plain 2)
     ∷ ("DD" ∷ [] ⇒ task number F.dd plain 2)
     ∷ ("DDD" ∷ "IDDD" ∷ [] ⇒ task number F.ddd plain 3)
     ∷ ("D" ∷ [] ⇒ task number F.d plain 1)
-    ∷ ("ID" ∷ [] ⇒ task number F.d isoDay 1)
+    ∷ ("ID" ∷ [] ⇒ task number F.d iso_day 1)
     ∷ ("WW" ∷ "IW" ∷ [] ⇒ task number F.ww plain 2)
     ∷ ("W" ∷ [] ⇒ task number F.w plain 1)
     ∷ ("Q" ∷ [] ⇒ task dropped 0 0 1)
     ∷ ("CC" ∷ [] ⇒ task number F.cc plain 2)
     ∷ ("J" ∷ [] ⇒ task number F.j plain 1)
-    ∷ ("Y,YYY" ∷ [] ⇒ task commaYear F.year wholeYear 4)
-    ∷ ("YYYY" ∷ "IYYY" ∷ [] ⇒ task number F.year wholeYear 4)
-    ∷ ("YYY" ∷ "IYY" ∷ [] ⇒ task number F.year partYear 3)
-    ∷ ("YY" ∷ "IY" ∷ [] ⇒ task number F.year partYear 2)
-    ∷ ("Y" ∷ "I" ∷ [] ⇒ task number F.year partYear 1)
-    ∷ ("TZ" ∷ [] ⇒ task offset F.tzh noLetter 2)
-    ∷ ("OF" ∷ [] ⇒ task offset F.tzh hoursMinutes 2)
+    ∷ ("Y,YYY" ∷ [] ⇒ task comma_year F.year whole_year 4)
+    ∷ ("YYYY" ∷ "IYYY" ∷ [] ⇒ task number F.year whole_year 4)
+    ∷ ("YYY" ∷ "IYY" ∷ [] ⇒ task number F.year part_year 3)
+    ∷ ("YY" ∷ "IY" ∷ [] ⇒ task number F.year part_year 2)
+    ∷ ("Y" ∷ "I" ∷ [] ⇒ task number F.year part_year 1)
+    ∷ ("TZ" ∷ [] ⇒ task offset F.tzh no_letter 2)
+    ∷ ("OF" ∷ [] ⇒ task offset F.tzh hours_minutes 2)
     ∷ ("TZH" ∷ [] ⇒ task offset F.tzh hours 2)
-    ∷ ("TZM" ∷ [] ⇒ task offsetMinutes F.tzm plain 2)
+    ∷ ("TZM" ∷ [] ⇒ task offset_minutes F.tzm plain 2)
     ∷ []
 
 -- two names are the same but for case
@@ -186,13 +186,13 @@ abbrev pub among : List ℕ → List (List ℕ) → Bool
 among name [] = false
 among name (n ∷ ns) = if alike name n then true else among name ns
 
-abbrev pub taskNamed : List ℕ → List Row → Task
-taskNamed name [] = task nothing 0 0 0
-taskNamed name (r ∷ rs) = if among name r.names then r.does else taskNamed name rs
+abbrev pub task_named : List ℕ → List Row → Task
+task_named name [] = task nothing 0 0 0
+task_named name (r ∷ rs) = if among name r.names then r.does else task_named name rs
 
 -- the task of the pattern number k
 unfoldable pub task_of : ℕ → Task
-task_of k = taskNamed (name_of k) rows
+task_of k = task_named (name_of k) rows
 
 -- r is that task, and its field one of the 24
 pub record Assigned (k : ℕ) (r : Task) : Type 0 where
@@ -205,11 +205,11 @@ packed t = t.operand * 4096 + t.rule * 256 + t.kind * 32 + t.field
 
 -- the task and the date mode of the pattern number k in one number
 abbrev pub row_of : ℕ → ℕ
-row_of k = (patternOf k).mode * 65536 + packed (task_of k)
+row_of k = (pattern_of k).mode * 65536 + packed (task_of k)
 
 -- DD and dd, IDDD, Month; DD is a date of the Gregorian calendar
 pub worked
     : (task_of 9 ≡ task number F.dd plain 2) × (task_of 67 ≡ task number F.dd plain 2) × (task_of 24 ≡ task number F.ddd plain 3)
-    × (task_of 37 ≡ task word F.mm month monthsFull) × (row_of 9 ≡ 0x12047)
+    × (task_of 37 ≡ task word F.mm month months_full) × (row_of 9 ≡ 0x12047)
 unfolding task_of
 worked = (refl, refl, refl, refl, refl)

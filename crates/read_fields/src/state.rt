@@ -1,6 +1,6 @@
 // The fields in an array that is lent, and the place by value.
 ghost use Rattle.std.specs.Prelude.{◌≡◌, ◌<◌};
-ghost use Rattle.read_fields.specs.Fields.{atPlace, conflicts, fields_of, get, put, went};
+ghost use Rattle.read_fields.specs.Fields.{at_place, conflicts, fields_of, get, put, went};
 ghost use Rattle.read_fields.specs.declared.Verdict.TheVariants.{Read, Refused};
 
 use crate::{Outcome, Place, Verdict};
@@ -47,7 +47,7 @@ pub fn refuse(why: Refusal, p: Place) -> Outcome
 }
 
 pub fn at_place(p: Place, at: usize) -> Place
-    ensures { result ≡ atPlace p at }
+    ensures { result ≡ at_place p at }
 {
     Place { at, ..p }
 }

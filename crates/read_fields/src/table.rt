@@ -1,6 +1,6 @@
 // What reading each pattern does, in table order.
 ghost use Rattle.std.specs.Prelude.{◌≡◌};
-ghost use Rattle.template_patterns.specs.Patterns.{patternOf};
+ghost use Rattle.template_patterns.specs.Patterns.{pattern_of};
 ghost use Rattle.read_fields.specs.Tasks.{Assigned, row_of};
 
 use crate::Task;
@@ -194,7 +194,7 @@ fn row_of(pattern: u8) -> u32
 
 // The date mode of a pattern.
 pub fn mode_at(pattern: u8) -> u8
-    ensures { result ≡ (patternOf pattern).mode }
+    ensures { result ≡ (pattern_of pattern).mode }
 {
     (row_of(pattern) / 65536) as u8
 }

@@ -8,13 +8,13 @@ use borrow.Author.Tests.{eqb-true}
 use lib.Dec.{eqb, ltb}
 use lib.ListN.{length}
 use Rattle.base_notation.proofs.Cases.{by-if}
-use Rattle.base_refusals.specs.Report.{reportOf}
-use Rattle.read_integers.specs.Suffix.{isFree}
-use Rattle.template_patterns.specs.Patterns.{patternOf}
+use Rattle.base_refusals.specs.Report.{report_of}
+use Rattle.read_integers.specs.Suffix.{is_free}
+use Rattle.template_patterns.specs.Patterns.{pattern_of}
 use Rattle.template_nodes.specs.Template.{action}
 use Rattle.template_nodes.specs.declared.Node.{Node}
-use Rattle.read_fields.specs.Fields.{get, mode, noFields}
-use Rattle.read_fields.specs.Tasks.{exact, number, word, dropped, commaYear, offset, offsetMinutes, task_of}
+use Rattle.read_fields.specs.Fields.{get, mode, no_fields}
+use Rattle.read_fields.specs.Tasks.{exact, number, word, dropped, comma_year, offset, offset_minutes, task_of}
 use Rattle.read_fields.specs.declared.Fields.{Fields}
 use Rattle.read_fields.specs.declared.Place.{Place}
 use Rattle.read_fields.specs.declared.Reading.{Reading}
@@ -26,7 +26,7 @@ use Rattle.read_numbers.proofs.Own.{read-number-own, read-dropped-own}
 use Rattle.read_words.proofs.Own.{read-word-own}
 use Rattle.read_offsets.proofs.Own.{read-offset-own, read-minutes-own}
 use Rattle.read_literals.specs.Literals.{place}
-use Rattle.read_input.specs.Reader.{mixes, withMode, performed, pastSpaces, whenRead, actionRead, entered, nodeRead, head_of, readFrom, read_all}
+use Rattle.read_input.specs.Reader.{mixes, with_mode, performed, past_spaces, when_read, action_read, entered, node_read, head_of, read_from, read_all}
 
 -- P holds of each pattern among the nodes
 abbrev pub Each : (ℕ → Type 0) → List Node → Type 0
@@ -40,42 +40,42 @@ module _ (P : ℕ → Type 0) (t s : List ℕ) where
     unfolding performed
     performed-own free task =
         let kind = task.kind in
-        by-if (ReadingNames P) (eqb kind number || eqb kind commaYear) _ _ (λ e. read-number-own P s n own f p free task)
+        by-if (ReadingNames P) (eqb kind number || eqb kind comma_year) _ _ (λ e. read-number-own P s n own f p free task)
         (λ e. by-if (ReadingNames P) (eqb kind word) _ _ (λ e. read-word-own P n own task f p s)
         (λ e. by-if (ReadingNames P) (eqb kind exact) _ _ (λ e. tt)
         (λ e. by-if (ReadingNames P) (eqb kind dropped) _ _ (λ e. read-dropped-own P s n own f p free task)
         (λ e. by-if (ReadingNames P) (eqb kind offset) _ _ (λ e. read-offset-own P s n own free task f p)
-        (λ e. by-if (ReadingNames P) (eqb kind offsetMinutes) _ _ (λ e. read-minutes-own P s n own free f p) (λ e. tt))))))
+        (λ e. by-if (ReadingNames P) (eqb kind offset_minutes) _ _ (λ e. read-minutes-own P s n own free f p) (λ e. tt))))))
 
-  when-own : (v : Verdict) (r : Reading) (p : Place) → VerdictNames P v → ReadingNames P r → ReadingNames P (whenRead v r p)
+  when-own : (v : Verdict) (r : Reading) (p : Place) → VerdictNames P v → ReadingNames P r → ReadingNames P (when_read v r p)
   when-own Read r p named done = done
   when-own (Refused why) r p named done = named
 
-  action-own : (n next : Node) → P n.pattern → (f : Fields) (p : Place) → ReadingNames P (actionRead t s n next f p)
-  unfolding actionRead pastSpaces reportOf
+  action-own : (n next : Node) → P n.pattern → (f : Fields) (p : Place) → ReadingNames P (action_read t s n next f p)
+  unfolding action_read past_spaces report_of
   action-own n next own f p =
-      let new = (patternOf n.pattern).mode in
-      let r = performed s n (isFree t n next) (task_of n.pattern) (withMode new f) p in
-      let named = performed-own n own (withMode new f) p (isFree t n next) (task_of n.pattern) in
-      by-if (ReadingNames P) (mixes new (get f mode)) _ _ (λ e. own) (λ e. when-own r.verdict (pastSpaces s r) p named named)
+      let new = (pattern_of n.pattern).mode in
+      let r = performed s n (is_free t n next) (task_of n.pattern) (with_mode new f) p in
+      let named = performed-own n own (with_mode new f) p (is_free t n next) (task_of n.pattern) in
+      by-if (ReadingNames P) (mixes new (get f mode)) _ _ (λ e. own) (λ e. when-own r.verdict (past_spaces s r) p named named)
 
   -- a literal refuses nothing
   node-own : (n next : Node) → (n.kind ≡ action → P n.pattern) → (first : Bool) (f : Fields) (p : Place)
-      → ReadingNames P (nodeRead t s n next first f p)
-  unfolding nodeRead
+      → ReadingNames P (node_read t s n next first f p)
+  unfolding node_read
   node-own n next own first f p =
       by-if (ReadingNames P) (eqb n.kind action) _ _ (λ e. action-own n next (own (eqb-true n.kind action e)) f (entered s n first p)) (λ e. tt)
 
   -- nodes one after another
-  from-own : (ns : List Node) → Each P ns → (first : Bool) (f : Fields) (p : Place) → ReadingNames P (readFrom t s ns first f p)
-  unfolding readFrom
+  from-own : (ns : List Node) → Each P ns → (first : Bool) (f : Fields) (p : Place) → ReadingNames P (read_from t s ns first f p)
+  unfolding read_from
   from-own [] each first f p = tt
   from-own (n ∷ ns) each first f p =
-      let r = nodeRead t s n (head_of ns) first f p in
+      let r = node_read t s n (head_of ns) first f p in
       by-if (ReadingNames P) (ltb p.at (length s)) _ _
-      (λ e. onward-own P r (readFrom t s ns false r.fields r.place) (node-own n (head_of ns) each.0 first f p) (from-own ns each.1 false r.fields r.place))
+      (λ e. onward-own P r (read_from t s ns false r.fields r.place) (node-own n (head_of ns) each.0 first f p) (from-own ns each.1 false r.fields r.place))
       (λ e. tt)
 
   pub read-own : (ns : List Node) → Each P ns → ReadingNames P (read_all t s ns)
   unfolding read_all
-  read-own ns each = from-own ns each true noFields (place 0 0 false)
+  read-own ns each = from-own ns each true no_fields (place 0 0 false)

@@ -12,18 +12,18 @@ use native.Mathlib.Omega.{arith}
 use lib.Dec.{eqb, ltb}
 use lib.ListN.{length}
 use Rattle.base_notation.specs.Choice.{if◌then◌else◌}
-use Rattle.base_notation.specs.Text.{byteAt}
+use Rattle.base_notation.specs.Text.{byte_at}
 use Rattle.base_notation.proofs.Cases.{by-if}
 use Rattle.base_refusals.specs.declared.Refusal.{Refusal}
 use Rattle.base_refusals.specs.declared.Refusal.TheVariants.{MixedDates}
-use Rattle.base_chars.specs.Class.{isSpace, isSeparator}
-use Rattle.read_integers.specs.Suffix.{isFree}
-use Rattle.template_patterns.specs.Patterns.{patternOf}
+use Rattle.base_chars.specs.Class.{is_space, is_separator}
+use Rattle.read_integers.specs.Suffix.{is_free}
+use Rattle.template_patterns.specs.Patterns.{pattern_of}
 use Rattle.template_nodes.specs.Template.{action, separator, space}
 use Rattle.template_nodes.specs.declared.Node.{Node}
-use Rattle.read_fields.specs.Fields.{get, isExact, mode, noFields, refuse}
-use Rattle.read_literals.specs.Literals.{Payable, pastField, blankPassed, charPassed, enteredBy, literalPassed, place, skipped}
-use Rattle.read_input.specs.Reader.{actionRead, entered, mixes, nodeRead, pastSpaces, performed, whenRead, withMode}
+use Rattle.read_fields.specs.Fields.{get, is_exact, mode, no_fields, refuse}
+use Rattle.read_literals.specs.Literals.{Payable, past_field, blank_passed, char_passed, entered_by, literal_passed, place, skipped}
+use Rattle.read_input.specs.Reader.{action_read, entered, mixes, node_read, past_spaces, performed, when_read, with_mode}
 use Rattle.read_fields.specs.Tasks.{task_of}
 use Rattle.read_fields.specs.declared.Fields.{Fields}
 use Rattle.read_fields.specs.declared.Place.{Place}
@@ -38,58 +38,58 @@ never e = let same : ◌≡◌ {A = ℕ} 0 1 = cc in omega arith
 
 module _ (s : List ℕ) where
   -- after a field
-  payable-past : (p : Place) → Payable s (pastField s p)
+  payable-past : (p : Place) → Payable s (past_field s p)
   payable-past p =
       let q = place p.at 0 false in
-      by-if (Payable s) (isExact p) p (skipped s q) (λ e h. absurd (true≢false (sym e ∙ h))) (λ e h. omega (arith, spaces-few s q))
+      by-if (Payable s) (is_exact p) p (skipped s q) (λ e h. absurd (true≢false (sym e ∙ h))) (λ e h. omega (arith, spaces-few s q))
 
   -- what holds of every refusal, and of all that is read, holds of a pattern
   module _ (f : Fields) (p : Place) where
     by-verdict
-        : (P : Reading → Type 0) → ((why : Refusal) → P (refuse why noFields p)) → (r : Reading) (v : Verdict) → (v ≡ Read → P (pastSpaces s r))
-        → P (whenRead v (pastSpaces s r) p)
+        : (P : Reading → Type 0) → ((why : Refusal) → P (refuse why no_fields p)) → (r : Reading) (v : Verdict) → (v ≡ Read → P (past_spaces s r))
+        → P (when_read v (past_spaces s r) p)
     by-verdict P refused r Read done = done refl
     by-verdict P refused r (Refused why) done = refused why
 
     by-action
-        : (P : Reading → Type 0) → ((why : Refusal) → P (refuse why noFields p)) → ((r : Reading) → r.verdict ≡ Read → P (pastSpaces s r))
-        → (t : List ℕ) (n next : Node) → P (actionRead t s n next f p)
-    unfolding actionRead
+        : (P : Reading → Type 0) → ((why : Refusal) → P (refuse why no_fields p)) → ((r : Reading) → r.verdict ≡ Read → P (past_spaces s r))
+        → (t : List ℕ) (n next : Node) → P (action_read t s n next f p)
+    unfolding action_read
     by-action P refused done t n next =
-        let new = (patternOf n.pattern).mode in
-        let r = performed s n (isFree t n next) (task_of n.pattern) (withMode new f) p in
+        let new = (pattern_of n.pattern).mode in
+        let r = performed s n (is_free t n next) (task_of n.pattern) (with_mode new f) p in
         by-if P (mixes new (get f mode)) _ _ (λ e. refused (MixedDates n.pattern)) (λ e. by-verdict P refused r r.verdict (done r))
 
-    pub payable-action : (t : List ℕ) (n next : Node) → (actionRead t s n next f p).verdict ≡ Read → Payable s (actionRead t s n next f p).place
-    unfolding pastSpaces
+    pub payable-action : (t : List ℕ) (n next : Node) → (action_read t s n next f p).verdict ≡ Read → Payable s (action_read t s n next f p).place
+    unfolding past_spaces
     payable-action =
         by-action (λ (r : Reading). r.verdict ≡ Read → Payable s r.place) (λ why e. absurd (never e)) (λ r v e. payable-past r.place)
 
   -- the spaces before a node; before the first node none were skipped
-  pub payable-entered : (p : Place) (first : Bool) → Payable s p → (first ≡ true → p.extra ≡ 0) → Payable s (enteredBy s first p)
+  pub payable-entered : (p : Place) (first : Bool) → Payable s p → (first ≡ true → p.extra ≡ 0) → Payable s (entered_by s first p)
   payable-entered p first pay none =
-      by-if (Payable s) (isExact p) p (if first then skipped s p else p) (λ e. pay)
+      by-if (Payable s) (is_exact p) p (if first then skipped s p else p) (λ e. pay)
       (λ e. by-if (Payable s) first (skipped s p) p (λ b h. omega (arith, none b, spaces-few s p)) (λ b. pay))
 
   less : (n : ℕ) → n ≤ length s → pred n ≤ length s
   less n h = omega arith
 
   -- a literal takes skipped spaces and adds none
-  pub payable-literal : (n : Node) (p : Place) → Payable s p → Payable s (literalPassed s n p)
-  unfolding literalPassed
+  pub payable-literal : (n : Node) (p : Place) → Payable s p → Payable s (literal_passed s n p)
+  unfolding literal_passed
   payable-literal n p pay =
-      let b = byteAt s p.at in
+      let b = byte_at s p.at in
       let left = place p.at (pred p.extra) false in
-      by-if (Payable s) (isExact p) (charPassed s n p) _ (λ e. pay)
-      (λ e. by-if (Payable s) (eqb n.kind separator || eqb n.kind space) (blankPassed s p) _
-      (λ k. by-if (Payable s) (ltb p.at (length s) && (isSpace b || isSeparator b)) (place (p.at + 1) p.extra false) left (λ t h. pay e) (λ t h. less p.extra (pay e)))
-      (λ k. by-if (Payable s) (ltb 0 p.extra) left (charPassed s n p) (λ t h. less p.extra (pay e)) (λ t. pay)))
+      by-if (Payable s) (is_exact p) (char_passed s n p) _ (λ e. pay)
+      (λ e. by-if (Payable s) (eqb n.kind separator || eqb n.kind space) (blank_passed s p) _
+      (λ k. by-if (Payable s) (ltb p.at (length s) && (is_space b || is_separator b)) (place (p.at + 1) p.extra false) left (λ t h. pay e) (λ t h. less p.extra (pay e)))
+      (λ k. by-if (Payable s) (ltb 0 p.extra) left (char_passed s n p) (λ t h. less p.extra (pay e)) (λ t. pay)))
 
   -- a node that is read
   pub payable-node
       : (n next : Node) (f : Fields) (p : Place) (first : Bool) (t : List ℕ) → Payable s p → (first ≡ true → p.extra ≡ 0)
-      → (nodeRead t s n next first f p).verdict ≡ Read → Payable s (nodeRead t s n next first f p).place
-  unfolding nodeRead entered
+      → (node_read t s n next first f p).verdict ≡ Read → Payable s (node_read t s n next first f p).place
+  unfolding node_read entered
   payable-node n next f p first t pay none =
       by-if (λ (r : Reading). r.verdict ≡ Read → Payable s r.place) (eqb n.kind action) _ _ (λ e. payable-action f _ t n next)
       (λ e v. rw e (payable-literal n _ (payable-entered p first pay none)))

@@ -18,28 +18,28 @@ use lib.ListN.{length, get_or}
 use lib.Seq.{get_or-set_other}
 use Rattle.base_notation.specs.Choice.{if◌then◌else◌}
 use Rattle.base_notation.proofs.Cases.{by-if}
-use Rattle.base_accents.specs.Accents.{measureOf}
+use Rattle.base_accents.specs.Accents.{measure_of}
 use Rattle.base_strtol.specs.Strtol.{short_at}
 use Rattle.base_strtol.specs.declared.Short.{Short}
 use Rattle.read_integers.specs.Number.{number_at}
-use Rattle.read_integers.specs.Suffix.{isFree, ordinal, pastOrdinal}
+use Rattle.read_integers.specs.Suffix.{is_free, ordinal, past_ordinal}
 use Rattle.read_integers.specs.declared.Number.{Number}
 use Rattle.read_integers.specs.declared.Number.TheVariants.{Read}
 use Rattle.read_integers.proofs.FewDigits.{few-digits, few-no-space}
-use Rattle.template_patterns.specs.Patterns.{patternOf}
-use Rattle.template_nodes.specs.Template.{endNode}
+use Rattle.template_patterns.specs.Patterns.{pattern_of}
+use Rattle.template_nodes.specs.Template.{end_node}
 use Rattle.template_nodes.specs.declared.Node.{Node}
-use Rattle.read_fields.specs.Fields.{atPlace, conflicts, fields_of, get, mode, put, read}
-use Rattle.read_fields.specs.Tasks.{commaYear, exact, number, task_of}
+use Rattle.read_fields.specs.Fields.{at_place, conflicts, fields_of, get, mode, put, read}
+use Rattle.read_fields.specs.Tasks.{comma_year, exact, number, task_of}
 use Rattle.read_fields.specs.declared.Fields.{Fields}
 use Rattle.read_fields.specs.declared.Place.{Place}
 use Rattle.read_fields.specs.declared.Reading.{Reading}
 use Rattle.read_fields.specs.declared.Task.{Task}
 use Rattle.read_fields.proofs.Assigned.{number-apart}
-use Rattle.read_numbers.specs.Numbers.{storedNumber, with_number}
-use Rattle.read_numbers.specs.Year.{commaYearAt}
-use Rattle.read_literals.specs.Literals.{enteredBy, literalPassed, pastField, place}
-use Rattle.read_input.specs.Reader.{actionRead, by_kind, entered, mixes, nodeRead, performed, withMode}
+use Rattle.read_numbers.specs.Numbers.{stored_number, with_number}
+use Rattle.read_numbers.specs.Year.{comma_year_at}
+use Rattle.read_literals.specs.Literals.{entered_by, literal_passed, past_field, place}
+use Rattle.read_input.specs.Reader.{action_read, by_kind, entered, mixes, node_read, performed, with_mode}
 use Rattle.read_input.specs.Lane.{NumberPut, Took, left_at}
 use Rattle.read_input.specs.declared.lane.Taken.{Taken}
 use Rattle.read_input.specs.Turn.{Turned}
@@ -47,7 +47,7 @@ use Rattle.read_input.proofs.Turns.{passes}
 use Rattle.read_input.proofs.Verdicts.{passed}
 
 -- the date mode leaves every other field
-other-field : (new k : ℕ) (f : Fields) → (k ≡ 0 → ⊥) → get (withMode new f) k ≡ get f k
+other-field : (new k : ℕ) (f : Fields) → (k ≡ 0 → ⊥) → get (with_mode new f) k ≡ get f k
 other-field new k f apart =
     by-if (λ (g : Fields). get g k ≡ get f k) (eqb new 0) f (put f mode (pos new)) (λ e. refl) (λ e. get_or-set_other f.values mode k (pos new) (pos 0) apart)
 
@@ -56,7 +56,7 @@ module _ (t s : List ℕ) (n next : Node) (f : Fields) (p : Place) where
   task = task_of n.pattern
 
   abbrev new : ℕ
-  new = (patternOf n.pattern).mode
+  new = (pattern_of n.pattern).mode
 
   abbrev value : ℤ
   value = pos (short_at s p.at).value
@@ -65,7 +65,7 @@ module _ (t s : List ℕ) (n next : Node) (f : Fields) (p : Place) where
   end = (short_at s p.at).end
 
   module _ (kind : task.kind ≡ number) (bare : ordinal n.suffix ≡ false) (inexact : p.fx ≡ 0) (moved : end ≡ p.at → ⊥)
-      (wide : isFree t n next ≡ false → end - p.at ≡ task.operand)
+      (wide : is_free t n next ≡ false → end - p.at ≡ task.operand)
       (unmixed : mixes new (get f mode) ≡ false)
       (alone : conflicts (get f task.field) value ≡ false)
     where
@@ -73,34 +73,34 @@ module _ (t s : List ℕ) (n next : Node) (f : Fields) (p : Place) where
       q = place p.at p.extra false
 
       -- no space is before the digits
-      entered-is : enteredBy s (not (eqb task.kind exact)) p ≡ q
+      entered-is : entered_by s (not (eqb task.kind exact)) p ≡ q
       entered-is = rw (kind, inexact, few-no-space s p.at n.pattern task.operand moved, add-zero p.at, add-zero p.extra) refl
 
       abbrev r : Reading
-      r = read (with_number task value (end - p.at) (withMode new f)) (atPlace q end)
+      r = read (with_number task value (end - p.at) (with_mode new f)) (at_place q end)
 
-      stored : storedNumber s n task (Read value end) (withMode new f) q ≡ r
-      unfolding storedNumber pastOrdinal
+      stored : stored_number s n task (Read value end) (with_mode new f) q ≡ r
+      unfolding stored_number past_ordinal
       stored = rw (other-field new task.field f (number-apart n.pattern kind), alone, bare) refl
 
       -- the number, by the kind of the task
       abbrev found : ℕ → Number
-      found k = if eqb k commaYear then commaYearAt s p.at n.pattern else number_at s p.at task.operand n.pattern (isFree t n next)
+      found k = if eqb k comma_year then comma_year_at s p.at n.pattern else number_at s p.at task.operand n.pattern (is_free t n next)
 
       abbrev with : Number → Reading
-      with x = storedNumber s n task x (withMode new f) q
+      with x = stored_number s n task x (with_mode new f) q
 
-      is : r ≡ performed s n (isFree t n next) task (withMode new f) q
+      is : r ≡ performed s n (is_free t n next) task (with_mode new f) q
       unfolding performed
       is =
-          sym (ap (λ (k : ℕ). by_kind k s n (isFree t n next) task (withMode new f) q) kind
+          sym (ap (λ (k : ℕ). by_kind k s n (is_free t n next) task (with_mode new f) q) kind
           ∙ ap (λ (k : ℕ). with (found k)) kind
-          ∙ ap with (few-digits s p.at n.pattern task.operand moved (isFree t n next) wide)
+          ∙ ap with (few-digits s p.at n.pattern task.operand moved (is_free t n next) wide)
           ∙ stored)
 
       pub plainly
-          : read (with_number task value (end - p.at) (withMode new f)) (pastField s (place end 0 false))
-          ≡ actionRead t s n next f (enteredBy s (not (eqb task.kind exact)) p)
+          : read (with_number task value (end - p.at) (with_mode new f)) (past_field s (place end 0 false))
+          ≡ action_read t s n next f (entered_by s (not (eqb task.kind exact)) p)
       plainly = rw entered-is (passed t s n next f q unmixed r is refl)
 
 pub is-left : {t s : List ℕ} {n next : Node} {before after : List ℤ} {p : Place} {r : Taken} → r ≡ left_at p → after ≡ before → Took t s n next before p r after
@@ -113,38 +113,38 @@ or-first false e f = absurd (true≢false (sym e ∙ f))
 
 -- the same of what the code has: the digits d, the task, the mode, and the place after the spaces that follow
 module _ (t s : List ℕ) (n next : Node) (before : List ℤ) (p : Place) {after : List ℤ} {after-spaces : Place} {d : Short} {task : Task} {new : ℕ} {put : Bool}
-    (d-is : d ≡ short_at s p.at) (task-is : task ≡ task_of n.pattern) (New-is : new ≡ (patternOf n.pattern).mode)
+    (d-is : d ≡ short_at s p.at) (task-is : task ≡ task_of n.pattern) (New-is : new ≡ (pattern_of n.pattern).mode)
   where
     pub is-taken
-        : task.kind ≡ number → ordinal n.suffix ≡ false → p.fx ≡ 0 → (d.end ≡ p.at → ⊥) → (eqb (d.end - p.at) task.operand || isFree t n next) ≡ true
+        : task.kind ≡ number → ordinal n.suffix ≡ false → p.fx ≡ 0 → (d.end ≡ p.at → ⊥) → (eqb (d.end - p.at) task.operand || is_free t n next) ≡ true
         → NumberPut new task (pos d.value) (d.end - p.at) before put after → put ≡ true
-        → after-spaces ≡ pastField s (place d.end 0 false)
-        → read (fields_of after) after-spaces ≡ actionRead t s n next (fields_of before) (enteredBy s (not (eqb (task_of n.pattern).kind exact)) p)
+        → after-spaces ≡ past_field s (place d.end 0 false)
+        → read (fields_of after) after-spaces ≡ action_read t s n next (fields_of before) (entered_by s (not (eqb (task_of n.pattern).kind exact)) p)
     is-taken kind bare inexact moved fits was-put held place_is =
         let put_is = rw (d-is, task-is, New-is) at was-put in
         let end = (short_at s p.at).end in
-        let wide : isFree t n next ≡ false → end - p.at ≡ (task_of n.pattern).operand = λ f. eqb-true (end - p.at) (task_of n.pattern).operand (or-first (eqb (end - p.at) (task_of n.pattern).operand) (rw (d-is, task-is) at fits) f) in
+        let wide : is_free t n next ≡ false → end - p.at ≡ (task_of n.pattern).operand = λ f. eqb-true (end - p.at) (task_of n.pattern).operand (or-first (eqb (end - p.at) (task_of n.pattern).operand) (rw (d-is, task-is) at fits) f) in
         rw (place_is, d-is)
-        (ap (λ (g : Fields). read g (pastField s (place end 0 false))) (put_is.put held)
+        (ap (λ (g : Fields). read g (past_field s (place end 0 false))) (put_is.put held)
         ∙ plainly t s n next (fields_of before) p (rw task-is at kind) bare inexact (rw d-is at moved) wide (put_is.unmixed held) (put_is.alone held))
 
 -- node i of the nodes ns, where something of the input is left
 module _ (t s : List ℕ) (ns : List Node) (whole : Reading) (i : ℕ) (f : Fields) (p : Place) (turned : Turned t s ns whole i f p) (h : i < length ns) (l : p.at < length s)
-    (n : Node) (e : n ≡ get_or ns i endNode)
+    (n : Node) (e : n ≡ get_or ns i end_node)
   where
     pub of-pattern
-        : n.kind ≡ 1 → {g : Fields} {q : Place} → read g q ≡ actionRead t s n (get_or ns (i + 1) endNode) f (enteredBy s (not (eqb (task_of n.pattern).kind exact)) p)
+        : n.kind ≡ 1 → {g : Fields} {q : Place} → read g q ≡ action_read t s n (get_or ns (i + 1) end_node) f (entered_by s (not (eqb (task_of n.pattern).kind exact)) p)
         → Turned t s ns whole (i + 1) g q
-    unfolding nodeRead entered
-    of-pattern k is = passes t s ns whole i f p turned h l n (get_or ns (i + 1) endNode) e refl _ _ (rw (eq-eqb n.kind 1 k) is)
+    unfolding node_read entered
+    of-pattern k is = passes t s ns whole i f p turned h l n (get_or ns (i + 1) end_node) e refl _ _ (rw (eq-eqb n.kind 1 k) is)
 
-    pub of-literal : (n.kind ≡ 1 → ⊥) → Turned t s ns whole (i + 1) f (literalPassed s n (enteredBy s (eqb i 0) p))
-    unfolding nodeRead entered
-    of-literal k = passes t s ns whole i f p turned h l n (get_or ns (i + 1) endNode) e refl _ _ (rw (ne_eqb n.kind 1 k) refl)
+    pub of-literal : (n.kind ≡ 1 → ⊥) → Turned t s ns whole (i + 1) f (literal_passed s n (entered_by s (eqb i 0) p))
+    unfolding node_read entered
+    of-literal k = passes t s ns whole i f p turned h l n (get_or ns (i + 1) end_node) e refl _ _ (rw (ne_eqb n.kind 1 k) refl)
 
     -- a character for which no skipped space can pay
-    pub of-character : (at : ℕ) → p ≡ place at 0 false → n.kind ≡ 2 → (i ≡ 0 → ⊥) → Turned t s ns whole (i + 1) f (place (at + measureOf n.accents s at) 0 false)
-    unfolding literalPassed
+    pub of-character : (at : ℕ) → p ≡ place at 0 false → n.kind ≡ 2 → (i ≡ 0 → ⊥) → Turned t s ns whole (i + 1) f (place (at + measure_of n.accents s at) 0 false)
+    unfolding literal_passed
     of-character at q k later = rw (q, ne_eqb i 0 later, k) at (of-literal (λ z. absurd (omega (arith, k, z))))
 
 -- a place without skipped spaces, before FX

@@ -12,17 +12,17 @@ use lib.Dec.{eqb, ltb, lit<}
 use lib.IntN.{ℤ, pos}
 use lib.ListN.{length}
 use lib.Seq.{get_or-set_same, get_or-set_other, set_out}
-use Rattle.base_notation.specs.Text.{byteAt}
-use Rattle.base_chars.specs.Class.{isLetter}
+use Rattle.base_notation.specs.Text.{byte_at}
+use Rattle.base_chars.specs.Class.{is_letter}
 use Rattle.base_notation.proofs.Cases.{by-if, both}
-use Rattle.read_integers.specs.Suffix.{isFree}
+use Rattle.read_integers.specs.Suffix.{is_free}
 use Rattle.read_integers.specs.declared.Number.{Number}
 use Rattle.read_integers.specs.declared.Number.TheVariants.{Read as Integer, Refused as NoInteger}
-use Rattle.template_patterns.specs.Patterns.{patternOf}
+use Rattle.template_patterns.specs.Patterns.{pattern_of}
 use Rattle.template_nodes.specs.Template.{action}
 use Rattle.template_nodes.specs.declared.Node.{Node}
-use Rattle.read_fields.specs.Fields.{conflicts, get, put, noFields, onward, is_zero, mode, clock, yysz, tzsign, tzh, tzm, ff}
-use Rattle.read_fields.specs.Tasks.{number, word, exact, dropped, commaYear, offset, offsetMinutes, fraction, hour12, wholeYear, partYear, oddHour12, hours, noLetter, task_of}
+use Rattle.read_fields.specs.Fields.{conflicts, get, put, no_fields, onward, is_zero, mode, clock, yysz, tzsign, tzh, tzm, ff}
+use Rattle.read_fields.specs.Tasks.{number, word, exact, dropped, comma_year, offset, offset_minutes, fraction, hour12, whole_year, part_year, odd_hour12, hours, no_letter, task_of}
 use Rattle.read_fields.proofs.Assigned.{each-task}
 use Rattle.read_fields.specs.declared.Fields.{Fields}
 use Rattle.read_fields.specs.declared.Place.{Place}
@@ -30,13 +30,13 @@ use Rattle.read_fields.specs.declared.Reading.{Reading}
 use Rattle.read_fields.specs.declared.Task.{Task}
 use Rattle.read_fields.specs.declared.Verdict.{Verdict}
 use Rattle.read_fields.specs.declared.Verdict.TheVariants.{Read, Refused}
-use Rattle.read_numbers.specs.Numbers.{kept, noted, storedNumber, droppedNumber}
-use Rattle.read_words.specs.Words.{meant, keptWord, notedWord, storedWord}
+use Rattle.read_numbers.specs.Numbers.{kept, noted, stored_number, dropped_number}
+use Rattle.read_words.specs.Words.{meant, kept_word, noted_word, stored_word}
 use Rattle.read_words.specs.declared.spelling.Word.{Word}
 use Rattle.read_words.specs.declared.spelling.Word.TheVariants.{At, Nothing}
-use Rattle.read_offsets.specs.Offsets.{storedOffset, colonMinutes, thenMinutes, readOffset, signOf, with_sign}
+use Rattle.read_offsets.specs.Offsets.{stored_offset, colon_minutes, then_minutes, read_offset, sign_of, with_sign}
 use Rattle.read_literals.specs.Literals.{place}
-use Rattle.read_input.specs.Reader.{mixes, withMode, performed, pastSpaces, whenRead, actionRead, entered, nodeRead, head_of, readFrom, read_all}
+use Rattle.read_input.specs.Reader.{mixes, with_mode, performed, past_spaces, when_read, action_read, entered, node_read, head_of, read_from, read_all}
 
 pub record Precise (f : Fields) : Type 0 where
   pub at : ℕ
@@ -48,7 +48,7 @@ abbrev PreciseIn : Reading → Type 0
 PreciseIn r = Precise r.fields
 
 -- no field was read
-none : Precise noFields
+none : Precise no_fields
 none = record { at = 0; is = refl; to = omega arith }
 
 -- another field is set
@@ -65,11 +65,11 @@ module _ (f : Fields) (h : Precise f) where
       split false e = record { at = h.at; is = rw (set_out f.values ff (pos n) (ltb-false _ _ e)) h.is; to = h.to }
 
 -- a task sets another field, and one that notes the digits of a fraction has at most 6
-abbrev takesNumber : Task → Bool
-takesNumber t = eqb t.kind number || eqb t.kind commaYear
+abbrev takes_number : Task → Bool
+takes_number t = eqb t.kind number || eqb t.kind comma_year
 
 abbrev precise : Task → Bool
-precise t = ltb t.field 23 && (not (takesNumber t && eqb t.rule fraction) || ltb t.operand 7)
+precise t = ltb t.field 23 && (not (takes_number t && eqb t.rule fraction) || ltb t.operand 7)
 
 task-precise : (k : ℕ) → precise (task_of k) ≡ true
 unfolding task_of
@@ -80,44 +80,44 @@ noted-precise : (rule width : ℕ) (f : Fields) → (eqb rule fraction ≡ true 
 unfolding noted
 noted-precise rule width f few h =
     by-if Precise (eqb rule hour12) _ _ (λ e. other f h clock (pos 12) (lit< tt))
-    (λ e. by-if Precise (eqb rule wholeYear) _ _ (λ e. other f h yysz (pos 4) (lit< tt))
-    (λ e. by-if Precise (eqb rule partYear) _ _ (λ e. other f h yysz (pos width) (lit< tt))
+    (λ e. by-if Precise (eqb rule whole_year) _ _ (λ e. other f h yysz (pos 4) (lit< tt))
+    (λ e. by-if Precise (eqb rule part_year) _ _ (λ e. other f h yysz (pos width) (lit< tt))
     (λ e. by-if Precise (eqb rule fraction) _ _ (λ e. digits f h width (few e)) (λ e. h))))
 
-word-noted : (rule : ℕ) (f : Fields) → Precise f → Precise (notedWord rule f)
-word-noted rule f h = by-if Precise (eqb rule oddHour12) _ _ (λ e. other f h clock (pos 12) (lit< tt)) (λ e. h)
+word-noted : (rule : ℕ) (f : Fields) → Precise f → Precise (noted_word rule f)
+word-noted rule f h = by-if Precise (eqb rule odd_hour12) _ _ (λ e. other f h clock (pos 12) (lit< tt)) (λ e. h)
 
 signed : (f : Fields) → Precise f → Precise (with_sign f)
 signed f h = by-if Precise (is_zero (get f tzsign)) _ _ (λ e. other f h tzsign (pos 1) (lit< tt)) (λ e. h)
 
-in-mode : (new : ℕ) (f : Fields) → Precise f → Precise (withMode new f)
+in-mode : (new : ℕ) (f : Fields) → Precise f → Precise (with_mode new f)
 in-mode new f h = by-if Precise (eqb new 0) _ _ (λ e. h) (λ e. other f h mode (pos new) (lit< tt))
 
 -- a number or a word that is stored
 module _ (s : List ℕ) (n : Node) (f : Fields) (p : Place) (h : Precise f) where
   stored-number : (task : Task) → task.field < 23 → (eqb task.rule fraction ≡ true → task.operand ≤ 6) → (z : Number)
-      → PreciseIn (storedNumber s n task z f p)
-  unfolding storedNumber
+      → PreciseIn (stored_number s n task z f p)
+  unfolding stored_number
   stored-number task l few (NoInteger why) = h
   stored-number task l few (Integer z next) =
       by-if PreciseIn (conflicts (get f task.field) z) _ _ (λ e. h)
       (λ e. noted-precise task.rule task.operand _ few (other f h task.field (kept task.rule z (next - p.at)) l))
 
-  dropped-number : (z : Number) → PreciseIn (droppedNumber s n z f p)
-  unfolding droppedNumber
+  dropped-number : (z : Number) → PreciseIn (dropped_number s n z f p)
+  unfolding dropped_number
   dropped-number (NoInteger why) = h
   dropped-number (Integer z next) = h
 
-  stored-word : (task : Task) → task.field < 23 → (w : Word) → PreciseIn (storedWord n task w f p)
-  unfolding storedWord
+  stored-word : (task : Task) → task.field < 23 → (w : Word) → PreciseIn (stored_word n task w f p)
+  unfolding stored_word
   stored-word task l Nothing = h
   stored-word task l (At k len) =
       let z = meant task.rule k in
       by-if PreciseIn (conflicts (get f task.field) (pos z)) _ _ (λ e. h)
-      (λ e. word-noted task.rule _ (other f h task.field (pos (keptWord task.rule z)) l))
+      (λ e. word-noted task.rule _ (other f h task.field (pos (kept_word task.rule z)) l))
 
-  stored-offset : (field : ℕ) → field < 23 → (z : Number) → PreciseIn (storedOffset n field z f p)
-  unfolding storedOffset
+  stored-offset : (field : ℕ) → field < 23 → (z : Number) → PreciseIn (stored_offset n field z f p)
+  unfolding stored_offset
   stored-offset field l (NoInteger why) = h
   stored-offset field l (Integer z next) = by-if PreciseIn (conflicts (get f field) z) _ _ (λ e. h) (λ e. other f h field z l)
 
@@ -128,20 +128,20 @@ went_on (Refused why) r rest h k = h
 
 -- an offset: hours, then minutes
 module _ (s : List ℕ) (n : Node) (free : Bool) where
-  colon-minutes : (rule : ℕ) (f : Fields) (p : Place) → Precise f → PreciseIn (colonMinutes s n free rule f p)
-  unfolding colonMinutes
+  colon-minutes : (rule : ℕ) (f : Fields) (p : Place) → Precise f → PreciseIn (colon_minutes s n free rule f p)
+  unfolding colon_minutes
   colon-minutes rule f p h =
-      by-if PreciseIn (not (eqb rule hours) && eqb (byteAt s p.at) (code ":")) _ _ (λ e. stored-offset s n f p h tzm (lit< tt) _) (λ e. h)
+      by-if PreciseIn (not (eqb rule hours) && eqb (byte_at s p.at) (code ":")) _ _ (λ e. stored-offset s n f p h tzm (lit< tt) _) (λ e. h)
 
-  then-minutes : (rule : ℕ) (r : Reading) → PreciseIn r → PreciseIn (thenMinutes s n free rule r)
-  unfolding thenMinutes
+  then-minutes : (rule : ℕ) (r : Reading) → PreciseIn r → PreciseIn (then_minutes s n free rule r)
+  unfolding then_minutes
   then-minutes rule r h = went_on r.verdict r _ h (colon-minutes rule r.fields r.place h)
 
-  read-offset : (task : Task) (f : Fields) (p : Place) → Precise f → PreciseIn (readOffset s n free task f p)
-  unfolding readOffset
+  read-offset : (task : Task) (f : Fields) (p : Place) → Precise f → PreciseIn (read_offset s n free task f p)
+  unfolding read_offset
   read-offset task f p h =
-      by-if PreciseIn (eqb task.rule noLetter && isLetter (byteAt s p.at)) _ _ (λ e. h)
-      (λ e. then-minutes task.rule _ (stored-offset s n (put f tzsign (signOf s p)) p (other f h tzsign (signOf s p) (lit< tt)) tzh (lit< tt) _))
+      by-if PreciseIn (eqb task.rule no_letter && is_letter (byte_at s p.at)) _ _ (λ e. h)
+      (λ e. then-minutes task.rule _ (stored-offset s n (put f tzsign (sign_of s p)) p (other f h tzsign (sign_of s p) (lit< tt)) tzh (lit< tt) _))
 
   -- a pattern, by the kind of its task
   performed-precise : (task : Task) → precise task ≡ true → (f : Fields) (p : Place) → Precise f → PreciseIn (performed s n free task f p)
@@ -149,44 +149,44 @@ module _ (s : List ℕ) (n : Node) (free : Bool) where
   performed-precise task t f p h =
       let tests = both (ltb task.field 23) _ t in
       let field = ltb-true task.field 23 tests.0 in
-      by-if PreciseIn (takesNumber task) _ _
+      by-if PreciseIn (takes_number task) _ _
       (λ k. stored-number s n f p h task field (λ e. let small = ltb-true task.operand 7 (rw (k, e) at tests.1) in omega arith) _)
       (λ k. by-if PreciseIn (eqb task.kind word) _ _ (λ e. stored-word s n f p h task field _)
       (λ k. by-if PreciseIn (eqb task.kind exact) _ _ (λ e. h)
       (λ k. by-if PreciseIn (eqb task.kind dropped) _ _ (λ e. dropped-number s n f p h _)
       (λ k. by-if PreciseIn (eqb task.kind offset) _ _ (λ e. read-offset task f p h)
-      (λ k. by-if PreciseIn (eqb task.kind offsetMinutes) _ _ (λ e. stored-offset s n (with_sign f) p (signed f h) tzm (lit< tt) _) (λ e. h))))))
+      (λ k. by-if PreciseIn (eqb task.kind offset_minutes) _ _ (λ e. stored-offset s n (with_sign f) p (signed f h) tzm (lit< tt) _) (λ e. h))))))
 
 -- a node, and all of them
 module _ (t s : List ℕ) where
-  when-read : (v : Verdict) (r : Reading) (p : Place) → PreciseIn r → PreciseIn (whenRead v (pastSpaces s r) p)
-  unfolding pastSpaces
+  when-read : (v : Verdict) (r : Reading) (p : Place) → PreciseIn r → PreciseIn (when_read v (past_spaces s r) p)
+  unfolding past_spaces
   when-read Read r p h = h
   when-read (Refused why) r p h = none
 
-  action-read : (n next : Node) (f : Fields) (p : Place) → Precise f → PreciseIn (actionRead t s n next f p)
-  unfolding actionRead
+  action-read : (n next : Node) (f : Fields) (p : Place) → Precise f → PreciseIn (action_read t s n next f p)
+  unfolding action_read
   action-read n next f p h =
-      let new = (patternOf n.pattern).mode in
-      let r = performed s n (isFree t n next) (task_of n.pattern) (withMode new f) p in
+      let new = (pattern_of n.pattern).mode in
+      let r = performed s n (is_free t n next) (task_of n.pattern) (with_mode new f) p in
       by-if PreciseIn (mixes new (get f mode)) _ _ (λ e. none)
       (λ e. when-read r.verdict r p
-      (performed-precise s n (isFree t n next) (task_of n.pattern) (task-precise n.pattern) (withMode new f) p (in-mode new f h)))
+      (performed-precise s n (is_free t n next) (task_of n.pattern) (task-precise n.pattern) (with_mode new f) p (in-mode new f h)))
 
-  node-read : (n next : Node) (first : Bool) (f : Fields) (p : Place) → Precise f → PreciseIn (nodeRead t s n next first f p)
-  unfolding nodeRead
+  node-read : (n next : Node) (first : Bool) (f : Fields) (p : Place) → Precise f → PreciseIn (node_read t s n next first f p)
+  unfolding node_read
   node-read n next first f p h =
       by-if PreciseIn (eqb n.kind action) _ _ (λ e. action-read n next f (entered s n first p) h) (λ e. h)
 
-  from : (ns : List Node) (first : Bool) (f : Fields) (p : Place) → Precise f → PreciseIn (readFrom t s ns first f p)
-  unfolding readFrom
+  from : (ns : List Node) (first : Bool) (f : Fields) (p : Place) → Precise f → PreciseIn (read_from t s ns first f p)
+  unfolding read_from
   from [] first f p h = h
   from (n ∷ ns) first f p h =
-      let r = nodeRead t s n (head_of ns) first f p in
+      let r = node_read t s n (head_of ns) first f p in
       let is-precise = node-read n (head_of ns) first f p h in
       by-if PreciseIn (ltb p.at (length s)) _ _
       (λ e. went_on r.verdict r _ is-precise (from ns false r.fields r.place is-precise)) (λ e. h)
 
   pub read-precise : (ns : List Node) → PreciseIn (read_all t s ns)
   unfolding read_all
-  read-precise ns = from ns true noFields (place 0 0 false) none
+  read-precise ns = from ns true no_fields (place 0 0 false) none

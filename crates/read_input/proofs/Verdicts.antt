@@ -9,12 +9,12 @@ use mathlib.Core.List.{List}
 use Prim.Native.Nat.{ℕ}
 use lib.IntN.{ℤ}
 use Rattle.base_refusals.specs.declared.Refusal.{Refusal}
-use Rattle.read_integers.specs.Suffix.{isFree}
-use Rattle.template_patterns.specs.Patterns.{patternOf}
+use Rattle.read_integers.specs.Suffix.{is_free}
+use Rattle.template_patterns.specs.Patterns.{pattern_of}
 use Rattle.template_nodes.specs.declared.Node.{Node}
-use Rattle.read_fields.specs.Fields.{fields_of, get, mode, noFields, read, readInto, refuse, went}
-use Rattle.read_literals.specs.Literals.{pastField}
-use Rattle.read_input.specs.Reader.{Went, actionRead, mixes, pastSpaces, performed, withMode}
+use Rattle.read_fields.specs.Fields.{fields_of, get, mode, no_fields, read, read_into, refuse, went}
+use Rattle.read_literals.specs.Literals.{past_field}
+use Rattle.read_input.specs.Reader.{Went, action_read, mixes, past_spaces, performed, with_mode}
 use Rattle.read_fields.specs.Tasks.{task_of}
 use Rattle.read_fields.specs.declared.Fields.{Fields}
 use Rattle.read_fields.specs.declared.Place.{Place}
@@ -25,21 +25,21 @@ use Rattle.read_fields.specs.declared.Verdict.TheVariants.{Read, Refused}
 use Rattle.read_input.proofs.Payable.{never}
 
 module _ (t s : List ℕ) (n next : Node) (f : Fields) (p : Place)
-    (unmixed : mixes (patternOf n.pattern).mode (get f mode) ≡ false)
+    (unmixed : mixes (pattern_of n.pattern).mode (get f mode) ≡ false)
     (r : Reading)
-    (is : r ≡ performed s n (isFree t n next) (task_of n.pattern) (withMode (patternOf n.pattern).mode f) p)
+    (is : r ≡ performed s n (is_free t n next) (task_of n.pattern) (with_mode (pattern_of n.pattern).mode f) p)
   where
-    pub stopped : (why : Refusal) → r.verdict ≡ Refused why → refuse why noFields p ≡ actionRead t s n next f p
-    unfolding actionRead
+    pub stopped : (why : Refusal) → r.verdict ≡ Refused why → refuse why no_fields p ≡ action_read t s n next f p
+    unfolding action_read
     stopped why e = rw (unmixed, ← is, e)
 
-    pub passed : r.verdict ≡ Read → read r.fields (pastField s r.place) ≡ actionRead t s n next f p
-    unfolding actionRead pastSpaces
+    pub passed : r.verdict ≡ Read → read r.fields (past_field s r.place) ≡ action_read t s n next f p
+    unfolding action_read past_spaces
     passed e = rw (unmixed, ← is, e)
 
 -- what holds of an outcome, by the verdict
 module _ {r : Reading} {o : Outcome} {values : List ℤ} where
-  pub verdict-refused : {why : Refusal} {p : Place} → o ≡ went (Refused why) p → refuse why noFields p ≡ r → Went r o values
+  pub verdict-refused : {why : Refusal} {p : Place} → o ≡ went (Refused why) p → refuse why no_fields p ≡ r → Went r o values
   verdict-refused e is =
       record {
         verdict = ap (λ (x : Outcome). x.verdict) e ∙ ap (λ (x : Reading). x.verdict) is;
@@ -47,7 +47,7 @@ module _ {r : Reading} {o : Outcome} {values : List ℤ} where
         fields = λ v. absurd (never (sym (ap (λ (x : Outcome). x.verdict) e) ∙ v));
       }
 
-  pub verdict-read : readInto o values ≡ r → Went r o values
+  pub verdict-read : read_into o values ≡ r → Went r o values
   verdict-read is =
       record {
         verdict = ap (λ (x : Reading). x.verdict) is;
@@ -56,7 +56,7 @@ module _ {r : Reading} {o : Outcome} {values : List ℤ} where
       }
 
   -- and back
-  pub read_is : Went r o values → o.verdict ≡ Read → readInto o values ≡ r
+  pub read_is : Went r o values → o.verdict ≡ Read → read_into o values ≡ r
   read_is w v = λ i. record { verdict = w.verdict i; fields = w.fields v i; place = w.place i }
 
 -- what holds of an outcome for a reading holds for one that is the same

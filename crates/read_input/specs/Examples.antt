@@ -3,25 +3,25 @@ use Rattle.std.specs.Prelude.{◌≡◌, refl, [], ◌∷◌, map, ℕ, pos}
 use Prim.Native.String.{String}
 use Rattle.base_notation.specs.Text.{utf8}
 use Rattle.template_nodes.specs.Examples.{nodes-compute}
-use Rattle.template_nodes.specs.Template.{nodesOf}
-use Rattle.read_integers.specs.Suffix.{endsNumber}
+use Rattle.template_nodes.specs.Template.{nodes_of}
+use Rattle.read_integers.specs.Suffix.{ends_number}
 use Rattle.read_fields.specs.Fields as F
 use Rattle.read_fields.specs.Tasks.{task_of}
 use Rattle.read_fields.specs.declared.Reading.{Reading}
 use Rattle.read_numbers.specs.Numbers.{number-computes}
 use Rattle.read_words.specs.Words.{word-computes}
 use Rattle.read_offsets.specs.Offsets.{offset-computes}
-use Rattle.read_literals.specs.Literals.{literalPassed}
-use Rattle.read_input.specs.Reader.{performed, pastSpaces, actionRead, entered, nodeRead, readFrom, read_all}
+use Rattle.read_literals.specs.Literals.{literal_passed}
+use Rattle.read_input.specs.Reader.{performed, past_spaces, action_read, entered, node_read, read_from, read_all}
 
 -- unfolds all that reading an input by a template is computed by, for worked examples
 unfoldable pub reading-computes : ℕ
-unfolding read_all readFrom nodeRead entered actionRead pastSpaces performed literalPassed endsNumber task_of nodes-compute number-computes word-computes offset-computes
+unfolding read_all read_from node_read entered action_read past_spaces performed literal_passed ends_number task_of nodes-compute number-computes word-computes offset-computes
 reading-computes = 0
 
 -- an input that is read by a template
 abbrev pub reads : String → String → Reading
-reads t s = read_all (utf8 t) (utf8 s) (nodesOf (utf8 t))
+reads t s = read_all (utf8 t) (utf8 s) (nodes_of (utf8 t))
 
 -- the literals are passed character by character, whichever they are; the day is 5, and reading ends after it
 pub literals

@@ -1,6 +1,6 @@
 -- What holds of the lane: it reads nodes as they are read one by one, and changes nothing for a pattern that it leaves.
 use Rattle.std.specs.Prelude.{◌≡◌, Bool, true, false, not, List, ℕ, ◌≤◌, ◌<◌, eqb, ℤ, length, drop, get_or}
-use Rattle.template_nodes.specs.Template.{action, endNode}
+use Rattle.template_nodes.specs.Template.{action, end_node}
 use Rattle.template_nodes.specs.declared.Node.{Node}
 use Rattle.read_fields.specs.Fields.{conflicts, fields_of, get, mode, read}
 use Rattle.read_fields.specs.Tasks.{exact, task_of}
@@ -9,8 +9,8 @@ use Rattle.read_fields.specs.declared.Place.{Place}
 use Rattle.read_fields.specs.declared.Reading.{Reading}
 use Rattle.read_fields.specs.declared.Task.{Task}
 use Rattle.read_numbers.specs.Numbers.{with_number}
-use Rattle.read_literals.specs.Literals.{enteredBy, place}
-use Rattle.read_input.specs.Reader.{actionRead, mixes, readFrom, withMode}
+use Rattle.read_literals.specs.Literals.{entered_by, place}
+use Rattle.read_input.specs.Reader.{action_read, mixes, read_from, with_mode}
 use Rattle.read_input.specs.Turn.{Turned}
 use Rattle.read_input.specs.declared.lane.Passed.{Passed}
 use Rattle.read_input.specs.declared.lane.Taken.{Taken}
@@ -24,13 +24,13 @@ pub record NumberPut (new : ℕ) (task : Task) (z : ℤ) (n : ℕ) (before : Lis
   pub left : r ≡ false → after ≡ before
   pub unmixed : r ≡ true → mixes new (get (fields_of before) mode) ≡ false
   pub alone : r ≡ true → conflicts (get (fields_of before) task.field) z ≡ false
-  pub put : r ≡ true → fields_of after ≡ with_number task z n (withMode new (fields_of before))
+  pub put : r ≡ true → fields_of after ≡ with_number task z n (with_mode new (fields_of before))
 
 -- a pattern that is taken is read as the definition says; one that is left changes nothing
 pub record Took (t s : List ℕ) (n next : Node) (before : List ℤ) (p : Place) (r : Taken) (after : List ℤ) : Type 0 where
   pub left : r.taken ≡ false → after ≡ before
   pub taken : r.taken ≡ true
-      → read (fields_of after) r.place ≡ actionRead t s n next (fields_of before) (enteredBy s (not (eqb (task_of n.pattern).kind exact)) p)
+      → read (fields_of after) r.place ≡ action_read t s n next (fields_of before) (entered_by s (not (eqb (task_of n.pattern).kind exact)) p)
 
 -- the next node and the place, where no skipped space is left
 abbrev pub passed_at : ℕ → ℕ → Passed
@@ -44,11 +44,11 @@ pub record CharsRead (s : List ℕ) (ns : List Node) (i : ℕ) (p : Place) (r : 
 -- node i is read, and perhaps some after it; only a pattern is left
 pub record NodeTook (t s : List ℕ) (ns : List Node) (i : ℕ) (before : List ℤ) (p : Place) (r : Passed) (after : List ℤ) : Type 0 where
   pub on : i ≤ r.next
-  pub left : r.next ≡ i → (get_or ns i endNode).kind ≡ action
+  pub left : r.next ≡ i → (get_or ns i end_node).kind ≡ action
   pub turned : (whole : Reading) → Turned t s ns whole i (fields_of before) p → Turned t s ns whole r.next (fields_of after) r.place
 
 -- nodes are read from node i on, up to a pattern or the end of the input or of the nodes
 pub record LaneRead (t s : List ℕ) (ns : List Node) (i : ℕ) (p : Place) (before : List ℤ) (r : Passed) (after : List ℤ) : Type 0 where
   pub on : i ≤ r.next
-  pub turned : Turned t s ns (readFrom t s (drop i ns) (eqb i 0) (fields_of before) p) r.next (fields_of after) r.place
-  pub stops : r.next < length ns → r.place.at < length s → (get_or ns r.next endNode).kind ≡ action
+  pub turned : Turned t s ns (read_from t s (drop i ns) (eqb i 0) (fields_of before) p) r.next (fields_of after) r.place
+  pub stops : r.next < length ns → r.place.at < length s → (get_or ns r.next end_node).kind ≡ action

@@ -2,7 +2,7 @@
 use Rattle.std.specs.Prelude.{◌≡◌, List, ℕ, ◌≤◌, eqb, length, drop}
 use Rattle.template_nodes.specs.declared.Node.{Node}
 use Rattle.read_literals.specs.Literals.{Payable}
-use Rattle.read_input.specs.Reader.{readFrom}
+use Rattle.read_input.specs.Reader.{read_from}
 use Rattle.read_fields.specs.declared.Fields.{Fields}
 use Rattle.read_fields.specs.declared.Place.{Place}
 use Rattle.read_fields.specs.declared.Reading.{Reading}
@@ -12,4 +12,4 @@ pub record Turned (t s : List ℕ) (ns : List Node) (whole : Reading) (i : ℕ) 
   pub within : i ≤ length ns
   pub none : i ≡ 0 → p.extra ≡ 0
   pub payable : Payable s p
-  pub left : readFrom t s (drop i ns) (eqb i 0) f p ≡ whole
+  pub left : read_from t s (drop i ns) (eqb i 0) f p ≡ whole

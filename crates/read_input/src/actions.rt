@@ -1,8 +1,8 @@
 // What a pattern reads.
 ghost use Rattle.std.specs.Prelude.{not, ◌≡◌, ◌<◌, ◌≤◌, eqb, length};
-ghost use Rattle.read_literals.specs.Literals.{Payable, enteredBy};
-ghost use Rattle.read_input.specs.Reader.{Went, actionRead, mixes, performed, withMode};
-ghost use Rattle.read_fields.specs.Fields.{fields_of, readInto};
+ghost use Rattle.read_literals.specs.Literals.{Payable, entered_by};
+ghost use Rattle.read_input.specs.Reader.{Went, action_read, mixes, performed, with_mode};
+ghost use Rattle.read_fields.specs.Fields.{fields_of, read_into};
 ghost use Rattle.read_fields.specs.Tasks.{Assigned, exact, task_of};
 
 use base_refusals::Refusal;
@@ -12,7 +12,7 @@ use template_nodes::Node;
 // By the kind of its task.
 fn performed(s: &[u8], n: Node, free: bool, task: Task, f: &mut [i32; 24], p: Place) -> Outcome
     requires { (task.field < 24) × (p.at ≤ length s.now) }
-    ensures { readInto result f.new ≡ performed s.now n free task (fields_of f.old) p }
+    ensures { read_into result f.new ≡ performed s.now n free task (fields_of f.old) p }
 {
     let kind = task.kind;
     match kind {
@@ -37,7 +37,7 @@ pub fn mixes(new: u8, old: i32) -> bool
 }
 
 pub fn with_mode(new: u8, f: &mut [i32; 24])
-    ensures { fields_of f.new ≡ withMode new (fields_of f.old) }
+    ensures { fields_of f.new ≡ with_mode new (fields_of f.old) }
 {
     if new != template_patterns::MODE_NONE {
         state::put(f, field::MODE, new as i32);
@@ -55,7 +55,7 @@ fn action_read(
     p: Place,
 ) -> Outcome
     requires { Assigned n.pattern task × (p.at ≤ length s.now) × (length s.now ≤ 512) }
-    ensures { Went (actionRead t.now s.now n next (fields_of f.old) p) result f.new }
+    ensures { Went (action_read t.now s.now n next (fields_of f.old) p) result f.new }
 {
     let mode = table::mode_at(n.pattern);
     if mixes(mode, state::get(f, field::MODE)) {
@@ -77,7 +77,7 @@ fn action_read(
 // A pattern, with the spaces before it.
 pub fn pattern_read(t: &[u8], s: &[u8], n: Node, next: Node, f: &mut [i32; 24], p: Place) -> Outcome
     requires { Payable s.now p × (p.at ≤ length s.now) × (length s.now ≤ 512) }
-    ensures { Went (actionRead t.now s.now n next (fields_of f.old) (enteredBy s.now (not (eqb (task_of n.pattern).kind exact)) p)) result f.new }
+    ensures { Went (action_read t.now s.now n next (fields_of f.old) (entered_by s.now (not (eqb (task_of n.pattern).kind exact)) p)) result f.new }
 {
     let task = table::task_at(n.pattern);
     let q = read_literals::entered(s, task.kind != table::EXACT, p);

@@ -6,10 +6,10 @@
 // number past nine digits, a field that was set to another value, mixed date modes) the lane ends before the node, and
 // has changed nothing for it: `pattern_read` reads that node, and the lane goes on after it.
 ghost use Rattle.std.specs.Prelude.{false, ◌||◌, ◌≡◌, ◌+◌, ◌<◌, ◌≤◌, eqb, length, get_or};
-ghost use Rattle.template_nodes.specs.Bytes.{nodesIn};
-ghost use Rattle.template_nodes.specs.Template.{endNode};
-ghost use Rattle.read_literals.specs.Literals.{Payable, enteredBy, literalPassed};
-ghost use Rattle.read_integers.specs.Suffix.{isFree, ordinal};
+ghost use Rattle.template_nodes.specs.Bytes.{nodes_in};
+ghost use Rattle.template_nodes.specs.Template.{end_node};
+ghost use Rattle.read_literals.specs.Literals.{Payable, entered_by, literal_passed};
+ghost use Rattle.read_integers.specs.Suffix.{is_free, ordinal};
 ghost use Rattle.read_fields.specs.Tasks.{Assigned, number};
 ghost use Rattle.read_input.specs.Lane.{CharsRead, LaneRead, NodeTook, NumberPut, Took, left_at, passed_at};
 
@@ -76,8 +76,8 @@ fn number_put(mode: u8, task: Task, z: i32, n: usize, f: &mut [i32; 24]) -> bool
 
 // Whether node i reads so many digits, where there are no more: they are as many as its width, or it takes all.
 fn takes(c: &[u8], t: &[u8], i: usize, n: Node, width: usize, count: usize) -> bool
-    requires { i < length (nodesIn c.now) }
-    ensures { result ≡ (eqb count width || isFree t.now n (get_or (nodesIn c.now) (i + 1) endNode)) }
+    requires { i < length (nodes_in c.now) }
+    ensures { result ≡ (eqb count width || is_free t.now n (get_or (nodes_in c.now) (i + 1) end_node)) }
 {
     if count == width {
         return true;
@@ -96,8 +96,8 @@ fn number_taken(
     f: &mut [i32; 24],
     p: Place,
 ) -> Taken
-    requires { (i < length (nodesIn c.now)) × (length s.now ≤ 512) × Assigned n.pattern task × (task.kind ≡ number) × (ordinal n.suffix ≡ false) × (p.fx ≡ 0) }
-    ensures { Took t.now s.now n (get_or (nodesIn c.now) (i + 1) endNode) f.old p result f.new }
+    requires { (i < length (nodes_in c.now)) × (length s.now ≤ 512) × Assigned n.pattern task × (task.kind ≡ number) × (ordinal n.suffix ≡ false) × (p.fx ≡ 0) }
+    ensures { Took t.now s.now n (get_or (nodes_in c.now) (i + 1) end_node) f.old p result f.new }
 {
     let at = p.at;
     let digits = base_strtol::short_number(s, at);
@@ -139,8 +139,8 @@ fn pattern_taken(
     f: &mut [i32; 24],
     p: Place,
 ) -> Taken
-    requires { (i < length (nodesIn c.now)) × (length s.now ≤ 512) }
-    ensures { Took t.now s.now n (get_or (nodesIn c.now) (i + 1) endNode) f.old p result f.new }
+    requires { (i < length (nodes_in c.now)) × (length s.now ≤ 512) }
+    ensures { Took t.now s.now n (get_or (nodes_in c.now) (i + 1) end_node) f.old p result f.new }
 {
     if n.suffix & ORDINAL != 0 {
         return left(p);
@@ -157,8 +157,8 @@ fn pattern_taken(
 
 // Characters from a node on, one after another, where no skipped space can pay for them.
 fn chars_passed(c: &[u8], s: &[u8], from: usize, place: Place) -> Passed
-    requires { (from ≤ length (nodesIn c.now)) × (from ≡ 0 → ⊥) × (place.extra ≡ 0) × (place.fx ≡ 0) }
-    ensures { CharsRead s.now (nodesIn c.now) from place result }
+    requires { (from ≤ length (nodes_in c.now)) × (from ≡ 0 → ⊥) × (place.extra ≡ 0) × (place.fx ≡ 0) }
+    ensures { CharsRead s.now (nodes_in c.now) from place result }
 {
     let count = c.len() / NODE;
     let mut at = place.at;
@@ -179,8 +179,8 @@ fn chars_passed(c: &[u8], s: &[u8], from: usize, place: Place) -> Passed
 
 // A literal, node i, and the characters after it.
 fn literal_taken(c: &[u8], s: &[u8], i: usize, n: Node, p: Place) -> Passed
-    requires { (i < length (nodesIn c.now)) × Payable s.now p × (p.at ≤ length s.now) × (length s.now ≤ 512) }
-    ensures { CharsRead s.now (nodesIn c.now) (i + 1) (literalPassed s.now n (enteredBy s.now (eqb i 0) p)) result }
+    requires { (i < length (nodes_in c.now)) × Payable s.now p × (p.at ≤ length s.now) × (length s.now ≤ 512) }
+    ensures { CharsRead s.now (nodes_in c.now) (i + 1) (literal_passed s.now n (entered_by s.now (eqb i 0) p)) result }
 {
     let q = read_literals::literal_read(s, n, i == 0, p);
     if n.kind == FN_CHAR {
@@ -198,8 +198,8 @@ fn literal_taken(c: &[u8], s: &[u8], i: usize, n: Node, p: Place) -> Passed
 
 // Node i: a pattern that is read or left, or a literal and the characters after it.
 fn node_taken(c: &[u8], t: &[u8], s: &[u8], i: usize, f: &mut [i32; 24], p: Place) -> Passed
-    requires { (i < length (nodesIn c.now)) × (i ≡ 0 → p.extra ≡ 0) × Payable s.now p × (p.at < length s.now) × (length s.now ≤ 512) }
-    ensures { NodeTook t.now s.now (nodesIn c.now) i f.old p result f.new }
+    requires { (i < length (nodes_in c.now)) × (i ≡ 0 → p.extra ≡ 0) × Payable s.now p × (p.at < length s.now) × (length s.now ≤ 512) }
+    ensures { NodeTook t.now s.now (nodes_in c.now) i f.old p result f.new }
 {
     let n = template_nodes::node_at(c, i);
     if n.kind == FN_ACTION {
@@ -215,8 +215,8 @@ fn node_taken(c: &[u8], t: &[u8], s: &[u8], i: usize, f: &mut [i32; 24], p: Plac
 
 // One node after another from a node on, up to a pattern that the lane leaves, or the end of the input or of the nodes.
 pub fn lane(c: &[u8], t: &[u8], s: &[u8], f: &mut [i32; 24], from: usize, place: Place) -> Passed
-    requires { (from ≤ length (nodesIn c.now)) × (from ≡ 0 → place.extra ≡ 0) × Payable s.now place × (length s.now ≤ 512) }
-    ensures { LaneRead t.now s.now (nodesIn c.now) from place f.old result f.new }
+    requires { (from ≤ length (nodes_in c.now)) × (from ≡ 0 → place.extra ≡ 0) × Payable s.now place × (length s.now ≤ 512) }
+    ensures { LaneRead t.now s.now (nodes_in c.now) from place f.old result f.new }
 {
     let count = c.len() / NODE;
     let mut p = place;

@@ -3,9 +3,9 @@ mod actions;
 mod lane;
 
 ghost use Rattle.std.specs.Prelude.{◌≡◌, ◌≤◌, length};
-ghost use Rattle.template_nodes.specs.Bytes.{nodesIn};
+ghost use Rattle.template_nodes.specs.Bytes.{nodes_in};
 ghost use Rattle.read_input.specs.Reader.{Went, read_all};
-ghost use Rattle.read_fields.specs.Fields.{fields_of, noFields};
+ghost use Rattle.read_fields.specs.Fields.{fields_of, no_fields};
 
 use read_fields::{Outcome, Place, Verdict, state};
 use template_nodes::NODE;
@@ -13,8 +13,8 @@ use template_nodes::NODE;
 // The nodes that any bytes hold, one after another, until the input or the nodes end or a node is refused. What they read
 // goes into fields that are lent, all absent at first. t is the template that the nodes were made from.
 pub fn dch_from_char(c: &[u8], t: &[u8], s: &[u8], f: &mut [i32; 24]) -> Outcome
-    requires { (length s.now ≤ 512) × (fields_of f.old ≡ noFields) }
-    ensures { Went (read_all t.now s.now (nodesIn c.now)) result f.new }
+    requires { (length s.now ≤ 512) × (fields_of f.old ≡ no_fields) }
+    ensures { Went (read_all t.now s.now (nodes_in c.now)) result f.new }
 {
     let mut p = Place {
         at: 0,

@@ -13,8 +13,8 @@ use lib.Dec.{eqb, ltb}
 use lib.IntN.{pos}
 use lib.ListN.{length, take, drop, length-drop}
 use Rattle.base_notation.proofs.Cases.{by-if}
-use Rattle.base_chars.specs.Class.{isDigit}
-use Rattle.base_strtol.specs.Runs.{leading, spaces, digits, number, numberFrom}
+use Rattle.base_chars.specs.Class.{is_digit}
+use Rattle.base_strtol.specs.Runs.{leading, spaces, digits, number, number_from}
 use Rattle.base_strtol.specs.Strtol.{answer, short_at, strtol}
 use Rattle.base_strtol.specs.declared.Short.{Short}
 use Rattle.base_strtol.proofs.FewDigits.{short-small, short-strtol}
@@ -30,16 +30,16 @@ digits-taken : (u : List ℕ) → digits (take (digits u) u) ≡ digits u
 unfolding leading
 digits-taken [] = refl
 digits-taken (b ∷ u) =
-    (elim (isDigit b) as (λ q. isDigit b ≡ q → digits (take (digits (b ∷ u)) (b ∷ u)) ≡ digits (b ∷ u)) [
+    (elim (is_digit b) as (λ q. is_digit b ≡ q → digits (take (digits (b ∷ u)) (b ∷ u)) ≡ digits (b ∷ u)) [
       | true ↦ λ e. rw e (rw e (omega (arith, digits-taken u)))
       | false ↦ λ e. rw e refl
     ]) refl
 
-number-taken : (n : ℕ) (u : List ℕ) → numberFrom n (take (digits u) u) ≡ numberFrom n u
-unfolding leading numberFrom
+number-taken : (n : ℕ) (u : List ℕ) → number_from n (take (digits u) u) ≡ number_from n u
+unfolding leading number_from
 number-taken n [] = refl
 number-taken n (b ∷ u) =
-    (elim (isDigit b) as (λ q. isDigit b ≡ q → numberFrom n (take (digits (b ∷ u)) (b ∷ u)) ≡ numberFrom n (b ∷ u)) [
+    (elim (is_digit b) as (λ q. is_digit b ≡ q → number_from n (take (digits (b ∷ u)) (b ∷ u)) ≡ number_from n (b ∷ u)) [
       | true ↦ λ e. rw e (rw e (number-taken (n * 10 + (b - 48)) u))
       | false ↦ λ e. rw e refl
     ]) refl
@@ -80,7 +80,7 @@ module _ (s : List ℕ) (at pattern width : ℕ) (moved : (short_at s at).end �
     unfolding fixed_at
     fixed =
         let no-spaces = no-space u (omega (arith, some)) in
-        let room : width ≤ length s - at = omega (arith, leading-within isDigit u, length-drop at s) in
+        let room : width ≤ length s - at = omega (arith, leading-within is_digit u, length-drop at s) in
         let end_is : at + width ≡ (short_at s at).end = omega (arith, whole.0) in
         rw (no-spaces, add-zero at, in_field, le-ltb (length s - at) width room, lt-ltb 0 width some, le-ltb width width (omega arith), end_is) taken
 
@@ -88,7 +88,7 @@ module _ (s : List ℕ) (at pattern width : ℕ) (moved : (short_at s at).end �
   free : checked pattern at (strtol s at) ≡ Read (pos (short_at s at).value) (short_at s at).end
   free = ap (checked pattern at) (short-strtol s at moved) ∙ taken
 
-  pub few-digits : (isFree : Bool) → (isFree ≡ false → (short_at s at).end - at ≡ width) → number_at s at width pattern isFree ≡ Read (pos (short_at s at).value) (short_at s at).end
+  pub few-digits : (is_free : Bool) → (is_free ≡ false → (short_at s at).end - at ≡ width) → number_at s at width pattern is_free ≡ Read (pos (short_at s at).value) (short_at s at).end
   unfolding number_at
   few-digits true h = free
   few-digits false h = fixed (omega (arith, whole.0, h refl))

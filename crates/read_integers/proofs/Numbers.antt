@@ -14,7 +14,7 @@ use lib.IntN.{ℤ}
 use lib.ListN.{length, take, drop, length-take, length-drop}
 use Rattle.base_notation.proofs.Cases.{by-if, neither}
 use Rattle.base_refusals.specs.declared.Refusal.TheVariants.{Short, Narrow}
-use Rattle.base_chars.specs.Class.{isSpace}
+use Rattle.base_chars.specs.Class.{is_space}
 use Rattle.base_strtol.specs.Runs.{spaces}
 use Rattle.base_strtol.specs.Strtol.{strtol}
 use Rattle.base_strtol.specs.declared.Strtol.{Strtol}
@@ -76,7 +76,7 @@ module _ (s : List ℕ) (at pattern : ℕ) where
         let r = strtol (take width (drop from s)) 0 in
         by-if (Inside s at) (ltb (length s - from) width) _ _ (λ e. tt)
         (λ e. by-if (Inside s at) (ltb 0 r.end && ltb r.end width) _ _ (λ f. tt)
-        (λ f. checked-inside _ (omega arith) (omega (arith, leading-place isSpace s at, end-within (take width (drop from s)) 0, length-take width (drop from s), length-drop from s))))
+        (λ f. checked-inside _ (omega arith) (omega (arith, leading-place is_space s at, end-within (take width (drop from s)) 0, length-take width (drop from s), length-drop from s))))
 
     -- what the function returns, in both cases
     module _ (free : Bool) (n : Number) where

@@ -6,7 +6,7 @@ use Prim.Native.Nat.{ℕ, ◌+◌, ◌-◌}
 use lib.Dec.{eqb, ltb}
 use lib.ListN.{length, take, drop}
 use Rattle.base_notation.proofs.Cases.{by-if}
-use Rattle.base_refusals.specs.Report.{reportOf}
+use Rattle.base_refusals.specs.Report.{report_of}
 use Rattle.base_strtol.specs.Runs.{spaces}
 use Rattle.base_strtol.specs.Strtol.{strtol}
 use Rattle.base_strtol.specs.declared.Strtol.{Strtol}
@@ -17,17 +17,17 @@ use Rattle.read_integers.specs.Number.{fits32, checked, fixed_at, number_at}
 -- P holds of the pattern that a refusal names
 abbrev pub NumberNames : (ℕ → Type 0) → Number → Type 0
 NumberNames P (Read value next) = Unit {0}
-NumberNames P (Refused why) = P (reportOf why).pattern
+NumberNames P (Refused why) = P (report_of why).pattern
 
 module _ (P : ℕ → Type 0) (pattern : ℕ) (own : P pattern) (s : List ℕ) (at : ℕ) where
   checked-own : (r : Strtol) → NumberNames P (checked pattern at r)
-  unfolding checked reportOf
+  unfolding checked report_of
   checked-own r =
       by-if (NumberNames P) (eqb r.end at) _ _ (λ e. own)
       (λ e. by-if (NumberNames P) (r.overflow || not (fits32 r.value)) _ _ (λ f. own) (λ f. tt))
 
   fixed-own : (width : ℕ) → NumberNames P (fixed_at s at width pattern)
-  unfolding fixed_at reportOf
+  unfolding fixed_at report_of
   fixed-own width =
       let from = at + spaces (drop at s) in
       let r = strtol (take width (drop from s)) 0 in

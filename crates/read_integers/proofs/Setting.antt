@@ -9,7 +9,7 @@ use lib.Dec.{eqb}
 use lib.IntN.{ℤ, pos, negsuc}
 use mir.Syntax.{w32}
 use mir.Val.{SFits, of_z}
-use Rattle.read_integers.specs.Setting.{eqℤ}
+use Rattle.read_integers.specs.Setting.{eq_ℤ}
 
 below : (a b : ℕ) → a < 2 ^ 31 → b < 2 ^ 31 → eqb (2 ^ 32 - suc a) (2 ^ 32 - suc b) ≡ eqb a b
 below a b f g = split (eqb a b) refl
@@ -18,7 +18,7 @@ below a b f g = split (eqb a b) refl
     split true e = eq-eqb (2 ^ 32 - suc a) (2 ^ 32 - suc b) (omega (arith, eqb-true a b e))
     split false e = ne_eqb (2 ^ 32 - suc a) (2 ^ 32 - suc b) (λ q. eqb-false a b e (omega arith))
 
-pub same_bits : (a b : ℤ) → SFits w32 a → SFits w32 b → eqb (of_z w32 a) (of_z w32 b) ≡ eqℤ a b
+pub same_bits : (a b : ℤ) → SFits w32 a → SFits w32 b → eqb (of_z w32 a) (of_z w32 b) ≡ eq_ℤ a b
 same_bits (pos a) (pos b) f g = refl
 same_bits (pos a) (negsuc b) f g = ne_eqb a (2 ^ 32 - suc b) (λ q. omega arith)
 same_bits (negsuc a) (pos b) f g = ne_eqb (2 ^ 32 - suc a) b (λ q. omega arith)

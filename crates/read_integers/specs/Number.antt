@@ -32,11 +32,11 @@ fixed_at s at width pattern =
     else checked pattern at (record { value = r.value; end = from + r.end; overflow = r.overflow })
 
 -- a number of any width: all digits that are there
-abbrev pub freeAt : List ℕ → ℕ → ℕ → Number
-freeAt s at pattern = checked pattern at (strtol s at)
+abbrev pub free_at : List ℕ → ℕ → ℕ → Number
+free_at s at pattern = checked pattern at (strtol s at)
 
 unfoldable pub number_at : List ℕ → ℕ → ℕ → ℕ → Bool → Number
-number_at s at width pattern free = if free then freeAt s at pattern else fixed_at s at width pattern
+number_at s at width pattern free = if free then free_at s at pattern else fixed_at s at width pattern
 
 -- what was read ends after its place and within the input, and has 32 bits
 abbrev pub Inside : List ℕ → ℕ → Number → Type 0

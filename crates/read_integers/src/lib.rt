@@ -1,8 +1,8 @@
 // Numbers of the input: of a width, of any width by what follows a pattern, and fields that are set twice.
 ghost use Rattle.std.specs.Prelude.{◌≡◌, ◌≤◌, length};
-ghost use Rattle.read_integers.specs.Number.{checked as checkedFrom, fixed_at, number_at, Found as Numbered};
+ghost use Rattle.read_integers.specs.Number.{checked as checked_from, fixed_at, number_at, Found as Numbered};
 ghost use Rattle.read_integers.specs.Setting.{conflicts};
-ghost use Rattle.read_integers.specs.Suffix.{endsNumber, isFree, Skipped};
+ghost use Rattle.read_integers.specs.Suffix.{ends_number, is_free, Skipped};
 
 use base_refusals::Refusal;
 use base_strtol::Strtol;
@@ -20,7 +20,7 @@ pub const ORDINAL: u8 = template_patterns::SUFFIX_TH | template_patterns::SUFFIX
 
 // Whether what comes after the pattern `n` of the template `t` is no digit.
 pub fn is_next_separator(t: &[u8], n: Node, next: Node) -> bool
-    ensures { result ≡ endsNumber t.now n next }
+    ensures { result ≡ ends_number t.now n next }
 {
     if n.suffix & ORDINAL != 0 {
         return true;
@@ -39,7 +39,7 @@ pub fn is_next_separator(t: &[u8], n: Node, next: Node) -> bool
 
 // Whether the pattern `n` takes all digits that are there.
 pub fn is_free(t: &[u8], n: Node, next: Node) -> bool
-    ensures { result ≡ isFree t.now n next }
+    ensures { result ≡ is_free t.now n next }
 {
     if n.suffix & template_patterns::SUFFIX_FM != 0 {
         return true;
@@ -49,7 +49,7 @@ pub fn is_free(t: &[u8], n: Node, next: Node) -> bool
 
 // A number that strtol read for a field that began at `start`: with its end there, nothing was read.
 fn checked(pattern: u8, start: usize, r: Strtol) -> Number
-    ensures { result ≡ checkedFrom pattern start r }
+    ensures { result ≡ checked_from pattern start r }
 {
     if r.end == start {
         return Number::Refused(Refusal::NotInteger { pattern });

@@ -1,6 +1,6 @@
 // Where reading is in the input: spaces that are skipped, and literals of the template.
 ghost use Rattle.std.specs.Prelude.{true, ◌≡◌, ◌≤◌, pred, length};
-ghost use Rattle.read_literals.specs.Literals.{Payable, pastField, blankPassed, charPassed, enteredBy, literalPassed, place, skipped};
+ghost use Rattle.read_literals.specs.Literals.{Payable, past_field, blank_passed, char_passed, entered_by, literal_passed, place, skipped};
 
 use read_fields::Place;
 use template_nodes::Node;
@@ -29,7 +29,7 @@ fn less_one(n: usize) -> usize
 // A space or separator of the template takes one of the input, or a skipped space.
 fn blank_passed(s: &[u8], p: Place) -> Place
     requires { p.at ≤ length s.now }
-    ensures { result ≡ blankPassed s.now p }
+    ensures { result ≡ blank_passed s.now p }
 {
     let at = p.at;
     let extra = p.extra;
@@ -50,7 +50,7 @@ fn blank_passed(s: &[u8], p: Place) -> Place
 // One character of the input, as the literal's mode measures it.
 fn char_passed(s: &[u8], n: Node, p: Place) -> Place
     requires { p.at ≤ length s.now }
-    ensures { result ≡ charPassed s.now n p }
+    ensures { result ≡ char_passed s.now n p }
 {
     let at = p.at;
     Place {
@@ -61,7 +61,7 @@ fn char_passed(s: &[u8], n: Node, p: Place) -> Place
 
 pub fn literal_passed(s: &[u8], n: Node, p: Place) -> Place
     requires { p.at ≤ length s.now }
-    ensures { result ≡ literalPassed s.now n p }
+    ensures { result ≡ literal_passed s.now n p }
 {
     if p.fx != 0 {
         return char_passed(s, n, p);
@@ -92,7 +92,7 @@ pub fn exact(p: Place) -> Place
 // After a field.
 pub fn past_field(s: &[u8], p: Place) -> Place
     requires { length s.now ≤ 512 }
-    ensures { result ≡ pastField s.now p }
+    ensures { result ≡ past_field s.now p }
 {
     if p.fx != 0 {
         return p;
@@ -103,7 +103,7 @@ pub fn past_field(s: &[u8], p: Place) -> Place
 // Before a node: spaces are skipped where they may be, unless FX was read.
 pub fn entered(s: &[u8], skip: bool, p: Place) -> Place
     requires { Payable s.now p × (length s.now ≤ 512) }
-    ensures { result ≡ enteredBy s.now skip p }
+    ensures { result ≡ entered_by s.now skip p }
 {
     if p.fx != 0 {
         return p;
@@ -117,7 +117,7 @@ pub fn entered(s: &[u8], skip: bool, p: Place) -> Place
 // A literal, with the spaces before it. Most are plain characters for which no skipped space can pay.
 pub fn literal_read(s: &[u8], n: Node, first: bool, p: Place) -> Place
     requires { Payable s.now p × (p.at ≤ length s.now) × (length s.now ≤ 512) }
-    ensures { result ≡ literalPassed s.now n (enteredBy s.now first p) }
+    ensures { result ≡ literal_passed s.now n (entered_by s.now first p) }
 {
     if !first {
         if n.kind == template_nodes::FN_CHAR {

@@ -14,7 +14,7 @@ use borrow.Author.Tests.{eq-eqb, ne_eqb, eqb-false}
 use lib.Dec.{eqb}
 use lib.IntN.{ℤ, pos, ◌+ℤ◌, ◌*ℤ◌}
 use lib.ListN.{length, take, drop, length-take, length-drop}
-use Rattle.base_notation.specs.Text.{byteAt}
+use Rattle.base_notation.specs.Text.{byte_at}
 use Rattle.base_notation.proofs.Bytes.{byte-within}
 use Rattle.base_notation.proofs.Cases.{by-if, both, neither}
 use Rattle.base_wrapping.specs.Wrap.{wrap32}
@@ -26,7 +26,7 @@ use Rattle.read_integers.specs.declared.Number.{Number}
 use Rattle.read_numbers.specs.declared.years.Scanned.{Scanned}
 use Rattle.read_numbers.specs.declared.years.Scanned.TheVariants.{Both, Missing}
 use Rattle.read_integers.specs.Number.{fits32, Inside, Found}
-use Rattle.read_numbers.specs.Year.{joined, scanned, scannedYear, commaYearAt}
+use Rattle.read_numbers.specs.Year.{joined, scanned, scanned_year, comma_year_at}
 
 -- the text t, the first number a, the place from after the spaces, and the second number b
 module _ (t : List ℕ) (a : Strtol) (first : a ≡ strtol t 0) where
@@ -35,15 +35,15 @@ module _ (t : List ℕ) (a : Strtol) (first : a ≡ strtol t 0) where
   no-first e = rw (← first, eq-eqb _ _ e)
 
   -- a comma is within the text
-  pub comma-within : byteAt t a.end ≡ code "," → a.end < length t
+  pub comma-within : byte_at t a.end ≡ code "," → a.end < length t
   comma-within e = byte-within t a.end (λ z. omega (arith, e, z))
 
   module _ (some : a.end ≡ 0 → ⊥) where
-    pub no-comma : (byteAt t a.end ≡ code "," → ⊥) → Missing ≡ scanned t
+    pub no-comma : (byte_at t a.end ≡ code "," → ⊥) → Missing ≡ scanned t
     unfolding scanned
     no-comma n = rw (← first, ne_eqb _ _ some, ne_eqb _ _ n)
 
-    module _ (comma : byteAt t a.end ≡ code ",") (from : ℕ) (blank : from ≡ a.end + 1 + spaces (drop (a.end + 1) t))
+    module _ (comma : byte_at t a.end ≡ code ",") (from : ℕ) (blank : from ≡ a.end + 1 + spaces (drop (a.end + 1) t))
         (b : Strtol) (second : b ≡ strtol (take (from + 3) t) from) where
       pub no_second : b.end ≡ from → Missing ≡ scanned t
       unfolding scanned
@@ -64,15 +64,15 @@ ends t =
     let a = strtol t 0 in
     let from = a.end + 1 + spaces (drop (a.end + 1) t) in
     let b = strtol (take (from + 3) t) from in
-    by-if (Ends t) (eqb a.end 0 || not (eqb (byteAt t a.end) (code ",")) || eqb b.end from) _ _ (λ e. tt)
+    by-if (Ends t) (eqb a.end 0 || not (eqb (byte_at t a.end) (code ",")) || eqb b.end from) _ _ (λ e. tt)
     (λ e.
-    let moved_on : b.end ≡ from → ⊥ = eqb-false _ _ (neither (eqb a.end 0 || not (eqb (byteAt t a.end) (code ","))) _ e).1 in
+    let moved_on : b.end ≡ from → ⊥ = eqb-false _ _ (neither (eqb a.end 0 || not (eqb (byte_at t a.end) (code ","))) _ e).1 in
     let end_after = end-from (take (from + 3) t) from in
     let end-inside = end-within (take (from + 3) t) from in
     (omega (arith, moved_on), omega (arith, moved_on, length-take (from + 3) t)))
 
 module _ (s : List ℕ) (at pattern : ℕ) (h : at ≤ length s) where
-  inside_of : (r : Scanned) → Ends (drop at s) r → Inside s at (scannedYear pattern at r)
+  inside_of : (r : Scanned) → Ends (drop at s) r → Inside s at (scanned_year pattern at r)
   unfolding joined
   inside_of Missing e = tt
   inside_of (Both x y n) e =
@@ -80,10 +80,10 @@ module _ (s : List ℕ) (at pattern : ℕ) (h : at ≤ length s) where
       by-if (Inside s at) (fits32 whole && fits32 (y +ℤ whole)) _ _
       (λ f. (omega (arith, e), omega (arith, e, length-drop at s), (both (fits32 whole) _ f).1)) (λ f. tt)
 
-  pub year-inside : Inside s at (commaYearAt s at pattern)
-  unfolding commaYearAt
+  pub year-inside : Inside s at (comma_year_at s at pattern)
+  unfolding comma_year_at
   year-inside = inside_of (scanned (drop at s)) (ends (drop at s))
 
-  pub found-year : (n : Number) (r : Scanned) → r ≡ scanned (drop at s) → n ≡ scannedYear pattern at r → Found s at (commaYearAt s at pattern) n
-  unfolding commaYearAt
-  found-year n r e q = record { is = q ∙ ap (scannedYear pattern at) e; inside = rw (q, e) year-inside }
+  pub found-year : (n : Number) (r : Scanned) → r ≡ scanned (drop at s) → n ≡ scanned_year pattern at r → Found s at (comma_year_at s at pattern) n
+  unfolding comma_year_at
+  found-year n r e q = record { is = q ∙ ap (scanned_year pattern at) e; inside = rw (q, e) year-inside }

@@ -8,54 +8,54 @@ use lib.Dec.{eqb}
 use lib.IntN.{pos, ◌+ℤ◌, ◌*ℤ◌}
 use lib.ListN.{drop}
 use Rattle.base_notation.proofs.Cases.{by-if}
-use Rattle.base_refusals.specs.Report.{reportOf}
+use Rattle.base_refusals.specs.Report.{report_of}
 use Rattle.read_integers.specs.Number.{fits32, number_at}
 use Rattle.read_integers.specs.declared.Number.{Number}
 use Rattle.read_integers.specs.declared.Number.TheVariants.{Read, Refused}
 use Rattle.read_integers.proofs.Own.{NumberNames, number-own}
 use Rattle.template_nodes.specs.declared.Node.{Node}
 use Rattle.read_fields.specs.Fields.{conflicts, get}
-use Rattle.read_fields.specs.Tasks.{commaYear}
+use Rattle.read_fields.specs.Tasks.{comma_year}
 use Rattle.read_fields.specs.declared.Fields.{Fields}
 use Rattle.read_fields.specs.declared.Place.{Place}
 use Rattle.read_fields.specs.declared.Task.{Task}
 use Rattle.read_fields.proofs.Own.{ReadingNames}
-use Rattle.read_numbers.specs.Numbers.{storedNumber, number_of, readNumber, droppedNumber, readDropped}
-use Rattle.read_numbers.specs.Year.{joined, scanned, scannedYear, commaYearAt}
+use Rattle.read_numbers.specs.Numbers.{stored_number, number_of, read_number, dropped_number, read_dropped}
+use Rattle.read_numbers.specs.Year.{joined, scanned, scanned_year, comma_year_at}
 use Rattle.read_numbers.specs.declared.years.Scanned.{Scanned}
 use Rattle.read_numbers.specs.declared.years.Scanned.TheVariants.{Both, Missing}
 
 -- a year with a comma
 module _ (P : ℕ → Type 0) (pattern : ℕ) (own : P pattern) where
-  scanned-own : (at : ℕ) (a : Scanned) → NumberNames P (scannedYear pattern at a)
-  unfolding joined reportOf
+  scanned-own : (at : ℕ) (a : Scanned) → NumberNames P (scanned_year pattern at a)
+  unfolding joined report_of
   scanned-own at Missing = own
   scanned-own at (Both thousands years next) =
       let whole = thousands *ℤ pos 1000 in
       by-if (NumberNames P) (fits32 whole && fits32 (years +ℤ whole)) _ _ (λ e. tt) (λ e. own)
 
-  comma-own : (s : List ℕ) (at : ℕ) → NumberNames P (commaYearAt s at pattern)
-  unfolding commaYearAt
+  comma-own : (s : List ℕ) (at : ℕ) → NumberNames P (comma_year_at s at pattern)
+  unfolding comma_year_at
   comma-own s at = scanned-own at (scanned (drop at s))
 
 module _ (P : ℕ → Type 0) (s : List ℕ) (n : Node) (own : P n.pattern) (f : Fields) (p : Place) where
   -- a number that goes into its field, and one that is dropped
-  stored-own : (task : Task) (a : Number) → NumberNames P a → ReadingNames P (storedNumber s n task a f p)
-  unfolding storedNumber reportOf
+  stored-own : (task : Task) (a : Number) → NumberNames P a → ReadingNames P (stored_number s n task a f p)
+  unfolding stored_number report_of
   stored-own task (Refused why) named = named
   stored-own task (Read z next) named = by-if (ReadingNames P) (conflicts (get f task.field) z) _ _ (λ e. own) (λ e. tt)
 
-  dropped-own : (a : Number) → NumberNames P a → ReadingNames P (droppedNumber s n a f p)
-  unfolding droppedNumber
+  dropped-own : (a : Number) → NumberNames P a → ReadingNames P (dropped_number s n a f p)
+  unfolding dropped_number
   dropped-own (Refused why) named = named
   dropped-own (Read z next) named = tt
 
-  pub read-number-own : (free : Bool) (task : Task) → ReadingNames P (readNumber s n free task f p)
+  pub read-number-own : (free : Bool) (task : Task) → ReadingNames P (read_number s n free task f p)
   read-number-own free task =
       stored-own task (number_of s n free task p.at)
-      (by-if (NumberNames P) (eqb task.kind commaYear) _ _ (λ e. comma-own P n.pattern own s p.at)
+      (by-if (NumberNames P) (eqb task.kind comma_year) _ _ (λ e. comma-own P n.pattern own s p.at)
       (λ e. number-own P n.pattern own s p.at task.operand free))
 
-  pub read-dropped-own : (free : Bool) (task : Task) → ReadingNames P (readDropped s n free task f p)
+  pub read-dropped-own : (free : Bool) (task : Task) → ReadingNames P (read_dropped s n free task f p)
   read-dropped-own free task =
       dropped-own (number_at s p.at task.operand n.pattern free) (number-own P n.pattern own s p.at task.operand free)

@@ -4,7 +4,7 @@ use Prim.Native.Char.{code}
 use Rattle.std.specs.Int.Signed.{lt_z}
 use Rattle.base_strtol.specs.Strtol.{strtol-computes, strtol}
 use Rattle.base_notation.specs.Choice.{if◌then◌else◌}
-use Rattle.base_notation.specs.Text.{byteAt, utf8}
+use Rattle.base_notation.specs.Text.{byte_at, utf8}
 use Rattle.base_wrapping.specs.Wrap.{wrap32}
 use Rattle.base_refusals.specs.declared.Refusal.TheVariants.{NotTwoNumbers, YearOutOfRange}
 use Rattle.base_strtol.specs.Runs.{spaces}
@@ -27,15 +27,15 @@ scanned t =
     let a = strtol t 0 in
     let from = a.end + 1 + spaces (drop (a.end + 1) t) in
     let b = strtol (take (from + 3) t) from in
-    if eqb a.end 0 || not (eqb (byteAt t a.end) (code ",")) || eqb b.end from then Missing
+    if eqb a.end 0 || not (eqb (byte_at t a.end) (code ",")) || eqb b.end from then Missing
     else Both (wrap32 a.value) (wrap32 b.value) b.end
 
-abbrev pub scannedYear : ℕ → ℕ → Scanned → Number
-scannedYear pattern at (Both thousands years next) = joined pattern thousands years (at + next)
-scannedYear pattern at Missing = Refused (NotTwoNumbers pattern)
+abbrev pub scanned_year : ℕ → ℕ → Scanned → Number
+scanned_year pattern at (Both thousands years next) = joined pattern thousands years (at + next)
+scanned_year pattern at Missing = Refused (NotTwoNumbers pattern)
 
-unfoldable pub commaYearAt : List ℕ → ℕ → ℕ → Number
-commaYearAt s at pattern = scannedYear pattern at (scanned (drop at s))
+unfoldable pub comma_year_at : List ℕ → ℕ → ℕ → Number
+comma_year_at s at pattern = scanned_year pattern at (scanned (drop at s))
 
 -- a year of two or three digits is put near 2020
 unfoldable pub near2020 : ℤ → ℤ
@@ -48,18 +48,18 @@ near2020 y =
 
 -- unfolds all that years are computed by, for worked examples
 unfoldable pub years-compute : ℕ
-unfolding commaYearAt scanned joined near2020 wrap32 strtol-computes
+unfolding comma_year_at scanned joined near2020 wrap32 strtol-computes
 years-compute = 0
 
 -- 2,024 is the year 2024, also with spaces after the comma; without a second number nothing is read
 pub worked
-    : (commaYearAt (utf8 "2,024.") 0 53 ≡ Read (pos 2024) 5) × (commaYearAt (utf8 "2, 024") 0 53 ≡ Read (pos 2024) 6)
-    × (commaYearAt (utf8 "2.024") 0 53 ≡ Refused (NotTwoNumbers 53)) × (commaYearAt (utf8 "2147484,000") 0 53 ≡ Refused (YearOutOfRange 53))
+    : (comma_year_at (utf8 "2,024.") 0 53 ≡ Read (pos 2024) 5) × (comma_year_at (utf8 "2, 024") 0 53 ≡ Read (pos 2024) 6)
+    × (comma_year_at (utf8 "2.024") 0 53 ≡ Refused (NotTwoNumbers 53)) × (comma_year_at (utf8 "2147484,000") 0 53 ≡ Refused (YearOutOfRange 53))
 unfolding years-compute
 worked = (refl, refl, refl, refl)
 
 -- the first number is cut to 32 bits without a refusal: 4294967298 counts as 2
-pub cut : commaYearAt (utf8 "4294967298,024") 0 53 ≡ Read (pos 2024) 14
+pub cut : comma_year_at (utf8 "4294967298,024") 0 53 ≡ Read (pos 2024) 14
 unfolding years-compute
 cut = refl
 

@@ -4,8 +4,8 @@ mod years;
 ghost use Rattle.std.specs.Prelude.{List, ◌≡◌, ◌<◌, ◌≤◌, ◌^◌, ℤ, pos, length};
 ghost use Rattle.read_integers.specs.Number.{Found as Numbered, Inside};
 ghost use Rattle.base_wrapping.specs.Wrap.{◌⊗◌};
-ghost use Rattle.read_fields.specs.Fields.{fields_of, readInto};
-ghost use Rattle.read_numbers.specs.Numbers.{kept, missing, nearIfShort, noted, number_of, readDropped, readNumber, storedNumber, sundayFirst, with_number};
+ghost use Rattle.read_fields.specs.Fields.{fields_of, read_into};
+ghost use Rattle.read_numbers.specs.Numbers.{kept, missing, near_if_short, noted, number_of, read_dropped, read_number, stored_number, sunday_first, with_number};
 
 use base_refusals::Refusal;
 use read_fields::{Outcome, Place, Task, field, state, table};
@@ -49,7 +49,7 @@ fn scaled(z: i32, width: usize, n: usize) -> i32
 
 // A year of fewer than four digits is put near 2020.
 fn near_if_short(z: i32, n: usize) -> i32
-    ensures { result ≡ nearIfShort z n }
+    ensures { result ≡ near_if_short z n }
 {
     if n < 4 {
         return years::adjust_partial_year(z);
@@ -59,7 +59,7 @@ fn near_if_short(z: i32, n: usize) -> i32
 
 // An ISO weekday as one that counts from Sunday.
 fn sunday_first(z: i32) -> i32
-    ensures { result ≡ sundayFirst z }
+    ensures { result ≡ sunday_first z }
 {
     let d = base_wrapping::wrapping_add(z, 1);
     if d > 7 { 1 } else { d }
@@ -111,7 +111,7 @@ fn stored_number(
     p: Place,
 ) -> Outcome
     requires { (task.field < 24) × Inside s.now p.at number }
-    ensures { readInto result f.new ≡ storedNumber s.now n task number (fields_of f.old) p }
+    ensures { read_into result f.new ≡ stored_number s.now n task number (fields_of f.old) p }
 {
     match number {
         Number::Refused(why) => state::refuse(why, p),
@@ -145,7 +145,7 @@ pub fn read_number(
     p: Place,
 ) -> Outcome
     requires { (task.field < 24) × (p.at ≤ length s.now) }
-    ensures { readInto result f.new ≡ readNumber s.now n free task (fields_of f.old) p }
+    ensures { read_into result f.new ≡ read_number s.now n free task (fields_of f.old) p }
 {
     let number = number_at(s, n, free, task, p.at);
     stored_number(s, n, task, number, f, p)
@@ -154,7 +154,7 @@ pub fn read_number(
 // A number that is read and dropped: the fields stay, whatever they hold.
 pub fn read_dropped(s: &[u8], n: Node, free: bool, task: Task, p: Place) -> Outcome
     requires { p.at ≤ length s.now }
-    ensures { (values : List ℤ) → readInto result values ≡ readDropped s.now n free task (fields_of values) p }
+    ensures { (values : List ℤ) → read_into result values ≡ read_dropped s.now n free task (fields_of values) p }
 {
     match read_integers::parse_int_len(s, p.at, task.operand, n.pattern, free) {
         Number::Refused(why) => state::refuse(why, p),

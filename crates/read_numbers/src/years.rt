@@ -2,7 +2,7 @@
 ghost use Rattle.std.specs.Prelude.{◌≡◌, ◌+◌, ◌≤◌, ◌+ℤ◌, length, take};
 ghost use Rattle.read_integers.specs.Number.{fits32, Found as Numbered};
 ghost use Rattle.base_strtol.specs.Strtol.{strtol};
-ghost use Rattle.read_numbers.specs.Year.{commaYearAt, joined as joinedYear, near2020, scanned};
+ghost use Rattle.read_numbers.specs.Year.{comma_year_at, joined as joined_year, near2020, scanned};
 
 use base_refusals::Refusal;
 use base_strtol::Strtol;
@@ -67,7 +67,7 @@ fn sum_fits(a: i32, b: i32) -> bool
 
 // Thousands of years and years together.
 fn joined(pattern: u8, thousands: i32, years: i32, next: usize) -> Number
-    ensures { result ≡ joinedYear pattern thousands years next }
+    ensures { result ≡ joined_year pattern thousands years next }
 {
     if thousands < -2147483 {
         return Number::Refused(Refusal::YearOutOfRange { pattern });
@@ -88,7 +88,7 @@ fn joined(pattern: u8, thousands: i32, years: i32, next: usize) -> Number
 // A year with a comma.
 pub fn comma_year(s: &[u8], at: usize, pattern: u8) -> Number
     requires { at ≤ length s.now }
-    ensures { Numbered s.now at (commaYearAt s.now at pattern) result }
+    ensures { Numbered s.now at (comma_year_at s.now at pattern) result }
 {
     match scan_yyyy(&s[at..]) {
         Scanned::Both {

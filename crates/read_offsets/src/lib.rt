@@ -1,9 +1,9 @@
 // Patterns that read an offset: TZ, OF, TZH and TZM.
 ghost use Rattle.std.specs.Prelude.{◌&&◌, ◌≡◌, ◌<◌, ◌≤◌, eqb, length};
-ghost use Rattle.base_chars.specs.Class.{isLetter};
-ghost use Rattle.read_fields.specs.Fields.{fields_of, readInto};
-ghost use Rattle.read_fields.specs.Tasks.{noLetter};
-ghost use Rattle.read_offsets.specs.Offsets.{Signed, colonMinutes, isSign, readOffset, readOffsetMinutes, signOf, storedOffset, with_sign};
+ghost use Rattle.base_chars.specs.Class.{is_letter};
+ghost use Rattle.read_fields.specs.Fields.{fields_of, read_into};
+ghost use Rattle.read_fields.specs.Tasks.{no_letter};
+ghost use Rattle.read_offsets.specs.Offsets.{Signed, colon_minutes, is_sign, read_offset, read_offset_minutes, sign_of, stored_offset, with_sign};
 
 use base_refusals::Refusal;
 use read_fields::{Outcome, Place, Task, Verdict, field, state, table};
@@ -11,7 +11,7 @@ use read_integers::Number;
 use template_nodes::Node;
 
 fn is_sign(b: u8) -> bool
-    ensures { result ≡ isSign b }
+    ensures { result ≡ is_sign b }
 {
     if b == b'+' {
         return true;
@@ -24,7 +24,7 @@ fn is_sign(b: u8) -> bool
 
 // The sign of an offset: the one at the place; else a minus one byte back, which was skipped as a separator; else plus.
 fn sign_of(s: &[u8], p: Place) -> i32
-    ensures { result ≡ signOf s.now p }
+    ensures { result ≡ sign_of s.now p }
 {
     let at = p.at;
     let b = base_notation::byte_at(s, at);
@@ -59,7 +59,7 @@ fn past_sign(s: &[u8], at: usize) -> usize
 // A number of an offset goes into its field, unless that was set to another value.
 fn stored_offset(n: Node, k: usize, number: Number, f: &mut [i32; 24], p: Place) -> Outcome
     requires { k < 24 }
-    ensures { readInto result f.new ≡ storedOffset n k number (fields_of f.old) p }
+    ensures { read_into result f.new ≡ stored_offset n k number (fields_of f.old) p }
 {
     match number {
         Number::Refused(why) => state::refuse(why, p),
@@ -75,7 +75,7 @@ fn stored_offset(n: Node, k: usize, number: Number, f: &mut [i32; 24], p: Place)
 
 // The minutes after a colon, where both are read.
 fn colon_minutes(s: &[u8], n: Node, free: bool, rule: usize, f: &mut [i32; 24], p: Place) -> Outcome
-    ensures { readInto result f.new ≡ colonMinutes s.now n free rule (fields_of f.old) p }
+    ensures { read_into result f.new ≡ colon_minutes s.now n free rule (fields_of f.old) p }
 {
     if rule == table::HOURS {
         return state::read(p);
@@ -90,7 +90,7 @@ fn colon_minutes(s: &[u8], n: Node, free: bool, rule: usize, f: &mut [i32; 24], 
 
 // Whether the byte is a letter, which TZ refuses.
 fn is_zone_letter(rule: usize, b: u8) -> bool
-    ensures { result ≡ (eqb rule noLetter && isLetter b) }
+    ensures { result ≡ (eqb rule no_letter && is_letter b) }
 {
     if rule == table::NO_LETTER {
         return base_chars::is_alpha_c(b);
@@ -108,7 +108,7 @@ pub fn read_offset(
     p: Place,
 ) -> Outcome
     requires { p.at ≤ length s.now }
-    ensures { readInto result f.new ≡ readOffset s.now n free task (fields_of f.old) p }
+    ensures { read_into result f.new ≡ read_offset s.now n free task (fields_of f.old) p }
 {
     let at = p.at;
     if is_zone_letter(task.rule, base_notation::byte_at(s, at)) {
@@ -139,7 +139,7 @@ fn with_sign(f: &mut [i32; 24])
 // Minutes alone.
 pub fn read_offset_minutes(s: &[u8], n: Node, free: bool, f: &mut [i32; 24], p: Place) -> Outcome
     requires { p.at ≤ length s.now }
-    ensures { readInto result f.new ≡ readOffsetMinutes s.now n free (fields_of f.old) p }
+    ensures { read_into result f.new ≡ read_offset_minutes s.now n free (fields_of f.old) p }
 {
     let number = read_integers::strtol_number(s, p.at, 2, n.pattern, free);
     with_sign(f);

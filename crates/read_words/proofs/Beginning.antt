@@ -12,11 +12,11 @@ use lib.Dec.{leb}
 use lib.ListN.{length, take, drop, set, replicate, length-append, length-drop, length-map}
 use lib.Seq.{append_snoc, get_or-drop, length-take-le, set-append_seam, take_all, take-suc}
 use Rattle.base_chars.specs.Fold.{folded}
-use Rattle.base_notation.specs.Text.{byteAt}
-use Rattle.read_words.specs.FoldOnce.{beginning, inNine}
+use Rattle.base_notation.specs.Text.{byte_at}
+use Rattle.read_words.specs.FoldOnce.{beginning, in_nine}
 
 -- a byte in place of the first 0
-put-after : (t : List ℕ) (b : ℕ) → length t < 9 → set (inNine t) (length t) b ≡ inNine (t ++ (b ∷ []))
+put-after : (t : List ℕ) (b : ℕ) → length t < 9 → set (in_nine t) (length t) b ≡ in_nine (t ++ (b ∷ []))
 put-after t b h =
     let zeros = 9 - suc (length t) in
     let one-zero : 9 - length t ≡ suc zeros = omega arith in
@@ -40,13 +40,13 @@ module _ (s : List ℕ) (at : ℕ) where
           let many = leb-false n (length s - at) e in
           rw (take_all (min n (length s - at)) (drop at s) (omega (arith, left)), take_all n (drop at s) (omega (arith, left)))
 
-  pub all-put : (most n j : ℕ) → n ≡ min most (length s - at) → j ≡ n → inNine (beginning j s at) ≡ inNine (beginning most s at)
+  pub all-put : (most n j : ℕ) → n ≡ min most (length s - at) → j ≡ n → in_nine (beginning j s at) ≡ in_nine (beginning most s at)
   all-put most n j e q = rw (q, e, all_left most)
 
   module _ (j : ℕ) (h : at + j < length s) where
     -- the byte after the first j
     abbrev b : ℕ
-    b = folded (byteAt s (at + j))
+    b = folded (byte_at s (at + j))
 
     one_more : beginning (j + 1) s at ≡ beginning j s at ++ (b ∷ [])
     one_more =
@@ -58,8 +58,8 @@ module _ (s : List ℕ) (at : ℕ) where
         let left = length-drop at s in
         length-map (take j (drop at s)) folded ∙ length-take-le j (drop at s) (omega arith)
 
-    pub put_next : (start : List ℕ) (v : ℕ) → j < 9 → start ≡ inNine (beginning j s at) → v ≡ b → set start j v ≡ inNine (beginning (j + 1) s at)
+    pub put_next : (start : List ℕ) (v : ℕ) → j < 9 → start ≡ in_nine (beginning j s at) → v ≡ b → set start j v ≡ in_nine (beginning (j + 1) s at)
     put_next start v l e q =
         let first = beginning j s at in
         rw (e, q)
-        (ap (λ (n : ℕ). set (inNine first) n b) (sym so-many) ∙ put-after first b (omega (arith, so-many)) ∙ ap inNine (sym one_more))
+        (ap (λ (n : ℕ). set (in_nine first) n b) (sym so-many) ∙ put-after first b (omega (arith, so-many)) ∙ ap in_nine (sym one_more))

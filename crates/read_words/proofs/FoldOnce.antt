@@ -9,26 +9,26 @@ use native.Mathlib.Omega.{arith}
 use lib.ListN.{length, take, drop, replicate, length-map, get_or-map}
 use lib.Seq.{get_or-drop, get_or-take}
 use Rattle.base_chars.specs.Fold.{folded}
-use Rattle.base_notation.specs.Text.{byteAt}
-use Rattle.template_patterns.specs.Search.{matchesAt}
-use Rattle.template_patterns.specs.Words.{words_of, smallWords, longest}
+use Rattle.base_notation.specs.Text.{byte_at}
+use Rattle.template_patterns.specs.Search.{matches_at}
+use Rattle.template_patterns.specs.Words.{words_of, small_words, longest}
 use Rattle.template_patterns.specs.declared.tables.WordList.{WordList}
-use Rattle.read_words.specs.FoldOnce.{beginning, firstIn, word_in, inNine, FoldOnce}
-use Rattle.read_words.specs.Spelling.{spelledAt, first_word, word_at}
+use Rattle.read_words.specs.FoldOnce.{beginning, first_in, word_in, in_nine, FoldOnce}
+use Rattle.read_words.specs.Spelling.{spelled_at, first_word, word_at}
 
 module _ (n : ℕ) (s : List ℕ) (at : ℕ) where
   -- byte i of the beginning is byte i after the place, made small; past the end of the input both are 0
-  folded-byte : (i : ℕ) → i < n → byteAt (beginning n s at) i ≡ folded (byteAt s (at + i))
+  folded-byte : (i : ℕ) → i < n → byte_at (beginning n s at) i ≡ folded (byte_at s (at + i))
   folded-byte i h = get_or-map folded (take n (drop at s)) i 0 ∙ ap folded (get_or-take n (drop at s) i 0 h ∙ get_or-drop at s i 0)
 
   -- a word of at most n bytes, from its byte i on
-  same-spelling : (w : List ℕ) (i : ℕ) → i + length w ≤ n → matchesAt (map folded w) (beginning n s at) i ≡ spelledAt w s (at + i)
+  same-spelling : (w : List ℕ) (i : ℕ) → i + length w ≤ n → matches_at (map folded w) (beginning n s at) i ≡ spelled_at w s (at + i)
   same-spelling [] i h = refl
   same-spelling (c ∷ w) i h =
       let next : at + i + 1 ≡ at + (i + 1) = omega arith in
       rw (folded-byte i (omega arith), next, same-spelling w (i + 1) (omega arith))
 
-  same_first : (ws : List (List ℕ)) (k : ℕ) → longest ws ≤ n → firstIn k (map (map folded) ws) (beginning n s at) ≡ first_word k ws s at
+  same_first : (ws : List (List ℕ)) (k : ℕ) → longest ws ≤ n → first_in k (map (map folded) ws) (beginning n s at) ≡ first_word k ws s at
   same_first [] k h = refl
   same_first (w ∷ ws) k h =
       let spelling = rw (add-zero at) at (same-spelling w 0 (omega arith)) in
@@ -39,26 +39,26 @@ unfolding word_in word_at
 fold-once = record { same = λ list s at. same_first (longest (words_of list)) s at (words_of list) 0 (le_refl _) }
 
 -- ---- 0s after the bytes
-zeros : (n i : ℕ) → byteAt (replicate n 0) i ≡ 0
+zeros : (n i : ℕ) → byte_at (replicate n 0) i ≡ 0
 zeros zero i = refl
 zeros (suc n) zero = refl
 zeros (suc n) (suc i) = zeros n i
 
 -- a byte past t is 0, whether 0s follow or nothing does
-before-zeros : (t : List ℕ) (n i : ℕ) → byteAt (t ++ replicate n 0) i ≡ byteAt t i
+before-zeros : (t : List ℕ) (n i : ℕ) → byte_at (t ++ replicate n 0) i ≡ byte_at t i
 before-zeros [] n i = zeros n i
 before-zeros (b ∷ t) n zero = refl
 before-zeros (b ∷ t) n (suc i) = before-zeros t n i
 
-module _ (t u : List ℕ) (same : (i : ℕ) → byteAt t i ≡ byteAt u i) where
-  same-match : (w : List ℕ) (i : ℕ) → matchesAt w t i ≡ matchesAt w u i
+module _ (t u : List ℕ) (same : (i : ℕ) → byte_at t i ≡ byte_at u i) where
+  same-match : (w : List ℕ) (i : ℕ) → matches_at w t i ≡ matches_at w u i
   same-match [] i = refl
   same-match (c ∷ w) i = rw (same i, same-match w (i + 1))
 
-  same-found : (ws : List (List ℕ)) (k : ℕ) → firstIn k ws t ≡ firstIn k ws u
+  same-found : (ws : List (List ℕ)) (k : ℕ) → first_in k ws t ≡ first_in k ws u
   same-found [] k = refl
   same-found (w ∷ ws) k = rw (same-match w 0, same-found ws (suc k))
 
-pub same_word : (list : WordList) (t : List ℕ) → word_in list (inNine t) ≡ word_in list t
+pub same_word : (list : WordList) (t : List ℕ) → word_in list (in_nine t) ≡ word_in list t
 unfolding word_in
-same_word list t = same-found (inNine t) t (before-zeros t (9 - length t)) (smallWords list) 0
+same_word list t = same-found (in_nine t) t (before-zeros t (9 - length t)) (small_words list) 0

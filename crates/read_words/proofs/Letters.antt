@@ -15,24 +15,24 @@ use lib.Dec.{eqb}
 use lib.ListN.{length, take, drop}
 use lib.Seq.{drop-cons}
 use Rattle.base_notation.specs.Choice.{if◌then◌else◌}
-use Rattle.base_notation.specs.Text.{byteAt}
-use Rattle.template_patterns.specs.Search.{matchesAt, length_at}
-use Rattle.read_words.specs.FoldOnce.{untilSpace, row_of}
+use Rattle.base_notation.specs.Text.{byte_at}
+use Rattle.template_patterns.specs.Search.{matches_at, length_at}
+use Rattle.read_words.specs.FoldOnce.{until_space, row_of}
 
 -- what is left of the word in row k after j bytes
 module _ (table : List ℕ) (k : ℕ) where
   abbrev pub rest : ℕ → List ℕ
-  rest j = untilSpace (take (9 - j) (drop (9 * k + j) table))
+  rest j = until_space (take (9 - j) (drop (9 * k + j) table))
 
   module _ (t : List ℕ) where
     -- the answer, when j bytes are the same
     abbrev pub onward : ℕ → ℕ
-    onward j = if matchesAt (rest j) t j then j + length (rest j) else 0
+    onward j = if matches_at (rest j) t j then j + length (rest j) else 0
 
     module _ (j : ℕ) (h : j < 9) (l : 9 * k + j < length table) where
       -- the byte of the table
       abbrev c : ℕ
-      c = byteAt table (9 * k + j)
+      c = byte_at table (9 * k + j)
 
       rest-on : rest j ≡ (if eqb c (code " ") then [] else c ∷ rest (j + 1))
       rest-on =
@@ -43,10 +43,10 @@ module _ (table : List ℕ) (k : ℕ) where
       pub at-space : c ≡ code " " → j ≡ onward j
       at-space e = rw (rest-on, eq-eqb _ _ e) (omega arith)
 
-      pub other_byte : (c ≡ code " " → ⊥) → (byteAt t j ≡ c → ⊥) → 0 ≡ onward j
+      pub other_byte : (c ≡ code " " → ⊥) → (byte_at t j ≡ c → ⊥) → 0 ≡ onward j
       other_byte n o = rw (rest-on, ne_eqb _ _ n, ne_eqb _ _ o)
 
-      pub same_byte : (c ≡ code " " → ⊥) → byteAt t j ≡ c → onward j ≡ onward (j + 1)
+      pub same_byte : (c ≡ code " " → ⊥) → byte_at t j ≡ c → onward j ≡ onward (j + 1)
       same_byte n o =
           let next-length : j + suc (length (rest (j + 1))) ≡ j + 1 + length (rest (j + 1)) = omega arith in
           rw (rest-on, ne_eqb _ _ n, eq-eqb _ _ o, next-length)
@@ -57,15 +57,15 @@ module _ (table : List ℕ) (k : ℕ) where
       unfolding row_of
       from_first = simp (add-zero, zero-add)
 
-      first : byteAt table (9 * k + 0) ≡ byteAt table (9 * k)
-      first = ap (byteAt table) (add-zero (9 * k))
+      first : byte_at table (9 * k + 0) ≡ byte_at table (9 * k)
+      first = ap (byte_at table) (add-zero (9 * k))
 
-      pub begun : byteAt table (9 * k) ≡ byteAt t 0 → (byteAt t 0 ≡ code " " → ⊥) → length_at (row_of table k) t 0 ≡ onward 1
+      pub begun : byte_at table (9 * k) ≡ byte_at t 0 → (byte_at t 0 ≡ code " " → ⊥) → length_at (row_of table k) t 0 ≡ onward 1
       begun e n = from_first ∙ same_byte 0 (omega arith) (omega arith) (λ q. n (sym e ∙ sym first ∙ q)) (sym e ∙ sym first)
 
-      pub other-first : (byteAt table (9 * k) ≡ byteAt t 0 → ⊥) → 0 ≡ length_at (row_of table k) t 0
-      other-first o = split (eqb (byteAt table (9 * k + 0)) (code " ")) refl ∙ sym from_first
+      pub other-first : (byte_at table (9 * k) ≡ byte_at t 0 → ⊥) → 0 ≡ length_at (row_of table k) t 0
+      other-first o = split (eqb (byte_at table (9 * k + 0)) (code " ")) refl ∙ sym from_first
         where
-          split : (b : Bool) → eqb (byteAt table (9 * k + 0)) (code " ") ≡ b → 0 ≡ onward 0
+          split : (b : Bool) → eqb (byte_at table (9 * k + 0)) (code " ") ≡ b → 0 ≡ onward 0
           split true e = at-space 0 (omega arith) (omega arith) (eqb-true _ _ e)
           split false e = other_byte 0 (omega arith) (omega arith) (eqb-false _ _ e) (λ q. o (sym first ∙ sym q))

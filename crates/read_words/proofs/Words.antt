@@ -16,16 +16,16 @@ use lib.Dec.{eqb, leb, ltb}
 use lib.ListN.{length, get_or, drop, replicate, drop_of_length-le, length-map, get_or-eq_default}
 use lib.Seq.{drop-cons}
 use Rattle.base_chars.specs.Fold.{folded}
-use Rattle.base_notation.specs.Text.{byteAt}
+use Rattle.base_notation.specs.Text.{byte_at}
 use Rattle.base_notation.proofs.Bytes.{byte-within}
 use Rattle.base_notation.proofs.Cases.{both, by-if}
 use Rattle.base_notation.proofs.Table.{all_from, entry}
-use Rattle.template_patterns.specs.Search.{matchesAt, length_at}
-use Rattle.template_patterns.specs.Words.{words_of, smallWords, longest, wordTable}
+use Rattle.template_patterns.specs.Search.{matches_at, length_at}
+use Rattle.template_patterns.specs.Words.{words_of, small_words, longest, word_table}
 use Rattle.template_patterns.specs.declared.tables.WordList.{WordList}
 use Rattle.template_patterns.specs.declared.tables.WordList.TheVariants.{MonthsFull, MonthsAbbrev, DaysFull, DaysAbbrev, AmPm, AmPmLong, AdBc, AdBcLong, RomanMonths}
-use Rattle.read_words.specs.FoldOnce.{beginning, firstIn, inNine, word_in, row_of}
-use Rattle.read_words.specs.Spelling.{spelledAt, first_word, word_at, Inside, Found}
+use Rattle.read_words.specs.FoldOnce.{beginning, first_in, in_nine, word_in, row_of}
+use Rattle.read_words.specs.Spelling.{spelled_at, first_word, word_at, Inside, Found}
 use Rattle.read_words.specs.declared.spelling.Word.{Word}
 use Rattle.read_words.specs.declared.spelling.Word.TheVariants.{At, Nothing}
 use Rattle.read_words.proofs.FoldOnce.{fold-once, same_word}
@@ -48,32 +48,32 @@ same-is (a ∷ s) (b ∷ t) e =
     cc
 
 -- no byte of the word is 0, which is read past the end
-abbrev spelledOut : List ℕ → Bool
-spelledOut [] = true
-spelledOut (c ∷ w) = not (eqb (folded c) 0) && spelledOut w
+abbrev spelled_out : List ℕ → Bool
+spelled_out [] = true
+spelled_out (c ∷ w) = not (eqb (folded c) 0) && spelled_out w
 
 -- a word is not empty and has no such byte
 abbrev proper : ℕ → List ℕ → Bool
-proper k w = ltb 0 (length w) && spelledOut w
+proper k w = ltb 0 (length w) && spelled_out w
 
 -- a word begins with a byte above the space
 abbrev begins : ℕ → List ℕ → Bool
-begins k w = ltb 32 (byteAt w 0)
+begins k w = ltb 32 (byte_at w 0)
 
 -- row k has the word k of the list in small letters, or none
-abbrev laidOut : WordList → ℕ → ℕ → Bool
-laidOut list k x = same (row_of (wordTable list) k) (get_or (smallWords list) k [])
+abbrev laid_out : WordList → ℕ → ℕ → Bool
+laid_out list k x = same (row_of (word_table list) k) (get_or (small_words list) k [])
 
 -- a list and its table, by one test that computes
 abbrev fine : WordList → Bool
 fine list =
-    eqb (length (wordTable list)) 108
+    eqb (length (word_table list)) 108
     && (leb (length (words_of list)) 12
     && (leb (longest (words_of list)) 9
-    && (all_from (laidOut list) 0 (replicate 12 0) && (all_from proper 0 (words_of list) && all_from begins 0 (smallWords list)))))
+    && (all_from (laid_out list) 0 (replicate 12 0) && (all_from proper 0 (words_of list) && all_from begins 0 (small_words list)))))
 
 all-fine : (list : WordList) → fine list ≡ true
-unfolding wordTable row_of
+unfolding word_table row_of
 all-fine MonthsFull = refl
 all-fine MonthsAbbrev = refl
 all-fine DaysFull = refl
@@ -86,25 +86,25 @@ all-fine RomanMonths = refl
 
 -- the same, fact by fact
 pub record Laid (list : WordList) : Type 0 where
-  pub long : length (wordTable list) ≡ 108
+  pub long : length (word_table list) ≡ 108
   pub few : length (words_of list) ≤ 12
   pub short : longest (words_of list) ≤ 9
-  pub row : (k : ℕ) → k < 12 → row_of (wordTable list) k ≡ get_or (smallWords list) k []
+  pub row : (k : ℕ) → k < 12 → row_of (word_table list) k ≡ get_or (small_words list) k []
   pub words : all_from proper 0 (words_of list) ≡ true
-  pub small : all_from begins 0 (smallWords list) ≡ true
+  pub small : all_from begins 0 (small_words list) ≡ true
 
 pub laid : (list : WordList) → Laid list
 laid list =
-    let on-length = both (eqb (length (wordTable list)) 108) _ (all-fine list) in
+    let on-length = both (eqb (length (word_table list)) 108) _ (all-fine list) in
     let on-count = both (leb (length (words_of list)) 12) _ on-length.1 in
     let on-longest = both (leb (longest (words_of list)) 9) _ on-count.1 in
-    let on-rows = both (all_from (laidOut list) 0 (replicate 12 0)) _ on-longest.1 in
+    let on-rows = both (all_from (laid_out list) 0 (replicate 12 0)) _ on-longest.1 in
     let on-words = both (all_from proper 0 (words_of list)) _ on-rows.1 in
     record {
       long = eqb-true _ _ on-length.0;
       few = leb-true _ _ on-count.0;
       short = leb-true _ _ on-longest.0;
-      row = λ k h. same-is _ _ (entry (laidOut list) 0 (replicate 12 0) on-rows.0 k h);
+      row = λ k h. same-is _ _ (entry (laid_out list) 0 (replicate 12 0) on-rows.0 k h);
       words = on-words.0;
       small = on-words.1;
     }
@@ -112,15 +112,15 @@ laid list =
 -- ---- the search of the input
 module _ (s : List ℕ) where
   -- a byte that is not read as 0 is within the text
-  in-text : (at c : ℕ) → not (eqb (folded c) 0) ≡ true → folded (byteAt s at) ≡ folded c → at < length s
+  in-text : (at c : ℕ) → not (eqb (folded c) 0) ≡ true → folded (byte_at s at) ≡ folded c → at < length s
   in-text at c n e = byte-within s at (λ z. eqb-false _ _ (not-true _ n) (sym e ∙ ap folded z))
 
   -- a word that is there ends within the text
-  spelled-within : (w : List ℕ) (at : ℕ) → spelledOut w ≡ true → spelledAt w s at ≡ true → at + length w ≤ max at (length s)
+  spelled-within : (w : List ℕ) (at : ℕ) → spelled_out w ≡ true → spelled_at w s at ≡ true → at + length w ≤ max at (length s)
   spelled-within [] at p e = omega arith
   spelled-within (c ∷ w) at p e =
       let no_zero = both (not (eqb (folded c) 0)) _ p in
-      let there = both (eqb (folded (byteAt s at)) (folded c)) _ e in
+      let there = both (eqb (folded (byte_at s at)) (folded c)) _ e in
       omega (arith, in-text at c no_zero.0 (eqb-true _ _ there.0), spelled-within w (at + 1) no_zero.1 there.1)
 
   module _ (at : ℕ) where
@@ -130,7 +130,7 @@ module _ (s : List ℕ) where
         let on_word = both (proper k w) _ p in
         let on-length = both (ltb 0 (length w)) _ on_word.0 in
         let some : 0 < length w = ltb-true _ _ on-length.0 in
-        by-if (Inside s at) (spelledAt w s at) _ _ (λ e. (omega arith, some, omega (arith, spelled-within w at on-length.1 e)))
+        by-if (Inside s at) (spelled_at w s at) _ _ (λ e. (omega arith, some, omega (arith, spelled-within w at on-length.1 e)))
         (λ e. first-inside ws (suc k) (omega arith) on_word.1)
 
     pub inside : (list : WordList) → Inside s at (word_at list s at)
@@ -140,55 +140,55 @@ module _ (s : List ℕ) where
 -- ---- the search of its beginning
 module _ (t : List ℕ) where
   -- no word begins with a space
-  not_there : byteAt t 0 ≡ 32 → (w : List ℕ) → 32 < byteAt w 0 → matchesAt w t 0 ≡ false
+  not_there : byte_at t 0 ≡ 32 → (w : List ℕ) → 32 < byte_at w 0 → matches_at w t 0 ≡ false
   not_there h [] l = absurd (omega arith)
-  not_there h (c ∷ w) l = rw (ne_eqb (byteAt t 0) c (λ e. omega arith))
+  not_there h (c ∷ w) l = rw (ne_eqb (byte_at t 0) c (λ e. omega arith))
 
-  none : byteAt t 0 ≡ 32 → (ws : List (List ℕ)) (k : ℕ) → all_from begins k ws ≡ true → firstIn k ws t ≡ Nothing
+  none : byte_at t 0 ≡ 32 → (ws : List (List ℕ)) (k : ℕ) → all_from begins k ws ≡ true → first_in k ws t ≡ Nothing
   none h [] k p = refl
   none h (w ∷ ws) k p =
       let on_word = both (begins k w) _ p in
       rw (not_there h w (ltb-true _ _ on_word.0)) (none h ws (suc k) on_word.1)
 
   module _ (list : WordList) where
-    pub no-space : byteAt t 0 ≡ 32 → Nothing ≡ word_in list t
+    pub no-space : byte_at t 0 ≡ 32 → Nothing ≡ word_in list t
     unfolding word_in
-    no-space h = sym (none h (smallWords list) 0 (laid list).small)
+    no-space h = sym (none h (small_words list) 0 (laid list).small)
 
     -- what the search finds from row k on
     abbrev pub from : ℕ → Word
-    from k = firstIn k (drop k (smallWords list)) t
+    from k = first_in k (drop k (small_words list)) t
 
     pub over : word_in list t ≡ from 12 → Nothing ≡ word_in list t
     over e =
-        let few : length (smallWords list) ≤ 12 = rw (length-map (words_of list) (map folded)) (laid list).few in
-        sym (e ∙ rw (drop_of_length-le (smallWords list) few))
+        let few : length (small_words list) ≤ 12 = rw (length-map (words_of list) (map folded)) (laid list).few in
+        sym (e ∙ rw (drop_of_length-le (small_words list) few))
 
-    module _ (k n : ℕ) (h : k < 12) (is : n ≡ length_at (row_of (wordTable list) k) t 0) where
+    module _ (k n : ℕ) (h : k < 12) (is : n ≡ length_at (row_of (word_table list) k) t 0) where
       -- the word k, empty past the last
       abbrev w : List ℕ
-      w = get_or (smallWords list) k []
+      w = get_or (small_words list) k []
 
       length-is : n ≡ length_at w t 0
       length-is = is ∙ ap (λ (v : List ℕ). length_at v t 0) ((laid list).row k h)
 
       -- past the last word the row is empty
-      no_word : length (smallWords list) ≤ k → w ≡ []
-      no_word l = get_or-eq_default (smallWords list) [] l
+      no_word : length (small_words list) ≤ k → w ≡ []
+      no_word l = get_or-eq_default (small_words list) [] l
 
-      a_word : k < length (smallWords list) → 0 < length w
+      a_word : k < length (small_words list) → 0 < length w
       a_word l =
-          let above : 32 < byteAt w 0 = ltb-true _ _ (entry begins [] (smallWords list) (laid list).small k l) in
+          let above : 32 < byte_at w 0 = ltb-true _ _ (entry begins [] (small_words list) (laid list).small k l) in
           byte-within w 0 (λ z. omega arith)
 
       -- the three cases: the word of row k is there, it is not, or row k is past the last word
       by_Row
-          : {P : Type 0} → (k < length (smallWords list) → matchesAt w t 0 ≡ true → n ≡ length w → P)
-          → (k < length (smallWords list) → matchesAt w t 0 ≡ false → n ≡ 0 → P) → (length (smallWords list) ≤ k → n ≡ 0 → P) → P
+          : {P : Type 0} → (k < length (small_words list) → matches_at w t 0 ≡ true → n ≡ length w → P)
+          → (k < length (small_words list) → matches_at w t 0 ≡ false → n ≡ 0 → P) → (length (small_words list) ≤ k → n ≡ 0 → P) → P
       by_Row {P} hit miss past =
-          (elim (ltb k (length (smallWords list))) as (λ b. ltb k (length (smallWords list)) ≡ b → P) [
+          (elim (ltb k (length (small_words list))) as (λ b. ltb k (length (small_words list)) ≡ b → P) [
             | true ↦ λ l.
-                (elim (matchesAt w t 0) as (λ b. matchesAt w t 0 ≡ b → P) [
+                (elim (matches_at w t 0) as (λ b. matches_at w t 0 ≡ b → P) [
                   | true ↦ λ e. hit (ltb-true _ _ l) e (rw e at length-is)
                   | false ↦ λ e. miss (ltb-true _ _ l) e (rw e at length-is)
                 ]) refl
@@ -197,18 +197,18 @@ module _ (t : List ℕ) where
 
       pub found : 0 < n → word_in list t ≡ from k → At k n ≡ word_in list t
       found p q =
-          by_Row (λ l e m. ap (At k) m ∙ sym (q ∙ rw (drop-cons (smallWords list) k [] l, e))) (λ l e m. absurd (omega arith))
+          by_Row (λ l e m. ap (At k) m ∙ sym (q ∙ rw (drop-cons (small_words list) k [] l, e))) (λ l e m. absurd (omega arith))
           (λ l m. absurd (omega arith))
 
       pub next : n ≤ 0 → from k ≡ from (k + 1)
       next p =
-          by_Row (λ l e m. absurd (omega (arith, a_word l))) (λ l e m. rw (drop-cons (smallWords list) k [] l, e, add-one k))
-          (λ l m. rw (drop_of_length-le (smallWords list) l, drop_of_length-le (smallWords list) {i = k + 1} (omega arith)))
+          by_Row (λ l e m. absurd (omega (arith, a_word l))) (λ l e m. rw (drop-cons (small_words list) k [] l, e, add-one k))
+          (λ l m. rw (drop_of_length-le (small_words list) l, drop_of_length-le (small_words list) {i = k + 1} (omega arith)))
 
 -- what is found in the folded beginning, in nine bytes, is what is found in the input
 pub searched
-    : (list : WordList) (s : List ℕ) (at n : ℕ) (start : List ℕ) (r : Word) → n ≡ longest (words_of list) → start ≡ inNine (beginning n s at) → r ≡ word_in list start
+    : (list : WordList) (s : List ℕ) (at n : ℕ) (start : List ℕ) (r : Word) → n ≡ longest (words_of list) → start ≡ in_nine (beginning n s at) → r ≡ word_in list start
     → Found s at (word_at list s at) r
 searched list s at n start r m b e =
-    let is : r ≡ word_at list s at = e ∙ ap (word_in list) (b ∙ ap (λ (k : ℕ). inNine (beginning k s at)) m) ∙ same_word list _ ∙ fold-once.same list s at in
+    let is : r ≡ word_at list s at = e ∙ ap (word_in list) (b ∙ ap (λ (k : ℕ). in_nine (beginning k s at)) m) ∙ same_word list _ ∙ fold-once.same list s at in
     record { is = is; inside = subst (Inside s at) (sym is) (inside s at list) }

@@ -5,8 +5,8 @@ use Prim.Native.Char.{code}
 use Rattle.base_notation.specs.Choice.{if◌then◌else◌}
 use Rattle.base_notation.specs.Text.{utf8}
 use Rattle.base_chars.specs.Fold.{folded}
-use Rattle.template_patterns.specs.Search.{matchesAt}
-use Rattle.template_patterns.specs.Words.{words_of, smallWords, longest}
+use Rattle.template_patterns.specs.Search.{matches_at}
+use Rattle.template_patterns.specs.Words.{words_of, small_words, longest}
 use Rattle.template_patterns.specs.declared.tables.WordList.{WordList}
 use Rattle.template_patterns.specs.declared.tables.WordList.TheVariants.{MonthsFull, MonthsAbbrev, AmPm}
 use Rattle.read_words.specs.Spelling.{word_at}
@@ -18,37 +18,37 @@ abbrev pub beginning : ℕ → List ℕ → ℕ → List ℕ
 beginning n s at = map folded (take n (drop at s))
 
 -- the bytes that a list needs: as many as its longest word has
-abbrev pub beginningFor : WordList → List ℕ → ℕ → List ℕ
-beginningFor list s at = beginning (longest (words_of list)) s at
+abbrev pub beginning_for : WordList → List ℕ → ℕ → List ℕ
+beginning_for list s at = beginning (longest (words_of list)) s at
 
 -- the first of the words that t begins with, with its index counted from k
-abbrev pub firstIn : ℕ → List (List ℕ) → List ℕ → Word
-firstIn k [] t = Nothing
-firstIn k (w ∷ ws) t = if matchesAt w t 0 then At k (length w) else firstIn (suc k) ws t
+abbrev pub first_in : ℕ → List (List ℕ) → List ℕ → Word
+first_in k [] t = Nothing
+first_in k (w ∷ ws) t = if matches_at w t 0 then At k (length w) else first_in (suc k) ws t
 
 -- the first word of a list that t begins with, where t has no capital letter
 unfoldable pub word_in : WordList → List ℕ → Word
-word_in list t = firstIn 0 (smallWords list) t
+word_in list t = first_in 0 (small_words list) t
 
 -- the folded beginning alone has the word that the whole input has: of every list, at every place of every input
 pub record FoldOnce : Type 0 where
-  pub same : (list : WordList) (s : List ℕ) (at : ℕ) → word_in list (beginningFor list s at) ≡ word_at list s at
+  pub same : (list : WordList) (s : List ℕ) (at : ℕ) → word_in list (beginning_for list s at) ≡ word_at list s at
 
 -- bytes with 0s after them, nine in all
-abbrev pub inNine : List ℕ → List ℕ
-inNine t = t ++ replicate (9 - length t) 0
+abbrev pub in_nine : List ℕ → List ℕ
+in_nine t = t ++ replicate (9 - length t) 0
 
 -- bytes up to the first space
-abbrev pub untilSpace : List ℕ → List ℕ
-untilSpace [] = []
-untilSpace (c ∷ cs) = if eqb c (code " ") then [] else c ∷ untilSpace cs
+abbrev pub until_space : List ℕ → List ℕ
+until_space [] = []
+until_space (c ∷ cs) = if eqb c (code " ") then [] else c ∷ until_space cs
 
 -- the word in row k of a table whose rows have nine bytes
 unfoldable pub row_of : List ℕ → ℕ → List ℕ
-row_of table k = untilSpace (take 9 (drop (9 * k) table))
+row_of table k = until_space (take 9 (drop (9 * k) table))
 
 -- three bytes and six 0s
-pub padded : inNine (utf8 "may") ≡ 109 ∷ 97 ∷ 121 ∷ 0 ∷ 0 ∷ 0 ∷ 0 ∷ 0 ∷ 0 ∷ []
+pub padded : in_nine (utf8 "may") ≡ 109 ∷ 97 ∷ 121 ∷ 0 ∷ 0 ∷ 0 ∷ 0 ∷ 0 ∷ 0 ∷ []
 padded = refl
 
 -- the second word of a table
@@ -58,7 +58,7 @@ second = refl
 
 -- nine bytes for a full name of a month, three for a short one, and none past the end
 pub begun
-    : (beginningFor MonthsFull (utf8 "1 DECEMBER 99") 2 ≡ utf8 "december ") × (beginningFor MonthsAbbrev (utf8 "1 DECEMBER 99") 2 ≡ utf8 "dec") × (beginningFor MonthsFull (utf8 "May") 3 ≡ [])
+    : (beginning_for MonthsFull (utf8 "1 DECEMBER 99") 2 ≡ utf8 "december ") × (beginning_for MonthsAbbrev (utf8 "1 DECEMBER 99") 2 ≡ utf8 "dec") × (beginning_for MonthsFull (utf8 "May") 3 ≡ [])
 begun = (refl, refl, refl)
 
 -- a word and what follows it; a beginning that ends inside a word; a byte 0 in a word; no byte at all

@@ -8,8 +8,8 @@ use Rattle.read_words.specs.declared.spelling.Word.TheVariants.{At, Nothing}
 use Rattle.template_patterns.specs.declared.tables.WordList.{WordList}
 use Rattle.template_patterns.specs.declared.tables.WordList.TheVariants.{MonthsFull, MonthsAbbrev, DaysFull, DaysAbbrev, AmPm, AmPmLong, AdBc, AdBcLong, RomanMonths}
 use Rattle.template_nodes.specs.declared.Node.{Node}
-use Rattle.read_fields.specs.Fields.{conflicts, get, put, read, refuse, atPlace, clock}
-use Rattle.read_fields.specs.Tasks.{oddHour12, month, weekday, romanMonth}
+use Rattle.read_fields.specs.Fields.{conflicts, get, put, read, refuse, at_place, clock}
+use Rattle.read_fields.specs.Tasks.{odd_hour12, month, weekday, roman_month}
 use Rattle.read_fields.specs.declared.Fields.{Fields}
 use Rattle.read_fields.specs.declared.Place.{Place}
 use Rattle.read_fields.specs.declared.Reading.{Reading}
@@ -24,35 +24,35 @@ unfoldable pub meant : ℕ → ℕ → ℕ
 meant rule k =
     if eqb rule month then k + 1
     else if eqb rule weekday then k
-    else if eqb rule romanMonth then 12 - k
+    else if eqb rule roman_month then 12 - k
     else k % 2
 
 -- a weekday is kept one higher, Sunday 1: a second one is compared with that
-abbrev pub keptWord : ℕ → ℕ → ℕ
-keptWord rule n = if eqb rule weekday then n + 1 else n
+abbrev pub kept_word : ℕ → ℕ → ℕ
+kept_word rule n = if eqb rule weekday then n + 1 else n
 
-abbrev pub notedWord : ℕ → Fields → Fields
-notedWord rule f = if eqb rule oddHour12 then put f clock (pos 12) else f
+abbrev pub noted_word : ℕ → Fields → Fields
+noted_word rule f = if eqb rule odd_hour12 then put f clock (pos 12) else f
 
 -- a word's number goes into its field, unless that was set to another value
-abbrev pub wordStored : Node → Task → ℕ → ℕ → Fields → Place → Reading
-wordStored n task z next f p =
+abbrev pub word_stored : Node → Task → ℕ → ℕ → Fields → Place → Reading
+word_stored n task z next f p =
     if conflicts (get f task.field) (pos z) then refuse (Conflict n.pattern) f p
-    else read (notedWord task.rule (put f task.field (pos (keptWord task.rule z)))) (atPlace p next)
+    else read (noted_word task.rule (put f task.field (pos (kept_word task.rule z)))) (at_place p next)
 
-unfoldable pub storedWord : Node → Task → Word → Fields → Place → Reading
-storedWord n task Nothing f p = refuse (NoWord n.pattern) f p
-storedWord n task (At k len) f p = wordStored n task (meant task.rule k) (p.at + len) f p
+unfoldable pub stored_word : Node → Task → Word → Fields → Place → Reading
+stored_word n task Nothing f p = refuse (NoWord n.pattern) f p
+stored_word n task (At k len) f p = word_stored n task (meant task.rule k) (p.at + len) f p
 
-abbrev pub readWord : List ℕ → Node → Task → Fields → Place → Reading
-readWord s n task f p = storedWord n task (word_at (list_of task.operand) s p.at) f p
+abbrev pub read_word : List ℕ → Node → Task → Fields → Place → Reading
+read_word s n task f p = stored_word n task (word_at (list_of task.operand) s p.at) f p
 
 -- unfolds all that a pattern that reads a word is computed by, for worked examples
 unfoldable pub word-computes : ℕ
-unfolding meant storedWord word_at
+unfolding meant stored_word word_at
 word-computes = 0
 
 -- May is month 5, PM is 1, and xii is December
-pub worked : (meant month 4 ≡ 5) × (meant oddHour12 3 ≡ 1) × (meant romanMonth 0 ≡ 12)
+pub worked : (meant month 4 ≡ 5) × (meant odd_hour12 3 ≡ 1) × (meant roman_month 0 ≡ 12)
 unfolding word-computes
 worked = (refl, refl, refl)

@@ -2,8 +2,8 @@
 mod spelling;
 
 ghost use Rattle.std.specs.Prelude.{◌≡◌, ◌<◌, ◌≤◌};
-ghost use Rattle.read_fields.specs.Fields.{fields_of, readInto};
-ghost use Rattle.read_words.specs.Words.{keptWord, list_of, meant, notedWord, readWord, wordStored};
+ghost use Rattle.read_fields.specs.Fields.{fields_of, read_into};
+ghost use Rattle.read_words.specs.Words.{kept_word, list_of, meant, noted_word, read_word, word_stored};
 
 use base_refusals::Refusal;
 use read_fields::{Outcome, Place, Task, field, state, table};
@@ -44,13 +44,13 @@ fn meant(rule: usize, k: usize) -> u8
 // A weekday is kept one higher.
 fn kept_word(rule: usize, z: u8) -> u8
     requires { z ≤ 12 }
-    ensures { result ≡ keptWord rule z }
+    ensures { result ≡ kept_word rule z }
 {
     if rule == table::WEEKDAY { z + 1 } else { z }
 }
 
 fn noted_word(rule: usize, f: &mut [i32; 24])
-    ensures { fields_of f.new ≡ notedWord rule (fields_of f.old) }
+    ensures { fields_of f.new ≡ noted_word rule (fields_of f.old) }
 {
     if rule == table::ODD_HOUR12 {
         state::put(f, field::CLOCK, 12);
@@ -60,7 +60,7 @@ fn noted_word(rule: usize, f: &mut [i32; 24])
 // A word's number goes into its field, unless that was set to another value.
 fn word_stored(n: Node, task: Task, z: u8, next: usize, f: &mut [i32; 24], p: Place) -> Outcome
     requires { (task.field < 24) × (z ≤ 12) }
-    ensures { readInto result f.new ≡ wordStored n task z next (fields_of f.old) p }
+    ensures { read_into result f.new ≡ word_stored n task z next (fields_of f.old) p }
 {
     let kept = kept_word(task.rule, z);
     if state::holds_other(f, task.field, z as i32) {
@@ -73,7 +73,7 @@ fn word_stored(n: Node, task: Task, z: u8, next: usize, f: &mut [i32; 24], p: Pl
 
 pub fn read_word(s: &[u8], n: Node, task: Task, f: &mut [i32; 24], p: Place) -> Outcome
     requires { task.field < 24 }
-    ensures { readInto result f.new ≡ readWord s.now n task (fields_of f.old) p }
+    ensures { read_into result f.new ≡ read_word s.now n task (fields_of f.old) p }
 {
     let at = p.at;
     match spelling::seq_search_ascii(s, at, list_of(task.operand)) {

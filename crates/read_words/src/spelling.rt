@@ -1,10 +1,10 @@
 // Words of the input, in either case.
 ghost use Rattle.std.specs.Prelude.{◌≡◌, ◌*◌, ◌<◌, ◌≤◌, length};
-ghost use Rattle.base_notation.specs.Text.{byteAt};
+ghost use Rattle.base_notation.specs.Text.{byte_at};
 ghost use Rattle.template_patterns.specs.Search.{length_at};
-ghost use Rattle.template_patterns.specs.Words.{wordTable};
+ghost use Rattle.template_patterns.specs.Words.{word_table};
 ghost use Rattle.template_patterns.specs.declared.tables.WordList.{WordList};
-ghost use Rattle.read_words.specs.FoldOnce.{beginning, inNine, row_of, word_in};
+ghost use Rattle.read_words.specs.FoldOnce.{beginning, in_nine, row_of, word_in};
 ghost use Rattle.read_words.specs.Spelling.{word_at, Found as Spelled};
 
 use template_patterns::WordList;
@@ -19,7 +19,7 @@ pub enum Word {
 // The bytes of the input from a place on, at most `most`, with capital letters made small; then 0s, nine in all.
 fn folded_beginning(s: &[u8], at: usize, most: usize) -> [u8; 9]
     requires { most ≤ 9 }
-    ensures { result ≡ inNine (beginning most s.now at) }
+    ensures { result ≡ in_nine (beginning most s.now at) }
 {
     let n = base_notation::fitting(s.len(), at, most);
     let mut start = [0u8; 9];
@@ -37,7 +37,7 @@ fn folded_beginning(s: &[u8], at: usize, most: usize) -> [u8; 9]
 
 // The length of the word in row k, if the bytes begin with it, else 0. The first byte is the same and no space.
 fn spelled(table: &[u8; 108], k: usize, start: &[u8; 9]) -> usize
-    requires { (length table.now ≡ 108) × (k < 12) × (byteAt table.now (9 * k) ≡ byteAt start.now 0) × (byteAt start.now 0 ≡ 32 → ⊥) }
+    requires { (length table.now ≡ 108) × (k < 12) × (byte_at table.now (9 * k) ≡ byte_at start.now 0) × (byte_at start.now 0 ≡ 32 → ⊥) }
     ensures { result ≡ length_at (row_of table.now k) start.now 0 }
 {
     let mut j: usize = 1;
@@ -58,7 +58,7 @@ fn spelled(table: &[u8; 108], k: usize, start: &[u8; 9]) -> usize
 // The first word of a list's table that the bytes begin with. Most words are passed over by their first byte.
 fn first_word(table: &[u8; 108], start: &[u8; 9]) -> Word
     requires { length table.now ≡ 108 }
-    ensures { (list : WordList) → table.now ≡ wordTable list → result ≡ word_in list start.now }
+    ensures { (list : WordList) → table.now ≡ word_table list → result ≡ word_in list start.now }
 {
     let first = start[0];
     if first == b' ' {

@@ -14,14 +14,14 @@ use lib.ListN.{length, drop}
 use lib.Seq.{get_or-set_other}
 use Rattle.base_notation.proofs.Cases.{by-if}
 use Rattle.base_chars.specs.Fold.{folded}
-use Rattle.read_integers.specs.Suffix.{isFree, pastOrdinal}
+use Rattle.read_integers.specs.Suffix.{is_free, past_ordinal}
 use Rattle.calendar_gregorian.proofs.Dates.{each}
 use Rattle.read_fields.specs.Fields.{get, put, read, mode}
-use Rattle.read_numbers.specs.Numbers.{storedNumber}
+use Rattle.read_numbers.specs.Numbers.{stored_number}
 use Rattle.read_literals.specs.Literals.{place}
-use Rattle.read_input.specs.Reader.{mixes, withMode, performed, pastSpaces, actionRead, entered, nodeRead}
+use Rattle.read_input.specs.Reader.{mixes, with_mode, performed, past_spaces, action_read, entered, node_read}
 use Rattle.read_fields.specs.Tasks.{exact, number, word}
-use Rattle.read_words.specs.Words.{storedWord}
+use Rattle.read_words.specs.Words.{stored_word}
 use Rattle.read_fields.specs.declared.Fields.{Fields}
 use Rattle.base_strtol.specs.Decimal.{decimal}
 use Rattle.base_strtol.proofs.Decimals.{decimal-length}
@@ -30,11 +30,11 @@ use Rattle.template_nodes.specs.Template.{action}
 use Rattle.template_nodes.specs.declared.Node.{Node}
 use Rattle.write_pieces.specs.Moment.{moment}
 use Rattle.readback.proofs.MomentFacts.{IsMoment}
-use Rattle.write_pieces.specs.Pieces.{width_of, number_of, pieceOf}
+use Rattle.write_pieces.specs.Pieces.{width_of, number_of, piece_of}
 use Rattle.write_pieces.specs.declared.Moment.{Moment}
-use Rattle.readback.proofs.FieldSettings.{settings, filledBy}
+use Rattle.readback.proofs.FieldSettings.{settings, filled_by}
 use Rattle.readback.proofs.Ahead.{ink-spaces}
-use Rattle.readback.proofs.Known.{taskFor, modeFor}
+use Rattle.readback.proofs.Known.{task_for, mode_for}
 use Rattle.readback.proofs.Literals.{Left, left-past}
 use Rattle.readback.proofs.Numbers.{number_read}
 use Rattle.readback.proofs.Sound.{Pattern, bare}
@@ -44,41 +44,41 @@ use Rattle.readback.proofs.Words.{word_read}
 
 -- the pieces 1 to 13 are numbers
 record IsNumber (p : ℕ) : Type 0 where
-  kind : (taskFor p).kind ≡ number
-  operand : (taskFor p).operand ≡ width_of p
+  kind : (task_for p).kind ≡ number
+  operand : (task_for p).operand ≡ width_of p
 
 is_number : (p : ℕ) → 1 ≤ p → p ≤ 13 → IsNumber p
 is_number = each IsNumber 1 12 (omega arith)
 
 -- and 14 to 17 are words
-is_word : (p : ℕ) → 14 ≤ p → p ≤ 17 → (taskFor p).kind ≡ word
-is_word = each (λ p. (taskFor p).kind ≡ word) 14 3 (omega arith)
+is_word : (p : ℕ) → 14 ≤ p → p ≤ 17 → (task_for p).kind ≡ word
+is_word = each (λ p. (task_for p).kind ≡ word) 14 3 (omega arith)
 
 -- none is FX
-no-exact : (p : ℕ) → 1 ≤ p → p ≤ 17 → eqb (taskFor p).kind exact ≡ false
-no-exact p from to = ne_eqb (taskFor p).kind exact (each (λ p. (taskFor p).kind ≡ exact → ⊥) 1 16 (omega arith) p from to)
+no-exact : (p : ℕ) → 1 ≤ p → p ≤ 17 → eqb (task_for p).kind exact ≡ false
+no-exact p from to = ne_eqb (task_for p).kind exact (each (λ p. (task_for p).kind ≡ exact → ⊥) 1 16 (omega arith) p from to)
 
 -- the date mode is no field of a piece
-mode-apart : (p : ℕ) → 1 ≤ p → p ≤ 17 → (f : Fields) → get (withMode (modeFor p) f) (taskFor p).field ≡ get f (taskFor p).field
+mode-apart : (p : ℕ) → 1 ≤ p → p ≤ 17 → (f : Fields) → get (with_mode (mode_for p) f) (task_for p).field ≡ get f (task_for p).field
 mode-apart p from to f =
-    by-if (λ (g : Fields). get g (taskFor p).field ≡ get f (taskFor p).field) (eqb (modeFor p) 0) f (put f mode (pos (modeFor p)))
-    (λ e. refl) (λ e. get_or-set_other f.values mode (taskFor p).field (pos (modeFor p)) (pos 0) (apart p from to))
+    by-if (λ (g : Fields). get g (task_for p).field ≡ get f (task_for p).field) (eqb (mode_for p) 0) f (put f mode (pos (mode_for p)))
+    (λ e. refl) (λ e. get_or-set_other f.values mode (task_for p).field (pos (mode_for p)) (pos 0) (apart p from to))
   where
-    apart : (p : ℕ) → 1 ≤ p → p ≤ 17 → (taskFor p).field ≡ mode → ⊥
-    apart = each (λ p. (taskFor p).field ≡ mode → ⊥) 1 16 (omega arith)
+    apart : (p : ℕ) → 1 ≤ p → p ≤ 17 → (task_for p).field ≡ mode → ⊥
+    apart = each (λ p. (task_for p).field ≡ mode → ⊥) 1 16 (omega arith)
 
 module _ (s : List ℕ) {y mo d h mi sec us : ℕ} (is : IsMoment y mo d h mi sec us) (n : Node) where
   abbrev now : Moment
   now = moment y mo d h mi sec us
 
-  module _ (p : ℕ) (from : 1 ≤ p) (f : Fields) (absent : get f (taskFor p).field ≡ pos 0) (x v : List ℕ) (at : ℕ) (here : drop at s ≡ x ++ v) where
+  module _ (p : ℕ) (from : 1 ≤ p) (f : Fields) (absent : get f (task_for p).field ≡ pos 0) (x v : List ℕ) (at : ℕ) (here : drop at s ≡ x ++ v) where
     -- the piece's task sets what the piece sets, and ends after what spells it
     abbrev Performs : Bool → Type 0
     Performs free =
-        performed s n free (taskFor p) (withMode (modeFor p) f) (place at 0 false) ≡ read (filledBy settings (p ∷ []) now f) (place (at + length x) 0 false)
+        performed s n free (task_for p) (with_mode (mode_for p) f) (place at 0 false) ≡ read (filled_by settings (p ∷ []) now f) (place (at + length x) 0 false)
 
     number-performed : (free : Bool) → (free ≡ true → digits v ≡ 0) → p ≤ 13 → n.suffix ≡ 0 → x ≡ decimal (width_of p) (number_of p now) → Performs free
-    unfolding performed storedNumber pastOrdinal
+    unfolding performed stored_number past_ordinal
     number-performed free stops to bare e =
         let task = is_number p from to in
         let small = number_small is p from to in
@@ -98,7 +98,7 @@ module _ (s : List ℕ) {y mo d h mi sec us : ℕ} (is : IsMoment y mo d h mi se
         )
 
     word-performed : (free : Bool) → 14 ≤ p → p ≤ 17 → map folded x ≡ word_for p now → Performs free
-    unfolding performed storedWord
+    unfolding performed stored_word
     word-performed free low to e =
         rw (
           is_word p low to,
@@ -116,19 +116,19 @@ module _ (s : List ℕ) {y mo d h mi sec us : ℕ} (is : IsMoment y mo d h mi se
 
   -- the whole node: spaces are skipped before its text, where there are none, and after it
   pub pattern-step : (t : List ℕ) (next : Node) (first : Bool) (k : Pattern n) (f : Fields) (x v : List ℕ) (at : ℕ)
-      → SpellsPiece (pieceOf n.pattern) now x
+      → SpellsPiece (piece_of n.pattern) now x
       → Left s at (x ++ v)
-      → (pieceOf n.pattern ≤ 13 → isFree t n next ≡ true → digits v ≡ 0)
-      → get f (taskFor (pieceOf n.pattern)).field ≡ pos 0
-      → mixes (modeFor (pieceOf n.pattern)) (get f mode) ≡ false
-      → nodeRead t s n next first f (place at 0 false)
-      ≡ read (filledBy settings (pieceOf n.pattern ∷ []) now f) (place (at + length x + spaces v) (spaces v) false)
-  unfolding nodeRead entered actionRead pastSpaces
+      → (piece_of n.pattern ≤ 13 → is_free t n next ≡ true → digits v ≡ 0)
+      → get f (task_for (piece_of n.pattern)).field ≡ pos 0
+      → mixes (mode_for (piece_of n.pattern)) (get f mode) ≡ false
+      → node_read t s n next first f (place at 0 false)
+      ≡ read (filled_by settings (piece_of n.pattern ∷ []) now f) (place (at + length x + spaces v) (spaces v) false)
+  unfolding node_read entered action_read past_spaces
   pattern-step t next first k f x v at w h stops absent unmixed =
-      let p = pieceOf n.pattern in
+      let p = piece_of n.pattern in
       let none : spaces (drop at s) ≡ 0 = rw h.is (ink-spaces x v (spelled-written is k.some w).ink) in
       let after : drop (at + length x) s ≡ v = (left-past x v h).is in
-      let sets = piece-performed p k.some f absent x v at h.is (isFree t n next) (λ to. (bare k to, stops to)) w in
+      let sets = piece-performed p k.some f absent x v at h.is (is_free t n next) (λ to. (bare k to, stops to)) w in
       rw (
         eq-eqb n.kind action k.is-action,
         k.reads.does,

@@ -13,27 +13,27 @@ use native.Mathlib.Omega.{arith}
 use borrow.Author.Tests.{not-true}
 use lib.ListN.{length, drop}
 use Rattle.base_notation.specs.Choice.{if◌then◌else◌}
-use Rattle.base_notation.specs.Text.{byteAt}
+use Rattle.base_notation.specs.Text.{byte_at}
 use Rattle.base_notation.proofs.Cases.{neither}
-use Rattle.base_chars.specs.Class.{isSpace, isSeparator}
+use Rattle.base_chars.specs.Class.{is_space, is_separator}
 use Rattle.base_strtol.specs.Runs.{leading, spaces}
-use Rattle.readback.proofs.Nodes.{isBlank}
+use Rattle.readback.proofs.Nodes.{is_blank}
 
 abbrev pub Ahead : ℕ → List ℕ → Type 0
 Ahead zero u = Unit {0}
 Ahead (suc e) [] = ⊥
-Ahead (suc e) (b ∷ u) = (isBlank b ≡ true) × Ahead e u
+Ahead (suc e) (b ∷ u) = (is_blank b ≡ true) × Ahead e u
 
 pub ahead-spaces : (u : List ℕ) → Ahead (spaces u) u
 unfolding leading
 ahead-spaces [] = tt
-ahead-spaces (b ∷ u) = by (isSpace b) refl (ahead-spaces u)
+ahead-spaces (b ∷ u) = by (is_space b) refl (ahead-spaces u)
   where
-    by : (t : Bool) → isSpace b ≡ t → Ahead (spaces u) u → Ahead (if t then suc (spaces u) else 0) (b ∷ u)
+    by : (t : Bool) → is_space b ≡ t → Ahead (spaces u) u → Ahead (if t then suc (spaces u) else 0) (b ∷ u)
     by true q ih = (rw q, ih)
     by false q ih = tt
 
-pub ahead_more : (e : ℕ) (u : List ℕ) → Ahead e u → e < length u → isBlank (byteAt u e) ≡ true → Ahead (suc e) u
+pub ahead_more : (e : ℕ) (u : List ℕ) → Ahead e u → e < length u → is_blank (byte_at u e) ≡ true → Ahead (suc e) u
 ahead_more zero [] k h q = absurd (omega arith)
 ahead_more zero (b ∷ u) k h q = (q, tt)
 ahead_more (suc e) [] k h q = absurd k
@@ -46,7 +46,7 @@ ahead_within (suc e) (b ∷ u) k = omega (arith, ahead_within e u k.1)
 
 abbrev pub inked : List ℕ → Bool
 inked [] = false
-inked (b ∷ u) = not (isBlank b)
+inked (b ∷ u) = not (is_blank b)
 
 pub ink-ahead : (u v : List ℕ) → inked u ≡ true → (e : ℕ) → Ahead e (u ++ v) → e ≡ 0
 ink-ahead u v i zero k = refl
@@ -56,7 +56,7 @@ ink-ahead (b ∷ u) v i (suc e) k = absurd (false≢true (rw k.0 at i))
 pub ink-spaces : (u v : List ℕ) → inked u ≡ true → spaces (u ++ v) ≡ 0
 unfolding leading
 ink-spaces [] v i = absurd (false≢true i)
-ink-spaces (b ∷ u) v i = rw (neither (isSpace b) (isSeparator b) (not-true _ i)).0
+ink-spaces (b ∷ u) v i = rw (neither (is_space b) (is_separator b) (not-true _ i)).0
 
 pub ink-some : (u : List ℕ) → inked u ≡ true → 0 < length u
 ink-some [] i = absurd (false≢true i)

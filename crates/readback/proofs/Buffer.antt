@@ -10,22 +10,22 @@ use lib.ListN.{length, take, drop, length-append}
 use lib.Seq.{take-append_seam}
 use Rattle.base_settings.specs.declared.Settings.{Settings}
 use Rattle.write_text.specs.Text.{text_of}
-use Rattle.write_text.specs.Writer.{Wrote, bufferAfter, writtenTo}
+use Rattle.write_text.specs.Writer.{Wrote, buffer_after, written_to}
 use Rattle.write_pieces.specs.declared.Moment.{Moment}
 use Rattle.write_text.specs.declared.Unwritten.{Unwritten}
 use Rattle.write_text.specs.declared.Written.{Written}
 use Rattle.write_text.specs.declared.Written.TheVariants.{Length, Refused}
 use Rattle.write_text.proofs.Room.{to-measured}
-use Rattle.readback.specs.ReadBack.{WroteAndRead, againOf, readAgain}
+use Rattle.readback.specs.ReadBack.{WroteAndRead, again_of, read_again}
 use Rattle.readback.specs.declared.Again.{Again}
 use Rattle.readback.specs.declared.Again.TheVariants.{NotWritten}
 use Rattle.readback.proofs.ReadBack.{every_back}
 
 module _ (set : Settings) (t : List ℕ) (m : Moment) {before after : List ℕ} where
   -- the whole promise follows from the answer and the buffer
-  promised : (r : Again) → r ≡ againOf set t m (length before) → after ≡ bufferAfter (writtenTo set t m (length before)) (text_of t m) before
+  promised : (r : Again) → r ≡ again_of set t m (length before) → after ≡ buffer_after (written_to set t m (length before)) (text_of t m) before
       → WroteAndRead set t m before after r
-  unfolding againOf
+  unfolding again_of
   promised r answer buffer = record {
     is = answer;
     buffer = buffer;
@@ -37,7 +37,7 @@ module _ (set : Settings) (t : List ℕ) (m : Moment) {before after : List ℕ} 
 
   module _ {w : Written} (wrote : Wrote set t m before after w) where
     pub not_written : {why : Unwritten} → w ≡ Refused why → WroteAndRead set t m before after (NotWritten why)
-    unfolding againOf
+    unfolding again_of
     not_written {why} refused =
         let as-defined = sym wrote.is ∙ refused in
         promised (NotWritten why) (rw as-defined) (wrote.buffer ∙ rw (as-defined, refused))
@@ -56,8 +56,8 @@ module _ (set : Settings) (t : List ℕ) (m : Moment) {before after : List ℕ} 
       pub room : n ≤ length after
       room = rw after_is (omega (arith, known, length-append (text_of t m) (drop n before)))
 
-      pub read : (r : Again) → r ≡ readAgain set t (take n after) (Length (length (take n after))) → WroteAndRead set t m before after r
-      unfolding againOf
+      pub read : (r : Again) → r ≡ read_again set t (take n after) (Length (length (take n after))) → WroteAndRead set t m before after r
+      unfolding again_of
       read r answer =
           let as-defined = sym wrote.is ∙ written in
           promised r (answer ∙ rw (text_in-front, as-defined, known)) (wrote.buffer ∙ rw (as-defined, written))

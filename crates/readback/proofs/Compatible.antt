@@ -15,46 +15,46 @@ use lib.ListN.{replicate, get_or-replicate, get_or-eq_default}
 use Rattle.base_notation.specs.Choice.{if◌then◌else◌}
 use Rattle.base_notation.proofs.Cases.{both}
 use Rattle.base_notation.proofs.Table.{all_from, entry}
-use Rattle.read_fields.specs.Fields.{mode, get, noFields}
+use Rattle.read_fields.specs.Fields.{mode, get, no_fields}
 use Rattle.read_input.specs.Reader.{mixes}
 use Rattle.write_text.specs.Full.{times}
 use Rattle.write_pieces.specs.declared.Moment.{Moment}
-use Rattle.readback.proofs.FieldSettings.{Kept, always, own, Setting, settings, value_of, filledBy, expected}
-use Rattle.readback.proofs.Filled.{has, among, inPairs, other, held, one_more}
-use Rattle.readback.proofs.Known.{taskFor, modeFor}
+use Rattle.readback.proofs.FieldSettings.{Kept, always, own, Setting, settings, value_of, filled_by, expected}
+use Rattle.readback.proofs.Filled.{has, among, in_pairs, other, held, one_more}
+use Rattle.readback.proofs.Known.{task_for, mode_for}
 
 -- no other piece sets the piece's own field
 abbrev clear : List ℕ → ℕ → Bool
-clear all p = among (λ q. has all q && not (eqb q p)) (λ (r : Setting). not (eqb r.field (taskFor p).field) || false) 0 settings
+clear all p = among (λ q. has all q && not (eqb q p)) (λ (r : Setting). not (eqb r.field (task_for p).field) || false) 0 settings
 
 -- each date mode that is set is the piece's, if it has one
-abbrev isMode : ℕ → Kept → Bool
-isMode c (always n) = eqb c 0 || eqb n c
-isMode c own = eqb c 0
+abbrev is_mode : ℕ → Kept → Bool
+is_mode c (always n) = eqb c 0 || eqb n c
+is_mode c own = eqb c 0
 
-abbrev oneMode : List ℕ → ℕ → Bool
-oneMode all p = among (has all) (λ (r : Setting). not (eqb r.field mode) || isMode (modeFor p) r.kept) 0 settings
+abbrev one_mode : List ℕ → ℕ → Bool
+one_mode all p = among (has all) (λ (r : Setting). not (eqb r.field mode) || is_mode (mode_for p) r.kept) 0 settings
 
 -- a piece that occurs does so once, with its own field and its date mode
 abbrev goes : List ℕ → ℕ → Bool
-goes all p = not (has all p) || (leb (times p all) 1 && (clear all p && oneMode all p))
+goes all p = not (has all p) || (leb (times p all) 1 && (clear all p && one_mode all p))
 
 -- each piece goes so, and no two settings of one field differ
 abbrev pub together : List ℕ → Bool
-together all = inPairs (has all) settings && all_from (λ (p x : ℕ). goes all p) 0 (replicate 18 0)
+together all = in_pairs (has all) settings && all_from (λ (p x : ℕ). goes all p) 0 (replicate 18 0)
 
-no_field : (k : ℕ) → get noFields k ≡ pos 0
+no_field : (k : ℕ) → get no_fields k ≡ pos 0
 no_field k =
-    (elim (ltb k 24) as (λ w. ltb k 24 ≡ w → get noFields k ≡ pos 0) [
+    (elim (ltb k 24) as (λ w. ltb k 24 ≡ w → get no_fields k ≡ pos 0) [
       | true ↦ λ w. get_or-replicate 24 k (pos 0) (pos 0) (ltb-true k 24 w)
       | false ↦ λ w. get_or-eq_default (replicate 24 (pos 0)) (pos 0) (ltb-false k 24 w)
     ]) refl
 
 -- a date mode that was set and is the piece's is no other
-mode-kept : (c : ℕ) (v : Kept) (p : ℕ) (m : Moment) → isMode c v ≡ true → mixes c (value_of v p m) ≡ false
+mode-kept : (c : ℕ) (v : Kept) (p : ℕ) (m : Moment) → is_mode c v ≡ true → mixes c (value_of v p m) ≡ false
 mode-kept c v p m e = by (eqb c 0) refl v e
   where
-    by : (t : Bool) → eqb c 0 ≡ t → (v : Kept) → isMode c v ≡ true → mixes c (value_of v p m) ≡ false
+    by : (t : Bool) → eqb c 0 ≡ t → (v : Kept) → is_mode c v ≡ true → mixes c (value_of v p m) ≡ false
     by true q v e = rw q
     by false q own e = absurd (false≢true (rw q at e))
     by false q (always n) e =
@@ -72,10 +72,10 @@ module _ (all : List ℕ) (c : together all ≡ true) (m : Moment) (done : List 
   here : has all p ≡ true
   here = lt-ltb 0 (times p all) (omega (arith, fits p, own-times p ps))
 
-  pairs : (inPairs (has all) settings ≡ true) × (all_from (λ (p x : ℕ). goes all p) 0 (replicate 18 0) ≡ true)
-  pairs = both (inPairs (has all) settings) _ c
+  pairs : (in_pairs (has all) settings ≡ true) × (all_from (λ (p x : ℕ). goes all p) 0 (replicate 18 0) ≡ true)
+  pairs = both (in_pairs (has all) settings) _ c
 
-  needs : (leb (times p all) 1 ≡ true) × (clear all p && oneMode all p ≡ true)
+  needs : (leb (times p all) 1 ≡ true) × (clear all p && one_mode all p ≡ true)
   needs = both (leb (times p all) 1) _ (other (has all p) _ here (entry (λ (p x : ℕ). goes all p) 0 (replicate 18 0) pairs.1 p small))
 
   -- it was not read before
@@ -91,21 +91,21 @@ module _ (all : List ℕ) (c : together all ≡ true) (m : Moment) (done : List 
       let another : eqb q p ≡ false = ne_eqb q p (λ x. let z : times q done ≡ 0 = rw x unread in omega (arith, ltb-true 0 (times q done) e)) in
       rw (sub q e, another)
 
-  pub absent : get (expected done m) (taskFor p).field ≡ pos 0
+  pub absent : get (expected done m) (task_for p).field ≡ pos 0
   unfolding expected
   absent =
-      held m (λ q. has all q && not (eqb q p)) done sub-other (λ z. z ≡ pos 0) (taskFor p).field (λ r. false) (λ r e. absurd (false≢true e)) 0 settings
-      (both (clear all p) _ needs.1).0 noFields (no_field (taskFor p).field)
+      held m (λ q. has all q && not (eqb q p)) done sub-other (λ z. z ≡ pos 0) (task_for p).field (λ r. false) (λ r e. absurd (false≢true e)) 0 settings
+      (both (clear all p) _ needs.1).0 no_fields (no_field (task_for p).field)
 
-  pub unmixed : mixes (modeFor p) (get (expected done m) mode) ≡ false
+  pub unmixed : mixes (mode_for p) (get (expected done m) mode) ≡ false
   unfolding expected
   unmixed =
-      held m (has all) done sub (λ z. mixes (modeFor p) z ≡ false) mode (λ (r : Setting). isMode (modeFor p) r.kept)
-      (λ r e. mode-kept (modeFor p) r.kept r.piece m e) 0 settings (both (clear all p) _ needs.1).1 noFields (and-false (not (eqb (modeFor p) 0)))
+      held m (has all) done sub (λ z. mixes (mode_for p) z ≡ false) mode (λ (r : Setting). is_mode (mode_for p) r.kept)
+      (λ r e. mode-kept (mode_for p) r.kept r.piece m e) 0 settings (both (clear all p) _ needs.1).1 no_fields (and-false (not (eqb (mode_for p) 0)))
 
-  pub stored : filledBy settings (p ∷ []) m (expected done m) ≡ expected (p ∷ done) m
+  pub stored : filled_by settings (p ∷ []) m (expected done m) ≡ expected (p ∷ done) m
   unfolding expected
-  stored = one_more m (has all) done sub p here unread settings pairs.0 noFields
+  stored = one_more m (has all) done sub p here unread settings pairs.0 no_fields
 
   pub fits_next : (q : ℕ) → times q (p ∷ done) + times q ps ≡ times q all
   unfolding times

@@ -8,32 +8,32 @@ use borrow.Author.Tests.{lt-ltb, ltb-true, ltb-false, ne_eqb}
 use lib.Dec.{ltb, lit<}
 use lib.IntN.{ℤ, pos}
 use Rattle.base_wrapping.proofs.Small.{wrap-pos, sub-pos}
-use Rattle.calendar_gregorian.specs.Gregorian.{dayNumber, dayOfYear, Valid}
-use Rattle.calendar_gregorian.specs.IsoWeek.{isoMonday, isoWeek, isoWeekday, isoYear}
+use Rattle.calendar_gregorian.specs.Gregorian.{day_number, day_of_year, Valid}
+use Rattle.calendar_gregorian.specs.IsoWeek.{iso_monday, iso_week, iso_weekday, iso_year}
 use Rattle.calendar_gregorian.proofs.Dates.{real, first-to-last, length-range}
 use Rattle.calendar_gregorian.proofs.Ordinal.{day-of-month, ordinal-range, ordinal-month}
 use Rattle.calendar_gregorian.proofs.Weeks.{week-range, day-of-week, year-range}
 use Rattle.calendar_julian.specs.Week.{isoweek2j}
 use Rattle.calendar_julian.proofs.Inverse.{j2date-is}
 use Rattle.calendar_julian.proofs.IsoWeeks.{isoweek2j-is}
-use Rattle.moment_date.specs.Dates.{yearBit, allBits, days, begun, withJulian, dayOfWeek, withWeek, withDay, withMonth, fromDayOfYear, withDayOfYear, datedOf}
+use Rattle.moment_date.specs.Dates.{year_bit, all_bits, days, begun, with_julian, day_of_week, with_week, with_day, with_month, from_day_of_year, with_day_of_year, dated_of}
 use Rattle.moment_date.specs.declared.Dated.TheVariants.{Date}
 use Rattle.read_fields.specs.Fields as F
 use Rattle.read_fields.specs.declared.Fields.{Fields}
-use Rattle.readback.proofs.GroupFields.{DateGroup, by-month, by-day, by-week, DateValues, dateValues, TimeValues, fields_of, Same}
+use Rattle.readback.proofs.GroupFields.{DateGroup, by-month, by-day, by-week, DateValues, date_values, TimeValues, fields_of, Same}
 use Rattle.readback.proofs.FieldSteps.{year-read, begun-is, no-julian, no-week, no-day-of-year, after-weeks}
 
 -- the fields make the date, with year, month and day set
 pub record DateRead (f : Fields) (y m n : ℕ) : Type 0 where
-  pub inMonth : ℤ
-  pub inYear : ℤ
-  pub is : datedOf f ≡ Date (days (pos y) (pos m) (pos n) allBits inMonth inYear)
+  pub in_month : ℤ
+  pub in_year : ℤ
+  pub is : dated_of f ≡ Date (days (pos y) (pos m) (pos n) all_bits in_month in_year)
 
 -- the day of a week k days after its Monday, by its number from Sunday
-weekday : (monday k : ℕ) → k < 7 → monday < 1000000000 → dayOfWeek (pos monday) (pos ((k + 1) % 7 + 1)) ≡ pos (monday + k)
+weekday : (monday k : ℕ) → k < 7 → monday < 1000000000 → day_of_week (pos monday) (pos ((k + 1) % 7 + 1)) ≡ pos (monday + k)
 weekday monday k h l = by (ltb k 6) refl
   where
-    by : (t : Bool) → ltb k 6 ≡ t → dayOfWeek (pos monday) (pos ((k + 1) % 7 + 1)) ≡ pos (monday + k)
+    by : (t : Bool) → ltb k 6 ≡ t → day_of_week (pos monday) (pos ((k + 1) % 7 + 1)) ≡ pos (monday + k)
     by true p =
         let before-sunday = ltb-true k 6 p in
         let number : (k + 1) % 7 + 1 ≡ k + 2 = omega arith in
@@ -53,44 +53,44 @@ weekday monday k h l = by (ltb k 6) refl
 module _ {y m n : ℕ} (v : Valid y m n) (f : Fields) (b : TimeValues) (us : ℕ) where
   -- with a year but no week, the date begins as January 1 of the year
   from-january : (a : DateValues) → a.year ≡ y → a.ww ≡ 0 → Same f (fields_of a b us)
-      → datedOf f ≡ withDayOfYear f (withMonth f (withDay (days (pos y) (pos 1) (pos 1) yearBit (pos a.dd) (pos a.ddd))))
+      → dated_of f ≡ with_day_of_year f (with_month f (with_day (days (pos y) (pos 1) (pos 1) year_bit (pos a.dd) (pos a.ddd))))
   from-january a year-is no-weeks e =
       let year = e F.year (lit< tt) ∙ ap pos year-is in
       let first = year-read f y v.year-from year (e F.cc (lit< tt)) (e F.bc (lit< tt)) in
-      let january : withWeek f (withJulian f (begun f (pos y))) ≡ Date (days (pos y) (pos 1) (pos 1) yearBit (pos a.dd) (pos a.ddd)) =
+      let january : with_week f (with_julian f (begun f (pos y))) ≡ Date (days (pos y) (pos 1) (pos 1) year_bit (pos a.dd) (pos a.ddd)) =
       rw (begun-is f y v.year-from year, no-julian f _ (e F.j (lit< tt)), e F.dd (lit< tt), e F.ddd (lit< tt))
       (no-week f _ (e F.ww (lit< tt) ∙ ap pos no-weeks))
       in
       after-weeks f y _ first january (e F.w (lit< tt))
 
   -- YYYY MM DD
-  month-day : Same f (fields_of (dateValues by-month y m n) b us) → DateRead f y m n
+  month-day : Same f (fields_of (date_values by-month y m n) b us) → DateRead f y m n
   month-day e = record {
-    inMonth = pos n;
-    inYear = pos 0;
+    in_month = pos n;
+    in_year = pos 0;
     is =
-        from-january (dateValues by-month y m n) refl refl e
+        from-january (date_values by-month y m n) refl refl e
         ∙ rw (ne_eqb n 0 (λ z. omega arith), e F.mm (lit< tt), ne_eqb m 0 (λ z. omega arith))
-        (no-day-of-year f (days (pos y) (pos m) (pos n) allBits (pos n) (pos 0)) refl);
+        (no-day-of-year f (days (pos y) (pos m) (pos n) all_bits (pos n) (pos 0)) refl);
   }
 
   -- YYYY DDD: from the day of the year to the month and the day
   ordinal
-      : fromDayOfYear (days (pos y) (pos 1) (pos 1) yearBit (pos 0) (pos (dayOfYear y m n)))
-      ≡ days (pos y) (pos m) (pos n) allBits (pos 0) (pos (dayOfYear y m n))
-  unfolding fromDayOfYear
+      : from_day_of_year (days (pos y) (pos 1) (pos 1) year_bit (pos 0) (pos (day_of_year y m n)))
+      ≡ days (pos y) (pos m) (pos n) all_bits (pos 0) (pos (day_of_year y m n))
+  unfolding from_day_of_year
   ordinal = rw (ordinal-month v, day-of-month y m n, wrap-pos n (omega (arith, length-range y m v.month-from v.month-to)))
 
-  year-day : Same f (fields_of (dateValues by-day y m n) b us) → DateRead f y m n
-  unfolding withDayOfYear
+  year-day : Same f (fields_of (date_values by-day y m n) b us) → DateRead f y m n
+  unfolding with_day_of_year
   year-day e = record {
-    inMonth = pos 0;
-    inYear = pos (dayOfYear y m n);
+    in_month = pos 0;
+    in_year = pos (day_of_year y m n);
     is =
-        from-january (dateValues by-day y m n) refl refl e
+        from-january (date_values by-day y m n) refl refl e
         ∙ rw (
           e F.mm (lit< tt),
-          ne_eqb (dayOfYear y m n) 0 (λ z. omega (arith, ordinal-range v)),
+          ne_eqb (day_of_year y m n) 0 (λ z. omega (arith, ordinal-range v)),
           ne_eqb y 0 (λ z. omega arith),
           e F.mode (lit< tt),
           ordinal,
@@ -99,23 +99,23 @@ module _ {y m n : ℕ} (v : Valid y m n) (f : Fields) (b : TimeValues) (us : ℕ
 
   -- IYYY IW ID: from the year, the week and the weekday to the day number, and from there to the date
   abbrev iso : ℕ
-  iso = isoYear y m n
+  iso = iso_year y m n
 
   abbrev week : ℕ
-  week = isoWeek y m n
+  week = iso_week y m n
 
-  found : dayOfWeek (isoweek2j (pos iso) (pos week)) (pos (isoWeekday (dayNumber y m n) % 7 + 1)) ≡ pos (dayNumber y m n)
+  found : day_of_week (isoweek2j (pos iso) (pos week)) (pos (iso_weekday (day_number y m n) % 7 + 1)) ≡ pos (day_number y m n)
   found =
       rw (isoweek2j-is iso (omega (arith, year-range v)) week (week-range (real v)).0 (omega (arith, week-range (real v))))
-      (weekday (isoMonday iso week) (dayNumber y m n % 7) (omega arith) (omega (arith, day-of-week (real v), first-to-last v))
+      (weekday (iso_monday iso week) (day_number y m n % 7) (omega arith) (omega (arith, day-of-week (real v), first-to-last v))
       ∙ ap pos (omega (arith, day-of-week (real v))))
 
-  week-day : Same f (fields_of (dateValues by-week y m n) b us) → DateRead f y m n
-  unfolding withWeek
+  week-day : Same f (fields_of (date_values by-week y m n) b us) → DateRead f y m n
+  unfolding with_week
   week-day e =
-      let date = days (pos y) (pos m) (pos n) allBits (pos 0) (pos 0) in
+      let date = days (pos y) (pos m) (pos n) all_bits (pos 0) (pos 0) in
       let first = year-read f iso (year-range v).0 (e F.year (lit< tt)) (e F.cc (lit< tt)) (e F.bc (lit< tt)) in
-      let weeks : withWeek f (withJulian f (begun f (pos iso))) ≡ Date date =
+      let weeks : with_week f (with_julian f (begun f (pos iso))) ≡ Date date =
       rw (
         begun-is f iso (year-range v).0 (e F.year (lit< tt)),
         no-julian f _ (e F.j (lit< tt)),
@@ -130,12 +130,12 @@ module _ {y m n : ℕ} (v : Valid y m n) (f : Fields) (b : TimeValues) (us : ℕ
       )
       in
       record {
-        inMonth = pos 0;
-        inYear = pos 0;
+        in_month = pos 0;
+        in_year = pos 0;
         is = after-weeks f iso date first weeks (e F.w (lit< tt)) ∙ rw (e F.mm (lit< tt)) (no-day-of-year f date refl);
       }
 
-  pub date-read : (g : DateGroup) → Same f (fields_of (dateValues g y m n) b us) → DateRead f y m n
+  pub date-read : (g : DateGroup) → Same f (fields_of (date_values g y m n) b us) → DateRead f y m n
   date-read by-month e = month-day e
   date-read by-day e = year-day e
   date-read by-week e = week-day e

@@ -11,9 +11,9 @@ use native.Mathlib.Omega.{arith}
 use borrow.Author.Tests.{le-ltb, ne_eqb}
 use lib.IntN.{pos}
 use Rattle.base_wrapping.proofs.Small.{wrap-pos}
-use Rattle.moment_date.specs.Dates.{yearBit, days, begun, withJulian, withWeek, withMonthWeek, withDay, withMonth, withDayOfYear, datedOf}
-use Rattle.moment_time.specs.Time.{microsOf, offset_of, offsetInRange, checkedOffset}
-use Rattle.moment_year.specs.Year.{yearOf}
+use Rattle.moment_date.specs.Dates.{year_bit, days, begun, with_julian, with_week, with_month_week, with_day, with_month, with_day_of_year, dated_of}
+use Rattle.moment_time.specs.Time.{micros_of, offset_of, offset_in_range, checked_offset}
+use Rattle.moment_year.specs.Year.{year_of}
 use Rattle.moment_date.specs.declared.Dated.TheVariants.{Date}
 use Rattle.moment_date.specs.declared.Days.{Days}
 use Rattle.moment_time.specs.declared.Offset.TheVariants.{Absent}
@@ -24,40 +24,40 @@ use Rattle.read_fields.specs.declared.Fields.{Fields}
 
 module _ (f : Fields) where
   module _ (y : ℕ) (from : 1 ≤ y) (e : F.get f F.year ≡ pos y) where
-    pub year-read : F.get f F.cc ≡ pos 0 → F.get f F.bc ≡ pos 0 → yearOf f ≡ Is (pos y)
-    unfolding yearOf
+    pub year-read : F.get f F.cc ≡ pos 0 → F.get f F.bc ≡ pos 0 → year_of f ≡ Is (pos y)
+    unfolding year_of
     year-read c b = rw (e, c, b, ne_eqb y 0 (λ z. omega arith), le-ltb y 0 (omega arith))
 
-    pub begun-is : begun f (pos y) ≡ days (pos y) (pos 1) (pos 1) yearBit (F.get f F.dd) (F.get f F.ddd)
+    pub begun-is : begun f (pos y) ≡ days (pos y) (pos 1) (pos 1) year_bit (F.get f F.dd) (F.get f F.ddd)
     unfolding begun
     begun-is = rw (e, ne_eqb y 0 (λ z. omega arith))
 
   module _ (r : Days) where
-    pub no-julian : F.get f F.j ≡ pos 0 → withJulian f r ≡ r
-    unfolding withJulian
+    pub no-julian : F.get f F.j ≡ pos 0 → with_julian f r ≡ r
+    unfolding with_julian
     no-julian e = rw e
 
-    pub no-week : F.get f F.ww ≡ pos 0 → withWeek f r ≡ Date r
-    unfolding withWeek
+    pub no-week : F.get f F.ww ≡ pos 0 → with_week f r ≡ Date r
+    unfolding with_week
     no-week e = rw e
 
-    no-month-week : F.get f F.w ≡ pos 0 → withMonthWeek f r ≡ Date r
-    unfolding withMonthWeek
+    no-month-week : F.get f F.w ≡ pos 0 → with_month_week f r ≡ Date r
+    unfolding with_month_week
     no-month-week e = rw e
 
-    pub no-day-of-year : r.ddd ≡ pos 0 → withDayOfYear f r ≡ Date r
-    unfolding withDayOfYear
+    pub no-day-of-year : r.ddd ≡ pos 0 → with_day_of_year f r ≡ Date r
+    unfolding with_day_of_year
     no-day-of-year e = rw e
 
-  pub after-weeks : (first : ℕ) (r : Days) → yearOf f ≡ Is (pos first) → withWeek f (withJulian f (begun f (pos first))) ≡ Date r
-      → F.get f F.w ≡ pos 0 → datedOf f ≡ withDayOfYear f (withMonth f (withDay r))
-  unfolding datedOf
+  pub after-weeks : (first : ℕ) (r : Days) → year_of f ≡ Is (pos first) → with_week f (with_julian f (begun f (pos first))) ≡ Date r
+      → F.get f F.w ≡ pos 0 → dated_of f ≡ with_day_of_year f (with_month f (with_day r))
+  unfolding dated_of
   after-weeks first r e w k = rw (e, w, no-month-week r k)
 
-  pub micros-read : (n : ℕ) → n < 1000000 → F.get f F.ms ≡ pos 0 → F.get f F.us ≡ pos n → microsOf f ≡ Is (pos n)
-  unfolding microsOf
+  pub micros-read : (n : ℕ) → n < 1000000 → F.get f F.ms ≡ pos 0 → F.get f F.us ≡ pos n → micros_of f ≡ Is (pos n)
+  unfolding micros_of
   micros-read n h e k = rw (e, k, zero-add, wrap-pos n (omega arith))
 
-  pub no-offset : F.get f F.tzsign ≡ pos 0 → checkedOffset f ≡ At Absent
-  unfolding checkedOffset offsetInRange offset_of
+  pub no-offset : F.get f F.tzsign ≡ pos 0 → checked_offset f ≡ At Absent
+  unfolding checked_offset offset_in_range offset_of
   no-offset e = rw e

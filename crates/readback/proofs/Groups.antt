@@ -13,10 +13,10 @@ use lib.Dec.{eqb, ltb}
 use Rattle.base_notation.proofs.Cases.{both}
 use Rattle.base_notation.proofs.Table.{all_from}
 use Rattle.calendar_gregorian.proofs.Dates.{Each, each}
-use Rattle.template_patterns.specs.Search.{countFrom}
+use Rattle.template_patterns.specs.Search.{count_from}
 use Rattle.template_nodes.specs.declared.Node.{Node}
-use Rattle.write_text.specs.Full.{pieces, dateGroups, timeGroups, times, sameFrom, same, anyOf, areFull}
-use Rattle.write_pieces.specs.Pieces.{micros, pieceOf}
+use Rattle.write_text.specs.Full.{pieces, date_groups, time_groups, times, same_from, same, any_of, are_full}
+use Rattle.write_pieces.specs.Pieces.{micros, piece_of}
 use Rattle.write_pieces.specs.declared.Moment.{Moment}
 use Rattle.readback.proofs.FieldSettings.{expected}
 use Rattle.readback.proofs.Filled.{order-free}
@@ -28,13 +28,13 @@ AllOf P [] = Unit {0}
 AllOf P (g ∷ gs) = P g × AllOf P gs
 
 -- where one of the lists passes a test, there is one that has every property of all of them
-any_of {ℓ}
-    : (A : Type ℓ) (gs : List (List ℕ)) (test : List ℕ → Bool) → anyOf gs test ≡ true
+any_of_lem {ℓ}
+    : (A : Type ℓ) (gs : List (List ℕ)) (test : List ℕ → Bool) → any_of gs test ≡ true
     → ((g : List ℕ) → ((P : List ℕ → Type 0) → AllOf P gs → P g) → test g ≡ true → A) → A
-any_of A [] test e k = absurd (false≢true e)
-any_of A (g ∷ gs) test e k = by (test g) refl (λ q. any_of A gs test q (λ x pick. k x (λ P a. pick P a.1)))
+any_of_lem A [] test e k = absurd (false≢true e)
+any_of_lem A (g ∷ gs) test e k = by (test g) refl (λ q. any_of_lem A gs test q (λ x pick. k x (λ P a. pick P a.1)))
   where
-    by : (b : Bool) → test g ≡ b → (anyOf gs test ≡ true → A) → A
+    by : (b : Bool) → test g ≡ b → (any_of gs test ≡ true → A) → A
     by true q rest = k g (λ P a. a.0) q
     by false q rest = rest (rw q at e)
 
@@ -43,13 +43,13 @@ abbrev pub joined : List ℕ → List ℕ → List ℕ
 joined date time = date ++ time ++ micros ∷ []
 
 abbrev pub Timed : (List ℕ → Type 0) → List ℕ → Type 0
-Timed P date = AllOf (λ time. P (joined date time)) timeGroups
+Timed P date = AllOf (λ time. P (joined date time)) time_groups
 
 abbrev pub EachFull : (List ℕ → Type 0) → Type 0
-EachFull P = AllOf (Timed P) dateGroups
+EachFull P = AllOf (Timed P) date_groups
 
 -- each of the pieces 0 to 17 occurs as often
-same-each : (ps qs : List ℕ) (n i : ℕ) → sameFrom (countFrom i (suc n)) ps qs ≡ true → Each (λ q. times q ps ≡ times q qs) i n
+same-each : (ps qs : List ℕ) (n i : ℕ) → same_from (count_from i (suc n)) ps qs ≡ true → Each (λ q. times q ps ≡ times q qs) i n
 same-each ps qs zero i e = eqb-true _ _ (both (eqb (times i ps) (times i qs)) _ e).0
 same-each ps qs (suc n) i e =
     let split = both (eqb (times i ps) (times i qs)) _ e in
@@ -86,18 +86,18 @@ all-below = (
   ((refl, (refl, (refl, (refl, tt)))), ((refl, (refl, (refl, (refl, tt)))), ((refl, (refl, (refl, (refl, tt)))), ((refl, (refl, (refl, (refl, tt)))), tt)))),
 )
 
-pub grouped : (ps : List ℕ) → below18 ps ≡ true → areFull ps ≡ true → Grouped ps
-unfolding areFull
+pub grouped : (ps : List ℕ) → below18 ps ≡ true → are_full ps ≡ true → Grouped ps
+unfolding are_full
 grouped ps below e =
-    any_of (Grouped ps) dateGroups dated e
-    (λ date pick q. any_of (Grouped ps) timeGroups (timed date) q
+    any_of_lem (Grouped ps) date_groups dated e
+    (λ date pick q. any_of_lem (Grouped ps) time_groups (timed date) q
     (λ time choose r. whole (joined date time) (λ P a. choose (λ x. P (joined date x)) (pick (Timed P) a)) r))
   where
     timed : List ℕ → List ℕ → Bool
     timed date time = same ps (joined date time)
 
     dated : List ℕ → Bool
-    dated date = anyOf timeGroups (timed date)
+    dated date = any_of time_groups (timed date)
 
     whole : (all : List ℕ) → ((P : List ℕ → Type 0) → EachFull P → P all) → same ps all ≡ true → Grouped ps
     whole all pick r =
@@ -110,7 +110,7 @@ pieces-below t (n ∷ ns) i a = by a.0 (λ j. pieces-below t ns j a.1)
   where
     by : Sound t n → ((j : ℕ) → all_from (λ (i p : ℕ). ltb p 18) j (pieces ns) ≡ true) → all_from (λ (i p : ℕ). ltb p 18) i (pieces (n ∷ ns)) ≡ true
     by (a-literal l) ih = rw (pieces-literal t n ns l) (ih i)
-    by (a-pattern k) ih = rw (pieces-pattern t n ns k, lt-ltb (pieceOf n.pattern) 18 k.reads.piece) (ih (suc i))
+    by (a-pattern k) ih = rw (pieces-pattern t n ns k, lt-ltb (piece_of n.pattern) 18 k.reads.piece) (ih (suc i))
 
 pub expected-same : (m : Moment) (ps qs : List ℕ) → ((q : ℕ) → times q ps ≡ times q qs) → expected ps m ≡ expected qs m
 unfolding expected

@@ -14,17 +14,17 @@ use borrow.Author.Tests.{lt-ltb, ltb-true, ltb-false}
 use lib.Dec.{eqb, ltb}
 use lib.ListN.{length, drop, length-append, length-drop}
 use lib.Seq.{drop-drop, drop-append_seam, get_or-drop}
-use Rattle.base_notation.specs.Text.{byteAt}
+use Rattle.base_notation.specs.Text.{byte_at}
 use Rattle.base_notation.proofs.Cases.{both}
-use Rattle.base_accents.specs.Accents.{markAt, measureOf}
+use Rattle.base_accents.specs.Accents.{mark_at, measure_of}
 use Rattle.base_accents.proofs.Measures.{measure-left}
-use Rattle.base_chars.specs.Class.{Class, class_of, digit, isLetter, letter, other, separator as separatorClass, space as spaceClass}
+use Rattle.base_chars.specs.Class.{Class, class_of, digit, is_letter, letter, other, separator as separator_class, space as space_class}
 use Rattle.base_chars.proofs.Classes.{wide-class}
-use Rattle.read_literals.specs.Literals.{place, literalPassed}
+use Rattle.read_literals.specs.Literals.{place, literal_passed}
 use Rattle.template_nodes.specs.Template.{separator, space}
 use Rattle.template_nodes.specs.declared.Node.{Node}
 use Rattle.readback.proofs.Ahead.{Ahead, ahead_more}
-use Rattle.readback.proofs.Nodes.{isBlank, Alike, Literal, one_byte}
+use Rattle.readback.proofs.Nodes.{is_blank, Alike, Literal, one_byte}
 
 -- u is left of the input s from at on
 pub record Left (s : List ℕ) (at : ℕ) (u : List ℕ) : Type 0 where
@@ -35,7 +35,7 @@ module _ {s : List ℕ} {at : ℕ} {u : List ℕ} (h : Left s at u) where
   pub left-length : length s ≡ at + length u
   left-length = omega (arith, length-drop at s, ap (λ (v : List ℕ). length v) h.is, h.within)
 
-  pub left-byte : (i : ℕ) → byteAt s (at + i) ≡ byteAt u i
+  pub left-byte : (i : ℕ) → byte_at s (at + i) ≡ byte_at u i
   left-byte i = rw (← get_or-drop at s i 0, h.is)
 
 pub left-past : {s : List ℕ} {at : ℕ} (u v : List ℕ) → Left s at (u ++ v) → Left s (at + length u) v
@@ -46,7 +46,7 @@ left-past {s} {at} u v h =
     }
 
 -- a space or separator is ASCII, and no letter
-blank-plain : (b : ℕ) → isBlank b ≡ true → (b < 0x80) × (isLetter b ≡ false)
+blank-plain : (b : ℕ) → is_blank b ≡ true → (b < 0x80) × (is_letter b ≡ false)
 blank-plain b e =
     let small : b < 0x80 =
     (elim (ltb b 0x80) as (λ w. ltb b 0x80 ≡ w → b < 0x80) [
@@ -55,17 +55,17 @@ blank-plain b e =
     ]) refl in
     (small, by (class_of b) refl)
   where
-    by : (c : Class) → class_of b ≡ c → isLetter b ≡ false
+    by : (c : Class) → class_of b ≡ c → is_letter b ≡ false
     by letter q = absurd (false≢true (rw q at e))
-    by spaceClass q = rw q
+    by space_class q = rw q
     by digit q = rw q
-    by separatorClass q = rw q
+    by separator_class q = rw q
     by other q = rw q
 
 -- the reader past the literal n, after which v is left: by how much it is ahead there
 pub record Passed (s : List ℕ) (n : Node) (at e : ℕ) (v : List ℕ) : Type 0 where
   pub next : ℕ
-  pub is : literalPassed s n (place (at + e) e false) ≡ place (at + n.len + next) next false
+  pub is : literal_passed s n (place (at + e) e false) ≡ place (at + n.len + next) next false
   pub ahead : Ahead next v
 
 moved : (e : ℕ) {a b : ℕ} → a ≡ b → place a e false ≡ place b e false
@@ -75,32 +75,32 @@ none : (u v : List ℕ) → length u ≡ 0 → u ++ v ≡ v
 none [] v e = refl
 none (b ∷ u) v e = absurd (omega arith)
 
-module _ (s t : List ℕ) (n : Node) (l : Literal t n) {x : List ℕ} (a : Alike t n x) (v : List ℕ) (clear : n.accents ≡ true → markAt v 0 ≡ false) (at : ℕ)
+module _ (s t : List ℕ) (n : Node) (l : Literal t n) {x : List ℕ} (a : Alike t n x) (v : List ℕ) (clear : n.accents ≡ true → mark_at v 0 ≡ false) (at : ℕ)
     (h : Left s at (a.b ∷ a.others ++ v)) where
-  abbrev blankKind : Bool
-  blankKind = eqb n.kind separator || eqb n.kind space
+  abbrev blank_kind : Bool
+  blank_kind = eqb n.kind separator || eqb n.kind space
 
-  own-length : measureOf n.accents s (at + 0) ≡ n.len
+  own-length : measure_of n.accents s (at + 0) ≡ n.len
   own-length =
       let text : drop at s ≡ x ++ v = h.is ∙ rw a.is in
       rw (add-zero at, ← measure-left s at n.accents, text) (a.long v clear)
 
-  blank-one : isBlank a.b ≡ true → n.len ≡ 1
+  blank-one : is_blank a.b ≡ true → n.len ≡ 1
   blank-one e = one_byte a (blank-plain a.b e).0 (blank-plain a.b e).1
 
   -- a space or separator is read at one of the template
-  blank-here : blankKind ≡ true → isBlank a.b ≡ true
+  blank-here : blank_kind ≡ true → is_blank a.b ≡ true
   blank-here q = rw a.class (l.blank q)
 
   -- a reader that is not ahead: the literal takes its own bytes
   in_place : Passed s n at 0 v
-  unfolding literalPassed
-  in_place = record { next = 0; is = by blankKind refl; ahead = tt }
+  unfolding literal_passed
+  in_place = record { next = 0; is = by blank_kind refl; ahead = tt }
     where
       inside : at + 0 < length s
       inside = omega (arith, left-length h)
 
-      by : (w : Bool) → blankKind ≡ w → literalPassed s n (place (at + 0) 0 false) ≡ place (at + n.len + 0) 0 false
+      by : (w : Bool) → blank_kind ≡ w → literal_passed s n (place (at + 0) 0 false) ≡ place (at + n.len + 0) 0 false
       by true q =
           rw (q, lt-ltb (at + 0) (length s) inside, left-byte h 0, blank-here q)
           (moved 0 (omega (arith, blank-one (blank-here q))))
@@ -114,14 +114,14 @@ module _ (s t : List ℕ) (n : Node) (l : Literal t n) {x : List ℕ} (a : Alike
     rest = none a.others v (omega (arith, a.size, one))
 
     -- a byte that was skipped pays for the literal, which has one byte
-    paid : literalPassed s n (place (at + suc e) (suc e) false) ≡ place (at + suc e) e false → Passed s n at (suc e) v
+    paid : literal_passed s n (place (at + suc e) (suc e) false) ≡ place (at + suc e) e false → Passed s n at (suc e) v
     paid q = record { next = e; is = q ∙ moved e (omega (arith, one)); ahead = rw rest at k.1 }
 
     -- a space or separator of the template takes one more of them, if there is one
-    blank : blankKind ≡ true → Passed s n at (suc e) v
-    unfolding literalPassed
+    blank : blank_kind ≡ true → Passed s n at (suc e) v
+    unfolding literal_passed
     blank q =
-        (elim (ltb (at + suc e) (length s) && isBlank (byteAt s (at + suc e))) as (λ w. (ltb (at + suc e) (length s) && isBlank (byteAt s (at + suc e))) ≡ w → Passed s n at (suc e) v) [
+        (elim (ltb (at + suc e) (length s) && is_blank (byte_at s (at + suc e))) as (λ w. (ltb (at + suc e) (length s) && is_blank (byte_at s (at + suc e))) ≡ w → Passed s n at (suc e) v) [
           | true ↦ λ w.
               let next-blank = both (ltb (at + suc e) (length s)) _ w in
               let inside : suc e < length (a.b ∷ a.others ++ v) = omega (arith, ltb-true (at + suc e) (length s) next-blank.0, left-length h) in
@@ -131,9 +131,9 @@ module _ (s t : List ℕ) (n : Node) (l : Literal t n) {x : List ℕ} (a : Alike
         ]) refl
 
     ahead_step : Passed s n at (suc e) v
-    unfolding literalPassed
+    unfolding literal_passed
     ahead_step =
-        (elim blankKind as (λ w. blankKind ≡ w → Passed s n at (suc e) v) [
+        (elim blank_kind as (λ w. blank_kind ≡ w → Passed s n at (suc e) v) [
           | true ↦ λ q. blank q
           | false ↦ λ q. paid (rw (q, lt-ltb 0 (suc e) (omega arith)))
         ]) refl

@@ -7,24 +7,24 @@ use native.Mathlib.Omega.{arith}
 use borrow.Author.Tests.{lt-ltb, le-ltb}
 use lib.Dec.{lit<}
 use lib.IntN.{ℤ, pos}
-use Rattle.calendar_gregorian.specs.Gregorian.{Valid, monthLength}
+use Rattle.calendar_gregorian.specs.Gregorian.{Valid, month_length}
 use Rattle.calendar_gregorian.proofs.Dates.{length-range}
 use Rattle.calendar_gregorian.proofs.Months.{month-length}
-use Rattle.moment_instants.proofs.Plain.{plainParts}
-use Rattle.moment_date.specs.Dates.{allBits, days, dateInRange, noSuchDay}
-use Rattle.moment_parts.specs.Parts.{checkedMoment, momentOf}
-use Rattle.moment_time.specs.Time.{timeInRange}
+use Rattle.moment_instants.proofs.Plain.{plain_parts}
+use Rattle.moment_date.specs.Dates.{all_bits, days, date_in_range, no_such_day}
+use Rattle.moment_parts.specs.Parts.{checked_moment, moment_of}
+use Rattle.moment_time.specs.Time.{time_in_range}
 use Rattle.moment_parts.specs.declared.Answer.TheVariants.{Moment}
 use Rattle.read_fields.specs.Fields as F
 use Rattle.read_fields.specs.declared.Fields.{Fields}
 use Rattle.readback.proofs.MomentFacts.{IsMoment}
-use Rattle.readback.proofs.GroupFields.{DateGroup, TimeGroup, dateValues, timeValues, fields_of, Same}
+use Rattle.readback.proofs.GroupFields.{DateGroup, TimeGroup, date_values, time_values, fields_of, Same}
 use Rattle.readback.proofs.DateGroups.{DateRead, date-read}
 use Rattle.readback.proofs.FieldSteps.{micros-read, no-offset}
 use Rattle.readback.proofs.TimeGroups.{TimeRead, time-read}
 
-date-in-range : {y m n : ℕ} → Valid y m n → (a b : ℤ) → dateInRange (days (pos y) (pos m) (pos n) allBits a b) ≡ true
-unfolding dateInRange
+date-in-range : {y m n : ℕ} → Valid y m n → (a b : ℤ) → date_in_range (days (pos y) (pos m) (pos n) all_bits a b) ≡ true
+unfolding date_in_range
 date-in-range {y} {m} {n} v a b =
     rw (
       le-ltb m 1 v.month-from,
@@ -32,18 +32,18 @@ date-in-range {y} {m} {n} v a b =
       le-ltb n 1 v.day-from,
       le-ltb 31 n (omega (arith, length-range y m v.month-from v.month-to)),
       month-length y m v.month-from,
-      le-ltb (monthLength y m) n v.day-to,
+      le-ltb (month_length y m) n v.day-to,
     )
 
 -- a year is set, so the strict switch asks nothing
-not-asked : (strict : Bool) (m n : ℤ) → (strict && noSuchDay allBits m n) ≡ false
-unfolding noSuchDay
+not-asked : (strict : Bool) (m n : ℤ) → (strict && no_such_day all_bits m n) ≡ false
+unfolding no_such_day
 not-asked true m n = refl
 not-asked false m n = refl
 
 module _ {y mo d h mi s us : ℕ} (is : IsMoment y mo d h mi s us) where
-  time-in-range : timeInRange (pos h) (pos mi) (pos s) (pos us) ≡ true
-  unfolding timeInRange
+  time-in-range : time_in_range (pos h) (pos mi) (pos s) (pos us) ≡ true
+  unfolding time_in_range
   time-in-range =
       rw (
         le-ltb h 0 (omega arith),
@@ -56,19 +56,19 @@ module _ {y mo d h mi s us : ℕ} (is : IsMoment y mo d h mi s us) where
         lt-ltb us 1000000 is.micros,
       )
 
-  module _ (strict : Bool) (date : DateGroup) (time : TimeGroup) (f : Fields) (e : Same f (fields_of (dateValues date y mo d) (timeValues time h mi s) us)) where
+  module _ (strict : Bool) (date : DateGroup) (time : TimeGroup) (f : Fields) (e : Same f (fields_of (date_values date y mo d) (time_values time h mi s) us)) where
     the-date : DateRead f y mo d
-    the-date = date-read is.date f (timeValues time h mi s) us date e
+    the-date = date-read is.date f (time_values time h mi s) us date e
 
     the-time : TimeRead f h mi s
-    the-time = time-read is.hour is.minute is.second f (dateValues date y mo d) us time e
+    the-time = time-read is.hour is.minute is.second f (date_values date y mo d) us time e
 
     -- the checks of the ranges pass
-    checked : checkedMoment strict f (days (pos y) (pos mo) (pos d) allBits the-date.inMonth the-date.inYear) (pos h) (pos us) ≡ Moment (plainParts y mo d h mi s us)
-    unfolding checkedMoment
+    checked : checked_moment strict f (days (pos y) (pos mo) (pos d) all_bits the-date.in_month the-date.in_year) (pos h) (pos us) ≡ Moment (plain_parts y mo d h mi s us)
+    unfolding checked_moment
     checked =
         simp (
-          date-in-range is.date the-date.inMonth the-date.inYear,
+          date-in-range is.date the-date.in_month the-date.in_year,
           not-asked strict (pos mo) (pos d),
           the-time.minute-is,
           the-time.second_is,
@@ -77,6 +77,6 @@ module _ {y mo d h mi s us : ℕ} (is : IsMoment y mo d h mi s us) where
           e F.ff (lit< tt),
         )
 
-    pub moment-read : momentOf strict f ≡ Moment (plainParts y mo d h mi s us)
-    unfolding momentOf
+    pub moment-read : moment_of strict f ≡ Moment (plain_parts y mo d h mi s us)
+    unfolding moment_of
     moment-read = rw (the-time.hour-is, the-date.is, micros-read f us is.micros (e F.ms (lit< tt)) (e F.us (lit< tt))) checked

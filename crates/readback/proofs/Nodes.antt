@@ -15,33 +15,33 @@ use lib.Dec.{eqb, ltb}
 use lib.ListN.{length, take, drop, length-take, length-drop}
 use lib.Seq.{drop-cons, get_or-drop}
 use Rattle.base_notation.specs.Choice.{if◌then◌else◌}
-use Rattle.base_notation.specs.Text.{byteAt}
+use Rattle.base_notation.specs.Text.{byte_at}
 use Rattle.base_notation.proofs.Cases.{both, by-if}
-use Rattle.base_accents.specs.Accents.{markAt, measureOf}
+use Rattle.base_accents.specs.Accents.{mark_at, measure_of}
 use Rattle.base_accents.proofs.Marks.{low-no-mark}
 use Rattle.base_accents.proofs.Measures.{char-first, count, mark-left, measure-left, plain-one}
 use Rattle.base_accents.proofs.Texts.{mark-kept, measure-kept, past-character, whole-character}
-use Rattle.base_chars.specs.Character.{charLength, lead}
-use Rattle.base_chars.specs.Class.{class_of, isLetter, isSpace, isSeparator}
-use Rattle.base_chars.specs.Utf8.{wellFormed, sequence}
+use Rattle.base_chars.specs.Character.{char_length, lead}
+use Rattle.base_chars.specs.Class.{class_of, is_letter, is_space, is_separator}
+use Rattle.base_chars.specs.Utf8.{well_formed, sequence}
 use Rattle.base_chars.proofs.Characters.{measure}
 use Rattle.base_chars.proofs.Sequences.{sequence-lead}
 use Rattle.base_chars.proofs.WellFormed.{char-is-sequence}
-use Rattle.template_patterns.specs.Affixes.{affixLength, bit_at}
+use Rattle.template_patterns.specs.Affixes.{affix_length, bit_at}
 use Rattle.template_patterns.specs.Patterns.{name_of}
-use Rattle.template_patterns.specs.Search.{patternAt}
+use Rattle.template_patterns.specs.Search.{pattern_at}
 use Rattle.template_patterns.specs.declared.Found.{Found}
 use Rattle.template_patterns.specs.declared.Found.TheVariants.{Pattern, Nothing}
 use Rattle.template_patterns.proofs.Search.{found-range, found_name}
-use Rattle.template_nodes.specs.Template.{end, action, character, separator, space, kind_of, char_at, charPlace, escapes, inMode, literal, literalAt, skip, elementOf, plainAt, stepAt, nodesBy, nodesFrom, madeBy}
+use Rattle.template_nodes.specs.Template.{end, action, character, separator, space, kind_of, char_at, char_place, escapes, in_mode, literal, literal_at, skip, element_of, plain_at, step_at, nodes_by, nodes_from, made_by}
 use Rattle.template_nodes.specs.declared.Node.{Node}
 use Rattle.template_nodes.specs.declared.Step.{Step}
-use Rattle.write_text.specs.Text.{literalText}
+use Rattle.write_text.specs.Text.{literal_text}
 use Rattle.readback.proofs.Boundaries.{Boundary, past-byte, past-affix, past-pattern}
 
 -- a space or a separator
-abbrev pub isBlank : ℕ → Bool
-isBlank b = isSpace b || isSeparator b
+abbrev pub is_blank : ℕ → Bool
+is_blank b = is_space b || is_separator b
 
 -- x is one character, as long as the literal n and of the class of its first byte, whatever follows it; in the accents
 -- mode no mark may follow
@@ -50,12 +50,12 @@ pub record Alike (t : List ℕ) (n : Node) (x : List ℕ) : Type 0 where
   pub others : List ℕ
   pub is : x ≡ b ∷ others
   pub size : n.len ≡ suc (length others)
-  pub long : (v : List ℕ) → (n.accents ≡ true → markAt v 0 ≡ false) → measureOf n.accents (x ++ v) 0 ≡ n.len
-  pub class : class_of b ≡ class_of (byteAt t n.start)
-  pub whole : wellFormed x ≡ true
+  pub long : (v : List ℕ) → (n.accents ≡ true → mark_at v 0 ≡ false) → measure_of n.accents (x ++ v) 0 ≡ n.len
+  pub class : class_of b ≡ class_of (byte_at t n.start)
+  pub whole : well_formed x ≡ true
 
 -- a byte of ASCII that is no letter is all of it
-pub one_byte : {t : List ℕ} {n : Node} {x : List ℕ} (a : Alike t n x) → a.b < 0x80 → isLetter a.b ≡ false → n.len ≡ 1
+pub one_byte : {t : List ℕ} {n : Node} {x : List ℕ} (a : Alike t n x) → a.b < 0x80 → is_letter a.b ≡ false → n.len ≡ 1
 one_byte {n = n} {x = x} a small e =
     let text : x ++ [] ≡ a.b ∷ a.others ++ [] = rw a.is in
     sym (a.long [] (λ m. low-no-mark [] 0 (omega arith)))
@@ -63,11 +63,11 @@ one_byte {n = n} {x = x} a small e =
 
 -- a literal: one character of the template
 pub record Literal (t : List ℕ) (n : Node) : Type 0 where
-  pub own : Alike t n (literalText t n)
-  pub begins : (v : List ℕ) → markAt (literalText t n ++ v) 0 ≡ markAt t n.start
+  pub own : Alike t n (literal_text t n)
+  pub begins : (v : List ℕ) → mark_at (literal_text t n ++ v) 0 ≡ mark_at t n.start
   pub no-action : eqb n.kind action ≡ false
   pub no_end : eqb n.kind end ≡ false
-  pub blank : (eqb n.kind separator || eqb n.kind space) ≡ true → isBlank (byteAt t n.start) ≡ true
+  pub blank : (eqb n.kind separator || eqb n.kind space) ≡ true → is_blank (byte_at t n.start) ≡ true
 
 -- a pattern of the table
 pub record Named (n : Node) : Type 0 where
@@ -86,22 +86,22 @@ AllGood t (n ∷ ns) = Good t n × AllGood t ns
 -- the bytes of the template that nodes are made from; a pattern's affixes count once
 abbrev pub lengths : List Node → ℕ
 lengths [] = 0
-lengths (n ∷ ns) = n.len + affixLength n.suffix + lengths ns
+lengths (n ∷ ns) = n.len + affix_length n.suffix + lengths ns
 
 -- a kind of literals: of a character as it is, or by its class
 record Kind (kind b : ℕ) : Type 0 where
   no-action : eqb kind action ≡ false
   no_end : eqb kind end ≡ false
-  blank : (eqb kind separator || eqb kind space) ≡ true → isBlank b ≡ true
+  blank : (eqb kind separator || eqb kind space) ≡ true → is_blank b ≡ true
 
 plain-kind : (b : ℕ) → Kind character b
 plain-kind b = record { no-action = refl; no_end = refl; blank = λ e. absurd (false≢true e) }
 
 class-kind : (b : ℕ) → Kind (kind_of b) b
 unfolding kind_of
-class-kind b = by (isSeparator b) (isSpace b) refl refl
+class-kind b = by (is_separator b) (is_space b) refl refl
   where
-    by : (u v : Bool) → isSeparator b ≡ u → isSpace b ≡ v → Kind (if u then separator else if v then space else character) b
+    by : (u v : Bool) → is_separator b ≡ u → is_space b ≡ v → Kind (if u then separator else if v then space else character) b
     by true true p q = record { no-action = refl; no_end = refl; blank = λ e. rw (p, q) }
     by true false p q = record { no-action = refl; no_end = refl; blank = λ e. rw (p, q) }
     by false true p q = record { no-action = refl; no_end = refl; blank = λ e. rw (p, q) }
@@ -111,38 +111,38 @@ class-kind b = by (isSeparator b) (isSpace b) refl refl
 record Taken (t : List ℕ) (at : ℕ) (s : Step) : Type 0 where
   next : Boundary t s.next
   from : at ≤ s.next
-  node : s.made ≡ true → Good t s.node × (at + s.node.len + affixLength s.node.suffix ≤ s.next)
+  node : s.made ≡ true → Good t s.node × (at + s.node.len + affix_length s.node.suffix ≤ s.next)
 
 module _ (accents : Bool) (t : List ℕ) where
-  first_byte : (p : ℕ) → byteAt (drop p t) 0 ≡ byteAt t p
+  first_byte : (p : ℕ) → byte_at (drop p t) 0 ≡ byte_at t p
   first_byte p = rw (get_or-drop p t 0 0, add-zero p)
 
   -- a character is as long by itself
-  own-long : (p : ℕ) (v : List ℕ) → lead (byteAt t p) ≤ length (drop p t) → (accents ≡ true → markAt v 0 ≡ false)
-      → measureOf accents (take (measureOf accents t p) (drop p t) ++ v) 0 ≡ measureOf accents t p
+  own-long : (p : ℕ) (v : List ℕ) → lead (byte_at t p) ≤ length (drop p t) → (accents ≡ true → mark_at v 0 ≡ false)
+      → measure_of accents (take (measure_of accents t p) (drop p t) ++ v) 0 ≡ measure_of accents t p
   own-long p v whole clear =
       rw (← measure-left t p accents) (measure-kept (drop p t) v (rw (first_byte p) whole) accents clear)
 
   -- and is a mark or none, as in the template
-  own-mark : (p : ℕ) (v : List ℕ) → lead (byteAt t p) ≤ length (drop p t) → lead (byteAt t p) ≤ measureOf accents t p
-      → markAt (take (measureOf accents t p) (drop p t) ++ v) 0 ≡ markAt t p
-  own-mark p v whole enough = mark-kept (drop p t) v (rw (first_byte p) whole) (measureOf accents t p) (rw (first_byte p) enough) ∙ mark-left t p
+  own-mark : (p : ℕ) (v : List ℕ) → lead (byte_at t p) ≤ length (drop p t) → lead (byte_at t p) ≤ measure_of accents t p
+      → mark_at (take (measure_of accents t p) (drop p t) ++ v) 0 ≡ mark_at t p
+  own-mark p v whole enough = mark-kept (drop p t) v (rw (first_byte p) whole) (measure_of accents t p) (rw (first_byte p) enough) ∙ mark-left t p
 
   -- a literal character at p
-  char-taken : (at p kind : ℕ) (quoted : Bool) → at ≤ p → p < length t → Boundary t p → Kind kind (byteAt t p) → Taken t at (char_at accents t p kind quoted)
+  char-taken : (at p kind : ℕ) (quoted : Bool) → at ≤ p → p < length t → Boundary t p → Kind kind (byte_at t p) → Taken t at (char_at accents t p kind quoted)
   char-taken at p kind quoted l h b k =
-      let x = byteAt t p in
+      let x = byte_at t p in
       let r = drop (suc p) t in
       let d : drop p t ≡ x ∷ r = drop-cons t p 0 h in
       let one_char = count accents t p in
-      let same : charLength t p ≡ sequence (x ∷ r) = char-is-sequence t p h b.begins ∙ rw d in
-      let long : lead x ≡ charLength t p = sequence-lead x r (omega (arith, (measure t p).some, same)) ∙ sym same in
+      let same : char_length t p ≡ sequence (x ∷ r) = char-is-sequence t p h b.begins ∙ rw d in
+      let long : lead x ≡ char_length t p = sequence-lead x r (omega (arith, (measure t p).some, same)) ∙ sym same in
       let whole : lead x ≤ length (drop p t) = omega (arith, long, (measure t p).within, length-drop p t) in
       record {
         next = record { within = omega (arith, one_char.within); begins = past-character accents t p b.begins };
         from = omega arith;
         node = λ e. (
-          is-literal ((elim (measureOf accents t p) as (λ n. measureOf accents t p ≡ n → Literal t (inMode accents (literal kind p (measureOf accents t p)))) [
+          is-literal ((elim (measure_of accents t p) as (λ n. measure_of accents t p ≡ n → Literal t (in_mode accents (literal kind p (measure_of accents t p)))) [
             | zero ↦ λ q. absurd (omega (arith, one_char.some))
             | suc n ↦ λ q. record {
               own = record {
@@ -170,16 +170,16 @@ module _ (accents : Bool) (t : List ℕ) where
     inside : p < length t
     boundary : Boundary t p
 
-  placed : (at : ℕ) (quoted : Bool) → at < length t → Boundary t at → Place at (charPlace t at quoted)
-  unfolding charPlace
+  placed : (at : ℕ) (quoted : Bool) → at < length t → Boundary t at → Place at (char_place t at quoted)
+  unfolding char_place
   placed at quoted h b =
       by-if (Place at) (escapes t at quoted) (at + 1) at
-      (λ e. let escape = both (eqb (byteAt t at) 92) _ e in
+      (λ e. let escape = both (eqb (byte_at t at) 92) _ e in
       let next = (past-byte t at 92 refl (eqb-true _ _ escape.0) b).1 in
       record { from = omega arith; inside = inside quoted next escape.1; boundary = next })
       (λ e. record { from = omega arith; inside = h; boundary = b })
     where
-      inside : (q : Bool) → Boundary t (at + 1) → (if q then ltb (at + 1) (length t) else eqb (byteAt t (at + 1)) 34) ≡ true → at + 1 < length t
+      inside : (q : Bool) → Boundary t (at + 1) → (if q then ltb (at + 1) (length t) else eqb (byte_at t (at + 1)) 34) ≡ true → at + 1 < length t
       inside true next e = ltb-true _ _ e
       inside false next e = (past-byte t (at + 1) 34 refl (eqb-true _ _ e) next).0
 
@@ -188,29 +188,29 @@ module _ (accents : Bool) (t : List ℕ) where
   skipped from at quoted l b = record { next = b; from = l; node = λ e. absurd (false≢true e) }
 
   -- a quote is skipped, anything else is a literal character
-  literal-taken : (from at : ℕ) (quoted : Bool) → from ≤ at → at < length t → Boundary t at → Taken t from (literalAt accents t at quoted)
-  unfolding literalAt
+  literal-taken : (from at : ℕ) (quoted : Bool) → from ≤ at → at < length t → Boundary t at → Taken t from (literal_at accents t at quoted)
+  unfolding literal_at
   literal-taken from at quoted l h b =
       let char = placed at quoted h b in
-      by-if (Taken t from) (eqb (byteAt t at) 34) (skip (at + 1) (not quoted)) _
+      by-if (Taken t from) (eqb (byte_at t at) 34) (skip (at + 1) (not quoted)) _
       (λ e. skipped from (at + 1) (not quoted) (omega arith) (past-byte t at 34 refl (eqb-true _ _ e) b).1)
-      (λ e. char-taken from (charPlace t at quoted) _ quoted (omega arith) char.inside char.boundary (kind quoted))
+      (λ e. char-taken from (char_place t at quoted) _ quoted (omega arith) char.inside char.boundary (kind quoted))
     where
-      kind : (q : Bool) → Kind (if q then character else kind_of (byteAt t (charPlace t at quoted))) (byteAt t (charPlace t at quoted))
+      kind : (q : Bool) → Kind (if q then character else kind_of (byte_at t (char_place t at quoted))) (byte_at t (char_place t at quoted))
       kind true = plain-kind _
       kind false = class-kind _
 
   -- the affixes of a pattern have the bytes that are taken for its prefix and its suffix
-  affix-bytes : (prefix suffix : ℕ) → affixLength (bit_or prefix suffix) ≤ affixLength prefix + affixLength suffix
+  affix-bytes : (prefix suffix : ℕ) → affix_length (bit_or prefix suffix) ≤ affix_length prefix + affix_length suffix
   affix-bytes prefix suffix = by (eqb prefix 0) refl
     where
-      by : (b : Bool) → eqb prefix 0 ≡ b → affixLength (bit_or prefix suffix) ≤ (if b then 0 else 2) + affixLength suffix
+      by : (b : Bool) → eqb prefix 0 ≡ b → affix_length (bit_or prefix suffix) ≤ (if b then 0 else 2) + affix_length suffix
       by true e = rw (eqb-true prefix 0 e, or_zero_l suffix) (omega arith)
-      by false e = by-if (λ (n : ℕ). n ≤ 2 + affixLength suffix) (eqb (bit_or prefix suffix) 0) 0 2 (λ q. omega arith) (λ q. omega arith)
+      by false e = by-if (λ (n : ℕ). n ≤ 2 + affix_length suffix) (eqb (bit_or prefix suffix) 0) 0 2 (λ q. omega arith) (λ q. omega arith)
 
   -- a pattern with its prefix and suffix, or a literal
-  element-taken : (from at prefix : ℕ) (f : Found) → patternAt t at ≡ f → from + affixLength prefix ≤ at → at < length t → Boundary t at
-      → Taken t from (elementOf accents f t at prefix)
+  element-taken : (from at prefix : ℕ) (f : Found) → pattern_at t at ≡ f → from + affix_length prefix ≤ at → at < length t → Boundary t at
+      → Taken t from (element_of accents f t at prefix)
   element-taken from at prefix Nothing e l h b = literal-taken from at false (omega arith) h b
   element-taken from at prefix (Pattern k n) e l h b =
       let number = found-range t at k n e in
@@ -223,17 +223,17 @@ module _ (accents : Bool) (t : List ℕ) where
       }
 
   -- outside quotes a prefix may come first
-  plain-taken : (at : ℕ) → at < length t → Boundary t at → Taken t at (plainAt accents t at)
-  unfolding plainAt
+  plain-taken : (at : ℕ) → at < length t → Boundary t at → Taken t at (plain_at accents t at)
+  unfolding plain_at
   plain-taken at h b =
-      let start = at + affixLength (bit_at true t at) in
+      let start = at + affix_length (bit_at true t at) in
       let past : Boundary t start = past-affix t at b true in
       by-if (Taken t at) (ltb start (length t)) _ (skip start false)
-      (λ e. element-taken at start (bit_at true t at) (patternAt t start) refl (omega arith) (ltb-true _ _ e) past)
+      (λ e. element-taken at start (bit_at true t at) (pattern_at t start) refl (omega arith) (ltb-true _ _ e) past)
       (λ e. skipped at start false (omega arith) past)
 
-  step-taken : (at : ℕ) (quoted : Bool) → at < length t → Boundary t at → Taken t at (stepAt accents t at quoted)
-  unfolding stepAt
+  step-taken : (at : ℕ) (quoted : Bool) → at < length t → Boundary t at → Taken t at (step_at accents t at quoted)
+  unfolding step_at
   step-taken at true h b = literal-taken at at true (omega arith) h b
   step-taken at false h b = plain-taken at h b
 
@@ -246,24 +246,24 @@ module _ (accents : Bool) (t : List ℕ) where
   none_left at b = record { good = tt; within = omega (arith, b.within) }
 
   -- what a step makes, and the nodes after it
-  joined : (at : ℕ) (s : Step) (ns : List Node) → Taken t at s → Nodes s.next ns → Nodes at (madeBy s ++ ns)
+  joined : (at : ℕ) (s : Step) (ns : List Node) → Taken t at s → Nodes s.next ns → Nodes at (made_by s ++ ns)
   joined at s ns k r = by s.made refl
     where
       by : (m : Bool) → s.made ≡ m → Nodes at ((if m then s.node ∷ [] else []) ++ ns)
       by true e = let made = k.node e in record { good = (made.0, r.good); within = omega (arith, made.1, r.within) }
       by false e = record { good = r.good; within = omega (arith, k.from, r.within) }
 
-  nodes-from : (fuel at : ℕ) (quoted : Bool) → Boundary t at → Nodes at (nodesFrom accents fuel t at quoted)
-  unfolding nodesFrom
+  nodes-from : (fuel at : ℕ) (quoted : Bool) → Boundary t at → Nodes at (nodes_from accents fuel t at quoted)
+  unfolding nodes_from
   nodes-from zero at quoted b = none_left at b
   nodes-from (suc fuel) at quoted b =
-      let s = stepAt accents t at quoted in
+      let s = step_at accents t at quoted in
       by-if (Nodes at) (ltb at (length t)) _ []
       (λ e. let taken = step-taken at quoted (ltb-true _ _ e) b in joined at s _ taken (nodes-from fuel s.next s.quoted taken.next))
       (λ e. none_left at b)
 
-  pub good-nodes : wellFormed t ≡ true → AllGood t (nodesBy accents t) × (lengths (nodesBy accents t) ≤ length t)
-  unfolding nodesBy
+  pub good-nodes : well_formed t ≡ true → AllGood t (nodes_by accents t) × (lengths (nodes_by accents t) ≤ length t)
+  unfolding nodes_by
   good-nodes e =
       let from_start = nodes-from (length t) 0 false (record { within = omega arith; begins = e }) in
       (from_start.good, omega (arith, from_start.within))

@@ -17,26 +17,26 @@ use native.Mathlib.Omega.{arith}
 use borrow.Author.Tests.{le-ltb}
 use lib.IntN.{nat_abs}
 use lib.ListN.{length}
-use Rattle.base_settings.specs.Limits.{templateLimit, inputLimit}
+use Rattle.base_settings.specs.Limits.{template_limit, input_limit}
 use Rattle.base_settings.specs.declared.Settings.{Settings}
 use Rattle.readback.proofs.GroupFields.{by-month, by-day, by-week, of-24, of-12, by-second}
 use Rattle.readback.proofs.MomentRead.{moment-read}
-use Rattle.moment_instants.specs.ByTemplate.{timestampOf, dateOf}
-use Rattle.moment_instants.proofs.Plain.{plainParts, instant-is, day-is}
-use Rattle.moment_parts.specs.Parts.{momentOf, parts_of, partsRead}
+use Rattle.moment_instants.specs.ByTemplate.{timestamp_of, date_of}
+use Rattle.moment_instants.proofs.Plain.{plain_parts, instant-is, day-is}
+use Rattle.moment_parts.specs.Parts.{moment_of, parts_of, parts_read}
 use Rattle.moment_parts.specs.declared.Answer.{Answer}
 use Rattle.moment_parts.specs.declared.Answer.TheVariants.{Moment as Accepted, Refused}
-use Rattle.write_text.specs.Full.{times, isFull}
-use Rattle.write_pieces.specs.Moment.{moment, isMoment}
+use Rattle.write_text.specs.Full.{times, is_full}
+use Rattle.write_pieces.specs.Moment.{moment, is_moment}
 use Rattle.readback.proofs.MomentFacts.{IsMoment}
 use Rattle.write_pieces.specs.Pieces.{number_of}
 use Rattle.write_text.specs.Text.{text_of}
-use Rattle.write_text.specs.Writer.{writtenTo}
+use Rattle.write_text.specs.Writer.{written_to}
 use Rattle.write_pieces.specs.declared.Moment.{Moment}
 use Rattle.write_text.specs.declared.Written.TheVariants.{Length}
 use Rattle.write_pieces.proofs.Moments.{Numbers, numbers}
 use Rattle.readback.specs.ReadBack.{EveryBack, MarksJoined, ReadAs, ReadsBack}
-use Rattle.readback.proofs.FieldSettings.{own_of, filledBy, expected}
+use Rattle.readback.proofs.FieldSettings.{own_of, filled_by, expected}
 use Rattle.readback.proofs.Groups.{EachFull}
 use Rattle.readback.proofs.ReadText.{full_is, text-is-utf8, text-longer, text-is-read, fields_read}
 
@@ -66,8 +66,8 @@ plain m n = λ i. record {
 
 -- what each date group sets with each time group and US is read as the moment: the fields are computed and compared
 each_read : (strict : Bool) {y mo d h mi s us : ℕ} → IsMoment y mo d h mi s us
-    → EachFull (λ all. momentOf strict (expected all (moment y mo d h mi s us)) ≡ Accepted (plainParts y mo d h mi s us))
-unfolding expected filledBy times own_of number_of
+    → EachFull (λ all. moment_of strict (expected all (moment y mo d h mi s us)) ≡ Accepted (plain_parts y mo d h mi s us))
+unfolding expected filled_by times own_of number_of
 each_read strict is = (
   (
     moment-read is strict by-month of-24 _ (λ k h. refl),
@@ -100,9 +100,9 @@ each_read strict is = (
   ),
 )
 
-module _ (set : Settings) (apart : ReadsBack set) (t : List ℕ) (full : isFull set t ≡ true) (joined : MarksJoined set t) where
+module _ (set : Settings) (apart : ReadsBack set) (t : List ℕ) (full : is_full set t ≡ true) (joined : MarksJoined set t) where
   -- a text that is at most six bytes longer than the template is within the limit of an input
-  within : {n : ℕ} → n ≤ length t + 6 → n ≤ inputLimit set
+  within : {n : ℕ} → n ≤ length t + 6 → n ≤ input_limit set
   within h = omega (arith, (full_is set t full).short)
 
   module _ {y mo d h mi s us : ℕ} (is : IsMoment y mo d h mi s us) where
@@ -110,28 +110,28 @@ module _ (set : Settings) (apart : ReadsBack set) (t : List ℕ) (full : isFull 
     now = moment y mo d h mi s us
 
     -- the parts answer accepts the text with the seven numbers, no offset and all three marks
-    text-parts : parts_of set t (text_of t now) ≡ Accepted (plainParts y mo d h mi s us)
-    unfolding parts_of partsRead
+    text-parts : parts_of set t (text_of t now) ≡ Accepted (plain_parts y mo d h mi s us)
+    unfolding parts_of parts_read
     text-parts =
         rw (
-          le-ltb (templateLimit set) (length t) (full_is set t full).short,
-          le-ltb (inputLimit set) (length (text_of t now)) (within (text-longer set t full joined is)),
+          le-ltb (template_limit set) (length t) (full_is set t full).short,
+          le-ltb (input_limit set) (length (text_of t now)) (within (text-longer set t full joined is)),
           (full_is set t full).text,
           text-is-utf8 set t full joined is,
           (text-is-read set t full joined is).verdict,
         )
-        (fields_read set t full joined is (λ f. momentOf set.strict f ≡ Accepted (plainParts y mo d h mi s us)) (each_read set.strict is))
+        (fields_read set t full joined is (λ f. moment_of set.strict f ≡ Accepted (plain_parts y mo d h mi s us)) (each_read set.strict is))
 
     -- and so do the other two answers
     text-read : ReadAs set t (text_of t now) now
-    unfolding timestampOf dateOf
+    unfolding timestamp_of date_of
     text-read = record {
       parts = text-parts;
       instant = rw text-parts (instant-is is.date h mi s us is.hour is.minute is.second is.micros);
       day = rw text-parts (day-is is.date h mi s us);
     }
 
-  module _ (m : Moment) (is : isMoment m ≡ true) where
+  module _ (m : Moment) (is : is_moment m ≡ true) where
     -- the seven numbers are natural numbers in their ranges
     n : Numbers m
     n = numbers m is
@@ -143,11 +143,11 @@ module _ (set : Settings) (apart : ReadsBack set) (t : List ℕ) (full : isFull 
     longer = rw (plain m n) (text-longer set t full joined (is-moment n))
 
     -- a buffer of that length is enough
-    all-written : (room : ℕ) → length (text_of t m) ≤ room → writtenTo set t m room ≡ Length (length (text_of t m))
-    unfolding writtenTo
+    all-written : (room : ℕ) → length (text_of t m) ≤ room → written_to set t m room ≡ Length (length (text_of t m))
+    unfolding written_to
     all-written room h =
         rw (
-          le-ltb (templateLimit set) (length t) (full_is set t full).short,
+          le-ltb (template_limit set) (length t) (full_is set t full).short,
           (full_is set t full).text,
           (full_is set t full).known,
           is,
@@ -155,8 +155,8 @@ module _ (set : Settings) (apart : ReadsBack set) (t : List ℕ) (full : isFull 
         )
 
 -- the moment of an answer that accepts
-abbrev momentIn : Answer → Moment → Moment
-momentIn (Accepted p) other = record {
+abbrev moment_in : Answer → Moment → Moment
+moment_in (Accepted p) other = record {
   year = p.year;
   month = p.month;
   day = p.day;
@@ -165,7 +165,7 @@ momentIn (Accepted p) other = record {
   second = p.second;
   micros = p.micros;
 }
-momentIn (Refused why) other = other
+moment_in (Refused why) other = other
 
 -- reading back: two moments with the same text are the same, since each is what the text is read as
 pub every_back : EveryBack
@@ -175,7 +175,7 @@ every_back set apart t m full joined is = record {
   within = within set apart t full joined (longer set apart t full joined m is);
   same = λ n other. (
     λ same_text.
-        ap (λ a. momentIn a m)
+        ap (λ a. moment_in a m)
         (sym (read_back set apart t full joined m is).parts ∙ ap (parts_of set t) same_text ∙ (read_back set apart t full joined n other).parts),
     λ same-moment. ap (text_of t) same-moment,
   );

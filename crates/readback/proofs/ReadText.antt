@@ -13,25 +13,25 @@ use borrow.Author.Tests.{eqb-true, leb-true}
 use lib.Dec.{eqb, leb}
 use lib.ListN.{length}
 use Rattle.base_notation.proofs.Cases.{both}
-use Rattle.base_settings.specs.Limits.{templateLimit}
+use Rattle.base_settings.specs.Limits.{template_limit}
 use Rattle.base_settings.specs.declared.Settings.{Settings}
-use Rattle.base_chars.specs.Utf8.{wellFormed}
-use Rattle.read_fields.specs.Fields.{noFields}
+use Rattle.base_chars.specs.Utf8.{well_formed}
+use Rattle.read_fields.specs.Fields.{no_fields}
 use Rattle.read_input.specs.Reader.{read_all}
 use Rattle.read_fields.specs.declared.Fields.{Fields}
-use Rattle.template_nodes.specs.Template.{nodesBy, nodesOf}
+use Rattle.template_nodes.specs.Template.{nodes_by, nodes_of}
 use Rattle.template_nodes.specs.declared.Node.{Node}
-use Rattle.write_text.specs.Full.{pieces, times, areFull, isFull}
+use Rattle.write_text.specs.Full.{pieces, times, are_full, is_full}
 use Rattle.write_pieces.specs.Moment.{moment}
 use Rattle.readback.proofs.MomentFacts.{IsMoment}
-use Rattle.write_pieces.specs.Pieces.{micros, monthName}
-use Rattle.write_text.specs.Text.{nodesText, text_of}
-use Rattle.write_text.specs.Writer.{allWritten, firstUnwritten}
+use Rattle.write_pieces.specs.Pieces.{micros, month_name}
+use Rattle.write_text.specs.Text.{nodes_text, text_of}
+use Rattle.write_text.specs.Writer.{all_written, first_unwritten}
 use Rattle.write_pieces.specs.declared.Moment.{Moment}
 use Rattle.write_text.proofs.Modes.{pieces-in-both, text_in-both, unwritten-in-both}
 use Rattle.readback.specs.ReadBack.{MarksJoined}
 use Rattle.readback.proofs.Clear.{clear-nodes}
-use Rattle.readback.proofs.FieldSettings.{filledBy, expected}
+use Rattle.readback.proofs.FieldSettings.{filled_by, expected}
 use Rattle.readback.proofs.Compatible.{together}
 use Rattle.readback.proofs.Groups.{EachFull, Grouped, grouped, pieces-below, expected-same}
 use Rattle.readback.proofs.Nodes.{good-nodes}
@@ -50,31 +50,31 @@ all_tested = (
   ((refl, (refl, (refl, (refl, tt)))), ((refl, (refl, (refl, (refl, tt)))), ((refl, (refl, (refl, (refl, tt)))), ((refl, (refl, (refl, (refl, tt)))), tt)))),
 )
 
-none-expected : (m : Moment) → expected [] m ≡ noFields
-unfolding expected filledBy times
+none-expected : (m : Moment) → expected [] m ≡ no_fields
+unfolding expected filled_by times
 none-expected m = refl
 
 pub record Full (set : Settings) (t : List ℕ) : Type 0 where
-  pub short : length t ≤ templateLimit set
-  pub text : wellFormed t ≡ true
-  pub known : firstUnwritten (nodesOf t) ≡ allWritten
-  pub full : areFull (pieces (nodesOf t)) ≡ true
+  pub short : length t ≤ template_limit set
+  pub text : well_formed t ≡ true
+  pub known : first_unwritten (nodes_of t) ≡ all_written
+  pub full : are_full (pieces (nodes_of t)) ≡ true
 
-pub full_is : (set : Settings) (t : List ℕ) → isFull set t ≡ true → Full set t
-unfolding isFull
+pub full_is : (set : Settings) (t : List ℕ) → is_full set t ≡ true → Full set t
+unfolding is_full
 full_is set t e =
-    let short = both (leb (length t) (templateLimit set)) _ e in
-    let text = both (wellFormed t) _ short.1 in
-    let known = both (eqb (firstUnwritten (nodesOf t)) allWritten) _ text.1 in
+    let short = both (leb (length t) (template_limit set)) _ e in
+    let text = both (well_formed t) _ short.1 in
+    let known = both (eqb (first_unwritten (nodes_of t)) all_written) _ text.1 in
     record { short = leb-true _ _ short.0; text = text.0; known = eqb-true _ _ known.0; full = known.1 }
 
-module _ (set : Settings) (t : List ℕ) (is-full : isFull set t ≡ true) (joined : MarksJoined set t) where
+module _ (set : Settings) (t : List ℕ) (is-full : is_full set t ≡ true) (joined : MarksJoined set t) where
   checks : Full set t
   checks = full_is set t is-full
 
   -- the nodes of the caller's mode
   abbrev ns : List Node
-  ns = nodesBy set.accents t
+  ns = nodes_by set.accents t
 
   sound : AllSound t ns
   sound = sound-nodes t ns (good-nodes set.accents t checks.text).0 (unwritten-in-both set.accents t ∙ checks.known)
@@ -90,20 +90,20 @@ module _ (set : Settings) (t : List ℕ) (is-full : isFull set t ≡ true) (join
     now = moment y mo d h mi s us
 
     -- the text is that of these nodes, and spells them
-    text-is : nodesText t now ns ≡ text_of t now
+    text-is : nodes_text t now ns ≡ text_of t now
     text-is = text_in-both t now set.accents
 
     spelled : AllSpelled t now ns (text_of t now)
     spelled = rw (← text-is) (text-spelled t now ns sound (clear-nodes t is set.accents joined sound))
 
-    pub text-is-utf8 : wellFormed (text_of t now) ≡ true
+    pub text-is-utf8 : well_formed (text_of t now) ≡ true
     text-is-utf8 = spelled-utf8 t is ns (text_of t now) spelled
 
     pub text-longer : length (text_of t now) ≤ length t + 6
     text-longer =
         let longer = spelled-length t is ns (text_of t now) spelled in
         let most = leb-true (extra groups.all) 6 goes.1 in
-        omega (arith, longer, most, (good-nodes set.accents t checks.text).1, groups.as-often micros, groups.as-often monthName)
+        omega (arith, longer, most, (good-nodes set.accents t checks.text).1, groups.as-often micros, groups.as-often month_name)
 
     -- what the template's pieces set is what its groups set
     by-groups : expected (pieces ns) now ≡ expected groups.all now

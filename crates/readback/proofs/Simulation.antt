@@ -12,10 +12,10 @@ use borrow.Author.Tests.{lt-ltb, le-ltb, ltb-false, ltb-true}
 use lib.Dec.{eqb, ltb}
 use lib.ListN.{length, drop}
 use lib.Seq.{drop-drop}
-use Rattle.base_accents.specs.Accents.{markAt}
+use Rattle.base_accents.specs.Accents.{mark_at}
 use Rattle.read_fields.specs.Fields.{read}
-use Rattle.read_literals.specs.Literals.{place, literalPassed}
-use Rattle.read_input.specs.Reader.{entered, nodeRead, head_of, readFrom}
+use Rattle.read_literals.specs.Literals.{place, literal_passed}
+use Rattle.read_input.specs.Reader.{entered, node_read, head_of, read_from}
 use Rattle.read_fields.specs.declared.Fields.{Fields}
 use Rattle.read_fields.specs.declared.Place.{Place}
 use Rattle.read_fields.specs.declared.Reading.{Reading}
@@ -26,7 +26,7 @@ use Rattle.template_nodes.specs.declared.Node.{Node}
 use Rattle.write_text.specs.Full.{pieces, times}
 use Rattle.write_pieces.specs.Moment.{moment}
 use Rattle.readback.proofs.MomentFacts.{IsMoment}
-use Rattle.write_pieces.specs.Pieces.{pieceOf}
+use Rattle.write_pieces.specs.Pieces.{piece_of}
 use Rattle.write_pieces.specs.declared.Moment.{Moment}
 use Rattle.readback.proofs.FieldSettings.{expected}
 use Rattle.readback.proofs.Actions.{pattern-step}
@@ -42,8 +42,8 @@ use Rattle.readback.proofs.Texts.{SpellsPiece, spelled-written}
 module _ (t s : List ℕ) where
   -- a literal node, with the spaces that are skipped before it if it is the first
   literal-read : (n next : Node) (first : Bool) (f : Fields) (p : Place) → eqb n.kind action ≡ false
-      → nodeRead t s n next first f p ≡ read f (literalPassed s n (entered s n first p))
-  unfolding nodeRead
+      → node_read t s n next first f p ≡ read f (literal_passed s n (entered s n first p))
+  unfolding node_read
   literal-read n next first f p e = rw e
 
   -- with these spaces skipped, the reader is ahead still
@@ -61,14 +61,14 @@ module _ (t s : List ℕ) where
       record { skip = e + spaces (drop e u); is = rw (q, left, past-spaces); ahead = ahead-skip e u k }
 
   -- one node is read, and then the others
-  step : (n : Node) (ns : List Node) (first : Bool) (f : Fields) (p : Place) (g : Fields) (q : Place) → p.at < length s → nodeRead t s n (head_of ns) first f p ≡ read g q
-      → readFrom t s (n ∷ ns) first f p ≡ readFrom t s ns false g q
-  unfolding readFrom
+  step : (n : Node) (ns : List Node) (first : Bool) (f : Fields) (p : Place) (g : Fields) (q : Place) → p.at < length s → node_read t s n (head_of ns) first f p ≡ read g q
+      → read_from t s (n ∷ ns) first f p ≡ read_from t s ns false g q
+  unfolding read_from
   step n ns first f p g q h e = rw (lt-ltb p.at (length s) h, e)
 
   -- where the input ends, reading ends
-  at-end : (ns : List Node) (first : Bool) (f : Fields) (p : Place) → length s ≤ p.at → readFrom t s ns first f p ≡ read f p
-  unfolding readFrom
+  at-end : (ns : List Node) (first : Bool) (f : Fields) (p : Place) → length s ≤ p.at → read_from t s ns first f p ≡ read f p
+  unfolding read_from
   at-end [] first f p h = refl
   at-end (n ∷ ns) first f p h = rw (le-ltb p.at (length s) h)
 
@@ -92,7 +92,7 @@ module _ (t s : List ℕ) {y mo d h mi sec us : ℕ} (is : IsMoment y mo d h mi 
 
   -- reading from e bytes ahead of at, with the fields of the pieces done, ends with the fields of all
   abbrev Finishes : List Node → Bool → ℕ → ℕ → List ℕ → Type 0
-  Finishes ns first at e done = Ends (expected all now) (readFrom t s ns first (expected done now) (place (at + e) e false))
+  Finishes ns first at e done = Ends (expected all now) (read_from t s ns first (expected done now) (place (at + e) e false))
 
   -- wherever what is left spells the nodes
   abbrev Simulates : List Node → Bool → Type 0
@@ -102,7 +102,7 @@ module _ (t s : List ℕ) {y mo d h mi sec us : ℕ} (is : IsMoment y mo d h mi 
   module _ (n : Node) (ns : List Node) (rest : Simulates ns false) (x u : List ℕ) (a : AllSpelled t now ns u) (first : Bool) (at e : ℕ) (done : List ℕ)
       (left : Left s at (x ++ u)) (k : Ahead e (x ++ u)) (fits : Fits done (pieces (n ∷ ns))) (more : at + e < length s) where
     -- a literal is read, and the others after it
-    of-literal : Literal t n → Alike t n x → (n.accents ≡ true → markAt u 0 ≡ false) → Finishes (n ∷ ns) first at e done
+    of-literal : Literal t n → Alike t n x → (n.accents ≡ true → mark_at u 0 ≡ false) → Finishes (n ∷ ns) first at e done
     of-literal l c clear =
         let f = expected done now in
         let here : Left s at (c.b ∷ c.others ++ u) = rw c.is at left in
@@ -114,10 +114,10 @@ module _ (t s : List ℕ) {y mo d h mi sec us : ℕ} (is : IsMoment y mo d h mi 
         (rest u (at + n.len) past.next done a left-on past.ahead (λ q. rw (pieces-literal t n ns l) at (fits q)))
 
     -- a pattern is read at what spells its piece, and the others after it
-    of-pattern : Pattern n → SpellsPiece (pieceOf n.pattern) now x → Finishes (n ∷ ns) first at e done
+    of-pattern : Pattern n → SpellsPiece (piece_of n.pattern) now x → Finishes (n ∷ ns) first at e done
     of-pattern p w =
         let f = expected done now in
-        let y = pieceOf n.pattern in
+        let y = piece_of n.pattern in
         let ps = pieces ns in
         let level : e ≡ 0 = ink-ahead x u (spelled-written is p.some w).ink e k in
         let all_fit : Fits done (y ∷ ps) = λ j. rw (pieces-pattern t n ns p) at (fits j) in
@@ -140,7 +140,7 @@ module _ (t s : List ℕ) {y mo d h mi sec us : ℕ} (is : IsMoment y mo d h mi 
       rw (at-end t s ns first (expected done now) (place (at + e) e false) h) (finished done (place (at + e) e false) (λ q. rw none at (fits q)))
 
   pub simulated : (ns : List Node) (first : Bool) → Simulates ns first
-  unfolding readFrom pieces
+  unfolding read_from pieces
   simulated [] first u at e done a left k fits = finished done (place (at + e) e false) fits
   simulated (n ∷ ns) first u at e done a left k fits = by a.first (ltb (at + e) (length s)) refl (simulated ns false)
     where

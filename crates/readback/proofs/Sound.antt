@@ -17,9 +17,9 @@ use Rattle.template_patterns.specs.Patterns.{name_of}
 use Rattle.template_nodes.specs.Template.{action}
 use Rattle.template_nodes.specs.declared.Node.{Node}
 use Rattle.write_text.specs.Full.{pieces}
-use Rattle.write_pieces.specs.Pieces.{pieceOf, pieceText, prefix_of}
-use Rattle.write_text.specs.Text.{nodeText, literalText}
-use Rattle.write_text.specs.Writer.{allWritten, firstUnwritten, is_written, named}
+use Rattle.write_pieces.specs.Pieces.{piece_of, piece_text, prefix_of}
+use Rattle.write_text.specs.Text.{node_text, literal_text}
+use Rattle.write_text.specs.Writer.{all_written, first_unwritten, is_written, named}
 use Rattle.write_pieces.specs.declared.Moment.{Moment}
 use Rattle.write_text.proofs.Lengths.{action-text}
 use Rattle.readback.proofs.Known.{Reads, known}
@@ -28,14 +28,14 @@ use Rattle.readback.proofs.Nodes.{Literal, Good, is-literal, is-named, AllGood}
 -- a pattern that the writer knows, with its piece's prefix and no suffix
 pub record Pattern (n : Node) : Type 0 where
   pub is-action : n.kind ≡ action
-  pub affix : n.suffix ≡ prefix_of (pieceOf n.pattern)
+  pub affix : n.suffix ≡ prefix_of (piece_of n.pattern)
   pub size : n.len ≡ length (name_of n.pattern)
-  pub some : 1 ≤ pieceOf n.pattern
-  pub reads : Reads n.pattern (pieceOf n.pattern)
+  pub some : 1 ≤ piece_of n.pattern
+  pub reads : Reads n.pattern (piece_of n.pattern)
 
 -- a number has no prefix
-pub bare : {n : Node} (k : Pattern n) → pieceOf n.pattern ≤ 13 → n.suffix ≡ 0
-bare {n} k to = k.affix ∙ rw (ne_eqb (pieceOf n.pattern) 16 (omega arith))
+pub bare : {n : Node} (k : Pattern n) → piece_of n.pattern ≤ 13 → n.suffix ≡ 0
+bare {n} k to = k.affix ∙ rw (ne_eqb (piece_of n.pattern) 16 (omega arith))
 
 pub data Sound (t : List ℕ) (n : Node) : Type 0 where
   a-literal : Literal t n → Sound t n
@@ -50,8 +50,8 @@ module _ (t : List ℕ) where
   sound : (n : Node) → is_written n ≡ true → Good t n → Sound t n
   sound n e (is-literal l) = a-literal l
   sound n e (is-named g) =
-      let tests = both (not (eqb (pieceOf n.pattern) 0)) _ (rw (eq-eqb n.kind action g.is-action) at e) in
-      let has-piece : pieceOf n.pattern ≡ 0 → ⊥ = λ q. false≢true (rw (eq-eqb (pieceOf n.pattern) 0 q) at tests.0) in
+      let tests = both (not (eqb (piece_of n.pattern) 0)) _ (rw (eq-eqb n.kind action g.is-action) at e) in
+      let has-piece : piece_of n.pattern ≡ 0 → ⊥ = λ q. false≢true (rw (eq-eqb (piece_of n.pattern) 0 q) at tests.0) in
       a-pattern (record {
         is-action = g.is-action;
         affix = eqb-true _ _ tests.1;
@@ -61,33 +61,33 @@ module _ (t : List ℕ) where
       })
 
   -- with no unwritten node from this one on, this one is written, and none after it is unwritten
-  written : (n : Node) (rest : ℕ) → Good t n → (if is_written n then rest else named n.pattern) ≡ allWritten → (is_written n ≡ true) × (rest ≡ allWritten)
+  written : (n : Node) (rest : ℕ) → Good t n → (if is_written n then rest else named n.pattern) ≡ all_written → (is_written n ≡ true) × (rest ≡ all_written)
   written n rest g e = by (is_written n) refl g e
     where
-      by : (w : Bool) → is_written n ≡ w → Good t n → (if w then rest else named n.pattern) ≡ allWritten → (w ≡ true) × (rest ≡ allWritten)
+      by : (w : Bool) → is_written n ≡ w → Good t n → (if w then rest else named n.pattern) ≡ all_written → (w ≡ true) × (rest ≡ all_written)
       by true q g e = (refl, e)
       by false q (is-literal l) e = absurd (false≢true (sym q ∙ rw l.no-action))
       by false q (is-named k) e = absurd (omega (arith, rw (lt-ltb n.pattern 112 k.known) at e, k.known))
 
-  pub sound-nodes : (ns : List Node) → AllGood t ns → firstUnwritten ns ≡ allWritten → AllSound t ns
-  unfolding firstUnwritten
+  pub sound-nodes : (ns : List Node) → AllGood t ns → first_unwritten ns ≡ all_written → AllSound t ns
+  unfolding first_unwritten
   sound-nodes [] g e = tt
   sound-nodes (n ∷ ns) g e =
-      let is-written = written n (firstUnwritten ns) g.0 e in
+      let is-written = written n (first_unwritten ns) g.0 e in
       (sound n is-written.0 g.0, sound-nodes ns g.1 is-written.1)
 
   pub pieces-literal : (n : Node) (ns : List Node) → Literal t n → pieces (n ∷ ns) ≡ pieces ns
   unfolding pieces
   pieces-literal n ns l = rw l.no-action
 
-  pub pieces-pattern : (n : Node) (ns : List Node) → Pattern n → pieces (n ∷ ns) ≡ pieceOf n.pattern ∷ pieces ns
+  pub pieces-pattern : (n : Node) (ns : List Node) → Pattern n → pieces (n ∷ ns) ≡ piece_of n.pattern ∷ pieces ns
   unfolding pieces
   pieces-pattern n ns k = rw (eq-eqb n.kind action k.is-action)
 
   module _ (m : Moment) where
-    pub literal-text : (n : Node) → Literal t n → (nodeText t m n ≡ literalText t n)
-    unfolding nodeText
+    pub literal-text : (n : Node) → Literal t n → (node_text t m n ≡ literal_text t n)
+    unfolding node_text
     literal-text n l = rw l.no-action
 
-    pub pattern-text : (n : Node) → Pattern n → nodeText t m n ≡ pieceText (pieceOf n.pattern) (case_of n.pattern) m
+    pub pattern-text : (n : Node) → Pattern n → node_text t m n ≡ piece_text (piece_of n.pattern) (case_of n.pattern) m
     pattern-text n k = action-text t m n k.is-action

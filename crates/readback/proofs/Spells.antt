@@ -15,21 +15,21 @@ use borrow.Author.Tests.{eqb-true, ltb-false, not-true}
 use lib.Dec.{eqb, ltb}
 use lib.ListN.{length, length-append}
 use Rattle.base_notation.specs.Choice.{if◌then◌else◌}
-use Rattle.base_accents.specs.Accents.{markAt}
-use Rattle.base_chars.specs.Class.{class_of, digit, isDigit}
-use Rattle.base_chars.specs.Utf8.{wellFormed}
+use Rattle.base_accents.specs.Accents.{mark_at}
+use Rattle.base_chars.specs.Class.{class_of, digit, is_digit}
+use Rattle.base_chars.specs.Utf8.{well_formed}
 use Rattle.base_chars.proofs.Classes.{digit-bounds, the_class}
 use Rattle.base_chars.proofs.WellFormed.{empty-text, append-text}
 use Rattle.base_strtol.specs.Runs.{leading, digits}
 use Rattle.read_input.specs.Reader.{head_of}
-use Rattle.read_integers.specs.Suffix.{endsNumber, isFree}
+use Rattle.read_integers.specs.Suffix.{ends_number, is_free}
 use Rattle.template_nodes.specs.declared.Node.{Node}
-use Rattle.template_patterns.specs.Affixes.{affixLength}
+use Rattle.template_patterns.specs.Affixes.{affix_length}
 use Rattle.template_patterns.specs.Cases.{case_of}
 use Rattle.write_text.specs.Full.{pieces, times}
-use Rattle.write_text.specs.Text.{nodeText, nodesText}
+use Rattle.write_text.specs.Text.{node_text, nodes_text}
 use Rattle.write_pieces.specs.Moment.{moment}
-use Rattle.write_pieces.specs.Pieces.{micros, monthName, pieceOf}
+use Rattle.write_pieces.specs.Pieces.{micros, month_name, piece_of}
 use Rattle.write_pieces.specs.declared.Moment.{Moment}
 use Rattle.readback.proofs.Ahead.{Ahead, ink-ahead, ink-some, ahead-all}
 use Rattle.readback.proofs.Known.{excess}
@@ -41,7 +41,7 @@ use Rattle.readback.proofs.Texts.{SpellsPiece, piece-spelled, spelled-written, s
 -- x spells the node n at the moment m
 pub data Spells (t : List ℕ) (m : Moment) (n : Node) (x : List ℕ) : Type 0 where
   as-literal : Literal t n → Alike t n x → Spells t m n x
-  as-pattern : Pattern n → SpellsPiece (pieceOf n.pattern) m x → Spells t m n x
+  as-pattern : Pattern n → SpellsPiece (piece_of n.pattern) m x → Spells t m n x
 
 -- u is two parts, with P of the first and Q of the other
 pub record Parted (P Q : List ℕ → Type 0) (u : List ℕ) : Type 0 where
@@ -54,29 +54,29 @@ pub record Parted (P Q : List ℕ → Type 0) (u : List ℕ) : Type 0 where
 -- each node has its part; after a node of the accents mode no mark follows
 abbrev pub AllSpelled : List ℕ → Moment → List Node → List ℕ → Type 0
 AllSpelled t m [] u = u ≡ []
-AllSpelled t m (n ∷ ns) u = Parted (Spells t m n) (λ (rest : List ℕ). AllSpelled t m ns rest × (n.accents ≡ true → markAt rest 0 ≡ false)) u
+AllSpelled t m (n ∷ ns) u = Parted (Spells t m n) (λ (rest : List ℕ). AllSpelled t m ns rest × (n.accents ≡ true → mark_at rest 0 ≡ false)) u
 
 -- the bytes by which a text may be longer than its template
 abbrev pub extra : List ℕ → ℕ
-extra ps = 4 * times micros ps + 2 * times monthName ps
+extra ps = 4 * times micros ps + 2 * times month_name ps
 
 module _ (t : List ℕ) (m : Moment) where
-  node-spelled : (n : Node) → Sound t n → Spells t m n (nodeText t m n)
+  node-spelled : (n : Node) → Sound t n → Spells t m n (node_text t m n)
   node-spelled n (a-literal l) = rw (literal-text t m n l) (as-literal l l.own)
   node-spelled n (a-pattern k) =
-      rw (pattern-text t m n k) (as-pattern k (piece-spelled m (case_of n.pattern) (pieceOf n.pattern) (omega (arith, k.reads.piece))))
+      rw (pattern-text t m n k) (as-pattern k (piece-spelled m (case_of n.pattern) (piece_of n.pattern) (omega (arith, k.reads.piece))))
 
   -- the text after each node of the accents mode begins with no mark
   abbrev pub AllClear : List Node → Type 0
   AllClear [] = Unit {0}
-  AllClear (n ∷ ns) = (n.accents ≡ true → markAt (nodesText t m ns) 0 ≡ false) × AllClear ns
+  AllClear (n ∷ ns) = (n.accents ≡ true → mark_at (nodes_text t m ns) 0 ≡ false) × AllClear ns
 
-  pub text-spelled : (ns : List Node) → AllSound t ns → AllClear ns → AllSpelled t m ns (nodesText t m ns)
-  unfolding nodesText
+  pub text-spelled : (ns : List Node) → AllSound t ns → AllClear ns → AllSpelled t m ns (nodes_text t m ns)
+  unfolding nodes_text
   text-spelled [] a c = refl
   text-spelled (n ∷ ns) a c = record {
-    part = nodeText t m n;
-    rest = nodesText t m ns;
+    part = node_text t m n;
+    rest = nodes_text t m ns;
     is = refl;
     first = node-spelled n a.0;
     others = (text-spelled ns a.1 c.1, c.0);
@@ -86,11 +86,11 @@ module _ (t : List ℕ) {y mo d h mi sec us : ℕ} (is : IsMoment y mo d h mi se
   abbrev now : Moment
   now = moment y mo d h mi sec us
 
-  node-utf8 : (n : Node) (x : List ℕ) → Spells t now n x → wellFormed x ≡ true
+  node-utf8 : (n : Node) (x : List ℕ) → Spells t now n x → well_formed x ≡ true
   node-utf8 n x (as-literal l a) = a.whole
   node-utf8 n x (as-pattern k w) = (spelled-written is k.some w).text
 
-  pub spelled-utf8 : (ns : List Node) (u : List ℕ) → AllSpelled t now ns u → wellFormed u ≡ true
+  pub spelled-utf8 : (ns : List Node) (u : List ℕ) → AllSpelled t now ns u → well_formed u ≡ true
   spelled-utf8 [] u e = rw e empty-text
   spelled-utf8 (n ∷ ns) u a =
       rw a.is (append-text a.part a.rest (node-utf8 n a.part a.first) ∙ spelled-utf8 ns a.rest a.others.0)
@@ -98,12 +98,12 @@ module _ (t : List ℕ) {y mo d h mi sec us : ℕ} (is : IsMoment y mo d h mi se
   -- US and the full name of a month alone may be longer than in the template
   excesses : (p : ℕ) (ps : List ℕ) → excess p + extra ps ≡ extra (p ∷ ps)
   unfolding times
-  excesses p ps = by (eqb micros p) (eqb monthName p) refl refl
+  excesses p ps = by (eqb micros p) (eqb month_name p) refl refl
     where
-      by : (a b : Bool) → eqb micros p ≡ a → eqb monthName p ≡ b
+      by : (a b : Bool) → eqb micros p ≡ a → eqb month_name p ≡ b
           → (if a then 4 else if b then 2 else 0) + extra ps
-          ≡ 4 * (if a then suc (times micros ps) else times micros ps) + 2 * (if b then suc (times monthName ps) else times monthName ps)
-      by true true q r = absurd (omega (arith, eqb-true micros p q, eqb-true monthName p r))
+          ≡ 4 * (if a then suc (times micros ps) else times micros ps) + 2 * (if b then suc (times month_name ps) else times month_name ps)
+      by true true q r = absurd (omega (arith, eqb-true micros p q, eqb-true month_name p r))
       by true false q r = omega arith
       by false true q r = omega arith
       by false false q r = omega arith
@@ -113,21 +113,21 @@ module _ (t : List ℕ) {y mo d h mi sec us : ℕ} (is : IsMoment y mo d h mi se
   spelled-length (n ∷ ns) u a = rw (a.is, length-append a.part a.rest) (by a.first (spelled-length ns a.rest a.others.0))
     where
       by : Spells t now n a.part → length a.rest ≤ lengths ns + extra (pieces ns)
-          → length a.part + length a.rest ≤ n.len + affixLength n.suffix + lengths ns + extra (pieces (n ∷ ns))
+          → length a.part + length a.rest ≤ n.len + affix_length n.suffix + lengths ns + extra (pieces (n ∷ ns))
       by (as-literal l c) h = rw (pieces-literal t n ns l, c.is) (omega (arith, c.size))
       by (as-pattern k w) h =
-          let p = pieceOf n.pattern in
+          let p = piece_of n.pattern in
           rw (pieces-pattern t n ns k, k.affix) (omega (arith, spelled-size is w, k.reads.size, k.size, excesses p (pieces ns)))
 
-  pub stops : (n : Node) → n.suffix ≡ 0 → (ns : List Node) (u : List ℕ) → AllSpelled t now ns u → isFree t n (head_of ns) ≡ true → digits u ≡ 0
-  unfolding leading endsNumber
+  pub stops : (n : Node) → n.suffix ≡ 0 → (ns : List Node) (u : List ℕ) → AllSpelled t now ns u → is_free t n (head_of ns) ≡ true → digits u ≡ 0
+  unfolding leading ends_number
   stops n z [] u a e = rw a
   stops n z (x ∷ ns) u a e = rw a.is (by a.first)
     where
       -- the literal would be a digit, and a digit does not end a number
-      no_digit : (l : Literal t x) (c : Alike t x a.part) → isDigit c.b ≡ false
+      no_digit : (l : Literal t x) (c : Alike t x a.part) → is_digit c.b ≡ false
       no_digit l c =
-          (elim (isDigit c.b) as (λ d. isDigit c.b ≡ d → isDigit c.b ≡ false) [
+          (elim (is_digit c.b) as (λ d. is_digit c.b ≡ d → is_digit c.b ≡ false) [
             | true ↦ λ d.
                 let one : x.len ≡ 1 = one_byte c (omega (arith, digit-bounds c.b d)) (rw (the_class (class_of c.b) digit d)) in
                 absurd (false≢true (rw (z, l.no_end, l.no-action, one, ← c.class, d) at e))
@@ -137,7 +137,7 @@ module _ (t : List ℕ) {y mo d h mi sec us : ℕ} (is : IsMoment y mo d h mi se
       by : Spells t now x a.part → digits (a.part ++ a.rest) ≡ 0
       by (as-literal l c) = rw (c.is, no_digit l c)
       by (as-pattern k w) =
-          let word : not (ltb (pieceOf x.pattern) 14) ≡ true = rw (z, k.is-action, k.reads.digit) at e in
+          let word : not (ltb (piece_of x.pattern) 14) ≡ true = rw (z, k.is-action, k.reads.digit) at e in
           spelled-stops is (ltb-false _ _ (not-true _ word)) w a.rest
 
   pub blank-left : (ns : List Node) (u : List ℕ) → AllSpelled t now ns u → Ahead (length u) u → pieces ns ≡ []

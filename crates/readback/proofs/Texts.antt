@@ -16,11 +16,11 @@ use lib.Dec.{ltb}
 use lib.IntN.{nat_abs}
 use lib.ListN.{length, get_or, replicate, get_or-map}
 use Rattle.base_notation.specs.Choice.{if◌then◌else◌}
-use Rattle.base_notation.specs.Text.{byteAt, utf8}
+use Rattle.base_notation.specs.Text.{byte_at, utf8}
 use Rattle.base_notation.proofs.Table.{entry}
 use Rattle.base_chars.specs.Class.{digit, class_of}
 use Rattle.base_chars.specs.Fold.{folded}
-use Rattle.base_chars.specs.Utf8.{wellFormed}
+use Rattle.base_chars.specs.Utf8.{well_formed}
 use Rattle.base_chars.proofs.Classes.{the_class, digit-bounds}
 use Rattle.base_chars.proofs.WellFormed.{empty-text}
 use Rattle.calendar_gregorian.proofs.Dates.{each}
@@ -32,26 +32,26 @@ use Rattle.template_patterns.specs.Words.{words_of}
 use Rattle.template_patterns.specs.declared.tables.WordList.{WordList}
 use Rattle.template_patterns.specs.declared.tables.WordList.TheVariants.{AmPm, AmPmLong, MonthsFull, MonthsAbbrev}
 use Rattle.write_pieces.specs.Moment.{moment}
-use Rattle.write_pieces.specs.Pieces.{width_of, number_of, isMorning, pieceText}
-use Rattle.write_pieces.specs.Words.{inCase, markerText}
+use Rattle.write_pieces.specs.Pieces.{width_of, number_of, is_morning, piece_text}
+use Rattle.write_pieces.specs.Words.{in_case, marker_text}
 use Rattle.write_pieces.specs.declared.Moment.{Moment}
 use Rattle.write_pieces.proofs.Cased.{folded-cased}
 use Rattle.write_pieces.proofs.Lengths.{number-text}
 use Rattle.readback.proofs.Ahead.{inked}
-use Rattle.readback.proofs.Known.{listFor, indexFor, mostFor}
+use Rattle.readback.proofs.Known.{list_for, index_for, most_for}
 use Rattle.readback.proofs.MomentFacts.{IsMoment}
 use Rattle.readback.proofs.Words.{Written, ascii-first, Fit, fit, is-fit, word_of, word-written, word-stops, word_size}
 
 -- the word of a piece at a moment, in small letters
 abbrev pub word_for : ℕ → Moment → List ℕ
-word_for p m = word_of (listFor p) (indexFor p m)
+word_for p m = word_of (list_for p) (index_for p m)
 
 pub data SpellsPiece (p : ℕ) (m : Moment) (x : List ℕ) : Type 0 where
   a-number : p ≤ 13 → x ≡ decimal (width_of p) (number_of p m) → SpellsPiece p m x
   a_word : 14 ≤ p → p ≤ 17 → map folded x ≡ word_for p m → SpellsPiece p m x
 
 -- digits are ASCII
-digits-text : (u : List ℕ) → AllDigits u → wellFormed u ≡ true
+digits-text : (u : List ℕ) → AllDigits u → well_formed u ≡ true
 digits-text [] h = empty-text
 digits-text (b ∷ u) h = ascii-first b u (omega (arith, digit-bounds b h.0)) (digits-text u h.1)
 
@@ -60,7 +60,7 @@ digits-inked : (u : List ℕ) → 0 < length u → AllDigits u → inked u ≡ t
 digits-inked [] z h = absurd (omega arith)
 digits-inked (b ∷ u) z h = rw (the_class (class_of b) digit h.0)
 
-digits-ascii : (u v : List ℕ) → 0 < length u → AllDigits u → byteAt (u ++ v) 0 ≤ 127
+digits-ascii : (u v : List ℕ) → 0 < length u → AllDigits u → byte_at (u ++ v) 0 ≤ 127
 digits-ascii [] v z h = absurd (omega arith)
 digits-ascii (b ∷ u) v z h = omega (arith, digit-bounds b h.0)
 
@@ -77,28 +77,28 @@ number-written w n some =
 
 -- a marker and a name of a month, once they are folded
 marker-folds : (case : Case) (dotted morning : Bool)
-    → map folded (markerText case dotted morning) ≡ word_of (if dotted then AmPmLong else AmPm) (if morning then 0 else 1)
+    → map folded (marker_text case dotted morning) ≡ word_of (if dotted then AmPmLong else AmPm) (if morning then 0 else 1)
 marker-folds case true true = folded-cased case (utf8 "A.M.")
 marker-folds case true false = folded-cased case (utf8 "P.M.")
 marker-folds case false true = folded-cased case (utf8 "AM")
 marker-folds case false false = folded-cased case (utf8 "PM")
 
-month-folds : (case : Case) (list : WordList) (k : ℕ) → map folded (inCase case (get_or (words_of list) k [])) ≡ word_of list k
+month-folds : (case : Case) (list : WordList) (k : ℕ) → map folded (in_case case (get_or (words_of list) k [])) ≡ word_of list k
 month-folds case list k = folded-cased case (get_or (words_of list) k []) ∙ sym (get_or-map (map folded) (words_of list) k [])
 
 module _ (m : Moment) where
-  word-folds : (case : Case) (p : ℕ) → 14 ≤ p → p ≤ 17 → map folded (pieceText p case m) ≡ word_for p m
-  unfolding pieceText
+  word-folds : (case : Case) (p : ℕ) → 14 ≤ p → p ≤ 17 → map folded (piece_text p case m) ≡ word_for p m
+  unfolding piece_text
   word-folds case =
       let k = nat_abs m.month - 1 in
-      each (λ p. map folded (pieceText p case m) ≡ word_for p m) 14 3 (
-        marker-folds case false (isMorning m),
-        (marker-folds case true (isMorning m), (month-folds case MonthsFull k, month-folds case MonthsAbbrev k)),
+      each (λ p. map folded (piece_text p case m) ≡ word_for p m) 14 3 (
+        marker-folds case false (is_morning m),
+        (marker-folds case true (is_morning m), (month-folds case MonthsFull k, month-folds case MonthsAbbrev k)),
       )
 
-  pub piece-spelled : (case : Case) (p : ℕ) → p ≤ 17 → SpellsPiece p m (pieceText p case m)
+  pub piece-spelled : (case : Case) (p : ℕ) → p ≤ 17 → SpellsPiece p m (piece_text p case m)
   piece-spelled case p to =
-      (elim (ltb p 14) as (λ b. ltb p 14 ≡ b → SpellsPiece p m (pieceText p case m)) [
+      (elim (ltb p 14) as (λ b. ltb p 14 ≡ b → SpellsPiece p m (piece_text p case m)) [
         | true ↦ λ b. a-number (omega (arith, ltb-true p 14 b)) (number-text case m p (ltb-true p 14 b))
         | false ↦ λ b. a_word (ltb-false p 14 b) to (word-folds case p (ltb-false p 14 b) to)
       ]) refl
@@ -123,11 +123,11 @@ module _ {y mo d h mi s us : ℕ} (is : IsMoment y mo d h mi s us) where
   abbrev now : Moment
   now = moment y mo d h mi s us
 
-  pub all_fit : (p : ℕ) → 14 ≤ p → p ≤ 17 → Fit (listFor p) (indexFor p now)
+  pub all_fit : (p : ℕ) → 14 ≤ p → p ≤ 17 → Fit (list_for p) (index_for p now)
   all_fit =
       let months = month-fit (mo - 1) (omega (arith, is.date.month-from, is.date.month-to)) in
-      each (λ p. Fit (listFor p) (indexFor p now)) 14 3
-      (marker-fit false (isMorning now), (marker-fit true (isMorning now), (months.0, months.1)))
+      each (λ p. Fit (list_for p) (index_for p now)) 14 3
+      (marker-fit false (is_morning now), (marker-fit true (is_morning now), (months.0, months.1)))
 
   module _ {p : ℕ} {x : List ℕ} where
     pub spelled-written : 1 ≤ p → SpellsPiece p now x → Written x
@@ -138,6 +138,6 @@ module _ {y mo d h mi s us : ℕ} (is : IsMoment y mo d h mi s us) where
     spelled-stops low (a-number to e) v = absurd (omega arith)
     spelled-stops low (a_word from to e) v = word-stops (all_fit p low to) x e v
 
-    pub spelled-size : SpellsPiece p now x → length x ≤ mostFor p
+    pub spelled-size : SpellsPiece p now x → length x ≤ most_for p
     spelled-size (a-number to e) = rw (lt-ltb p 14 (omega arith), e) (omega (arith, decimal-length (width_of p) (number_of p now)))
     spelled-size (a_word low to e) = rw (le-ltb p 14 low) (word_size (all_fit p low to) x e)

@@ -8,17 +8,17 @@ use borrow.Author.Tests.{lt-ltb, le-ltb, ltb-true, ltb-false, ne_eqb, eqb-true, 
 use lib.Dec.{ltb, eqb, lit<}
 use lib.IntN.{pos}
 use Rattle.base_notation.specs.Choice.{if◌then◌else◌}
-use Rattle.moment_time.specs.Time.{◌or◌, hourOf, minuteOf, second_of, hourOfTwelve, clockHour}
+use Rattle.moment_time.specs.Time.{◌or◌, hour_of, minute_of, second_of, hour_of_twelve, clock_hour}
 use Rattle.moment_sums.specs.declared.Value.TheVariants.{Is}
 use Rattle.read_fields.specs.Fields as F
 use Rattle.read_fields.specs.declared.Fields.{Fields}
 use Rattle.write_pieces.specs.Pieces.{of12}
-use Rattle.readback.proofs.GroupFields.{TimeGroup, of-24, of-12, by-second, timeValues, DateValues, fields_of, Same}
+use Rattle.readback.proofs.GroupFields.{TimeGroup, of-24, of-12, by-second, time_values, DateValues, fields_of, Same}
 
 -- the fields make the time
 pub record TimeRead (f : Fields) (h m s : ℕ) : Type 0 where
-  pub hour-is : clockHour f ≡ Is (pos h)
-  pub minute-is : minuteOf f ≡ pos m
+  pub hour-is : clock_hour f ≡ Is (pos h)
+  pub minute-is : minute_of f ≡ pos m
   pub second_is : second_of f ≡ pos s
 
 -- 0 counts as absent, and is then taken from the second of the day, which is absent too
@@ -27,11 +27,11 @@ or-zero zero = refl
 or-zero (suc n) = rw (ne_eqb (suc n) 0 (λ z. omega arith))
 
 -- the hour back from the 12-hour clock
-twelve : (h : ℕ) → h < 24 → hourOfTwelve (pos (if ltb h 12 then 0 else 1)) (pos (of12 h)) ≡ Is (pos h)
-unfolding hourOfTwelve
+twelve : (h : ℕ) → h < 24 → hour_of_twelve (pos (if ltb h 12 then 0 else 1)) (pos (of12 h)) ≡ Is (pos h)
+unfolding hour_of_twelve
 twelve h l = by (ltb h 12) (eqb h 0) (eqb h 12) refl refl refl
   where
-    by : (a b c : Bool) → ltb h 12 ≡ a → eqb h 0 ≡ b → eqb h 12 ≡ c → hourOfTwelve (pos (if a then 0 else 1)) (pos (of12 h)) ≡ Is (pos h)
+    by : (a b c : Bool) → ltb h 12 ≡ a → eqb h 0 ≡ b → eqb h 12 ≡ c → hour_of_twelve (pos (if a then 0 else 1)) (pos (of12 h)) ≡ Is (pos h)
     by true true c p q r = let e : h ≡ 0 = eqb-true h 0 q in rw e
     by true false c p q r =
         let morning = ltb-true h 12 p in
@@ -47,8 +47,8 @@ twelve h l = by (ltb h 12) (eqb h 0) (eqb h 12) refl refl refl
 
 module _ {h m s : ℕ} (hour : h < 24) (minute : m < 60) (second : s < 60) (f : Fields) (a : DateValues) (us : ℕ) where
   -- minute and second by their own fields
-  own-minute : F.get f F.mi ≡ pos m → F.get f F.ssss ≡ pos 0 → minuteOf f ≡ pos m
-  unfolding minuteOf
+  own-minute : F.get f F.mi ≡ pos m → F.get f F.ssss ≡ pos 0 → minute_of f ≡ pos m
+  unfolding minute_of
   own-minute e z = rw (e, z) (or-zero m)
 
   own-second : F.get f F.ss ≡ pos s → F.get f F.ssss ≡ pos 0 → second_of f ≡ pos s
@@ -56,8 +56,8 @@ module _ {h m s : ℕ} (hour : h < 24) (minute : m < 60) (second : s < 60) (f : 
   own-second e z = rw (e, z) (or-zero s)
 
   -- HH24 MI SS
-  of24 : Same f (fields_of a (timeValues of-24 h m s) us) → TimeRead f h m s
-  unfolding clockHour hourOf
+  of24 : Same f (fields_of a (time_values of-24 h m s) us) → TimeRead f h m s
+  unfolding clock_hour hour_of
   of24 e = record {
     hour-is = rw (e F.clock (lit< tt), e F.hh (lit< tt), e F.ssss (lit< tt)) (ap Is (or-zero h));
     minute-is = own-minute (e F.mi (lit< tt)) (e F.ssss (lit< tt));
@@ -65,8 +65,8 @@ module _ {h m s : ℕ} (hour : h < 24) (minute : m < 60) (second : s < 60) (f : 
   }
 
   -- HH12 MI SS and a marker
-  of12th : Same f (fields_of a (timeValues of-12 h m s) us) → TimeRead f h m s
-  unfolding clockHour hourOf
+  of12th : Same f (fields_of a (time_values of-12 h m s) us) → TimeRead f h m s
+  unfolding clock_hour hour_of
   of12th e = record {
     hour-is = rw (e F.clock (lit< tt), e F.hh (lit< tt), e F.ssss (lit< tt), or-zero (of12 h), e F.pm (lit< tt)) (twelve h hour);
     minute-is = own-minute (e F.mi (lit< tt)) (e F.ssss (lit< tt));
@@ -74,15 +74,15 @@ module _ {h m s : ℕ} (hour : h < 24) (minute : m < 60) (second : s < 60) (f : 
   }
 
   -- SSSSS
-  second-of-day : Same f (fields_of a (timeValues by-second h m s) us) → TimeRead f h m s
-  unfolding clockHour hourOf minuteOf second_of
+  second-of-day : Same f (fields_of a (time_values by-second h m s) us) → TimeRead f h m s
+  unfolding clock_hour hour_of minute_of second_of
   second-of-day e = record {
     hour-is = rw (e F.clock (lit< tt), e F.hh (lit< tt), e F.ssss (lit< tt)) (ap Is (ap pos (omega arith)));
     minute-is = rw (e F.mi (lit< tt), e F.ssss (lit< tt)) (ap pos (omega arith));
     second_is = rw (e F.ss (lit< tt), e F.ssss (lit< tt)) (ap pos (omega arith));
   }
 
-  pub time-read : (g : TimeGroup) → Same f (fields_of a (timeValues g h m s) us) → TimeRead f h m s
+  pub time-read : (g : TimeGroup) → Same f (fields_of a (time_values g h m s) us) → TimeRead f h m s
   time-read of-24 e = of24 e
   time-read of-12 e = of12th e
   time-read by-second e = second-of-day e

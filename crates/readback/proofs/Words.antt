@@ -17,43 +17,43 @@ use borrow.Author.Tests.{eq-eqb, leb-true}
 use lib.Dec.{eqb, leb}
 use lib.ListN.{length, take, drop, get_or, length-map}
 use lib.Seq.{drop-drop, get_or-drop, take-append-add}
-use Rattle.base_notation.specs.Text.{byteAt}
+use Rattle.base_notation.specs.Text.{byte_at}
 use Rattle.base_notation.proofs.Cases.{both}
-use Rattle.base_chars.specs.Class.{letter, isLetter, class_of}
+use Rattle.base_chars.specs.Class.{letter, is_letter, class_of}
 use Rattle.base_chars.specs.Fold.{folded}
 use Rattle.base_chars.specs.Range.{◌‥◌}
-use Rattle.base_chars.specs.Utf8.{wellFormed}
+use Rattle.base_chars.specs.Utf8.{well_formed}
 use Rattle.base_chars.proofs.Classes.{the_class}
 use Rattle.base_chars.proofs.Folds.{fold_up, fold-class}
 use Rattle.base_chars.proofs.Ranges.{inside}
 use Rattle.base_chars.proofs.WellFormed.{ascii_run, empty-text}
 use Rattle.base_strtol.specs.Runs.{leading, digits}
-use Rattle.template_patterns.specs.Search.{matchesAt}
-use Rattle.template_patterns.specs.Words.{words_of, smallWords, longest}
+use Rattle.template_patterns.specs.Search.{matches_at}
+use Rattle.template_patterns.specs.Words.{words_of, small_words, longest}
 use Rattle.template_patterns.specs.declared.tables.WordList.{WordList}
-use Rattle.read_words.specs.FoldOnce.{beginning, firstIn, word_in}
+use Rattle.read_words.specs.FoldOnce.{beginning, first_in, word_in}
 use Rattle.read_words.specs.Spelling.{word_at}
 use Rattle.read_words.specs.declared.spelling.Word.TheVariants.{At}
 use Rattle.read_words.proofs.FoldOnce.{fold-once}
 use Rattle.readback.proofs.Ahead.{inked}
 
 pub record Written (u : List ℕ) : Type 0 where
-  pub text : wellFormed u ≡ true
+  pub text : well_formed u ≡ true
   pub ink : inked u ≡ true
-  pub ascii : (v : List ℕ) → byteAt (u ++ v) 0 ≤ 127
+  pub ascii : (v : List ℕ) → byte_at (u ++ v) 0 ≤ 127
 
-pub ascii-first : (b : ℕ) (u : List ℕ) → b ≤ 127 → wellFormed u ≡ true → wellFormed (b ∷ u) ≡ true
+pub ascii-first : (b : ℕ) (u : List ℕ) → b ≤ 127 → well_formed u ≡ true → well_formed (b ∷ u) ≡ true
 ascii-first b u h e = sym (ascii_run 1 (b ∷ u) (rw (inside (0 ‥ 127) b (omega arith) h))) ∙ e
 
 -- all bytes are ASCII
-abbrev allAscii : List ℕ → Bool
-allAscii [] = true
-allAscii (b ∷ u) = leb b 127 && allAscii u
+abbrev all_ascii : List ℕ → Bool
+all_ascii [] = true
+all_ascii (b ∷ u) = leb b 127 && all_ascii u
 
 -- the first byte is a letter
 abbrev lettered : List ℕ → Bool
 lettered [] = false
-lettered (b ∷ u) = isLetter b
+lettered (b ∷ u) = is_letter b
 
 abbrev differs : List ℕ → List ℕ → Bool
 differs [] w = false
@@ -61,58 +61,58 @@ differs (a ∷ v) [] = false
 differs (a ∷ v) (b ∷ w) = not (eqb b a) || differs v w
 
 -- each of the first k words differs from w
-abbrev apartBefore : List (List ℕ) → ℕ → List ℕ → Bool
-apartBefore [] k w = false
-apartBefore (v ∷ ws) zero w = true
-apartBefore (v ∷ ws) (suc k) w = differs v w && apartBefore ws k w
+abbrev apart_before : List (List ℕ) → ℕ → List ℕ → Bool
+apart_before [] k w = false
+apart_before (v ∷ ws) zero w = true
+apart_before (v ∷ ws) (suc k) w = differs v w && apart_before ws k w
 
 abbrev pub word_of : WordList → ℕ → List ℕ
-word_of list k = get_or (smallWords list) k []
+word_of list k = get_or (small_words list) k []
 
 pub record Fit (list : WordList) (k : ℕ) : Type 0 where
   pub begins : lettered (word_of list k) ≡ true
-  pub ascii : allAscii (word_of list k) ≡ true
+  pub ascii : all_ascii (word_of list k) ≡ true
   pub short : length (word_of list k) ≤ longest (words_of list)
-  pub apart : apartBefore (smallWords list) k (word_of list k) ≡ true
+  pub apart : apart_before (small_words list) k (word_of list k) ≡ true
 
 -- the same as a test
 abbrev pub fit : WordList → ℕ → Bool
 fit list k =
     let w = word_of list k in
-    lettered w && (allAscii w && (leb (length w) (longest (words_of list)) && apartBefore (smallWords list) k w))
+    lettered w && (all_ascii w && (leb (length w) (longest (words_of list)) && apart_before (small_words list) k w))
 
 pub is-fit : (list : WordList) (k : ℕ) → fit list k ≡ true → Fit list k
 is-fit list k e =
     let w = word_of list k in
     let first = both (lettered w) _ e in
-    let second = both (allAscii w) _ first.1 in
+    let second = both (all_ascii w) _ first.1 in
     let third = both (leb (length w) (longest (words_of list))) _ second.1 in
     record { begins = first.0; ascii = second.0; short = leb-true _ _ third.0; apart = third.1 }
 
 -- the search in a text t
 module _ (t : List ℕ) where
-  byte-here : (at : ℕ) {b : ℕ} {u : List ℕ} → drop at t ≡ b ∷ u → byteAt t at ≡ b
-  byte-here at {b} e = let first : byteAt t (at + 0) ≡ b = rw (← get_or-drop at t 0 0, e) in rw (add-zero at) at first
+  byte-here : (at : ℕ) {b : ℕ} {u : List ℕ} → drop at t ≡ b ∷ u → byte_at t at ≡ b
+  byte-here at {b} e = let first : byte_at t (at + 0) ≡ b = rw (← get_or-drop at t 0 0, e) in rw (add-zero at) at first
 
   rest-here : (at : ℕ) {b : ℕ} {u : List ℕ} → drop at t ≡ b ∷ u → drop (at + 1) t ≡ u
   rest-here at e = rw (← drop-drop 1 at t, e)
 
-  matched : (w rest : List ℕ) (at : ℕ) → drop at t ≡ w ++ rest → matchesAt w t at ≡ true
+  matched : (w rest : List ℕ) (at : ℕ) → drop at t ≡ w ++ rest → matches_at w t at ≡ true
   matched [] rest at e = refl
   matched (b ∷ w) rest at e = rw (byte-here at e, eq-eqb b b refl) (matched w rest (at + 1) (rest-here at e))
 
-  unmatched : (v w rest : List ℕ) (at : ℕ) → differs v w ≡ true → drop at t ≡ w ++ rest → matchesAt v t at ≡ false
+  unmatched : (v w rest : List ℕ) (at : ℕ) → differs v w ≡ true → drop at t ≡ w ++ rest → matches_at v t at ≡ false
   unmatched [] w rest at d e = absurd (false≢true d)
   unmatched (a ∷ v) [] rest at d e = absurd (false≢true d)
   unmatched (a ∷ v) (b ∷ w) rest at d e = rw (byte-here at e) (by (eqb b a) d (λ later. unmatched v w rest (at + 1) later (rest-here at e)))
     where
-      by : (same : Bool) → (not same || differs v w) ≡ true → (differs v w ≡ true → matchesAt v t (at + 1) ≡ false)
-          → (same && matchesAt v t (at + 1)) ≡ false
+      by : (same : Bool) → (not same || differs v w) ≡ true → (differs v w ≡ true → matches_at v t (at + 1) ≡ false)
+          → (same && matches_at v t (at + 1)) ≡ false
       by true d further = further d
       by false d further = refl
 
-  first_found : (ws : List (List ℕ)) (i k : ℕ) (rest : List ℕ) → apartBefore ws k (get_or ws k []) ≡ true → t ≡ get_or ws k [] ++ rest
-      → firstIn i ws t ≡ At (i + k) (length (get_or ws k []))
+  first_found : (ws : List (List ℕ)) (i k : ℕ) (rest : List ℕ) → apart_before ws k (get_or ws k []) ≡ true → t ≡ get_or ws k [] ++ rest
+      → first_in i ws t ≡ At (i + k) (length (get_or ws k []))
   first_found [] i k rest a e = absurd (false≢true a)
   first_found (v ∷ ws) i zero rest a e = rw (matched v rest 0 e, add-zero i)
   first_found (v ∷ ws) i (suc k) rest a e =
@@ -120,21 +120,21 @@ module _ (t : List ℕ) where
       rw (unmatched v (get_or ws k []) rest 0 tests.0 e, add-suc i k, ← suc-add i k) (first_found ws (suc i) k rest tests.1 e)
 
 -- bytes that are ASCII once they are folded were ASCII before
-ascii-text : (u : List ℕ) → allAscii (map folded u) ≡ true → wellFormed u ≡ true
+ascii-text : (u : List ℕ) → all_ascii (map folded u) ≡ true → well_formed u ≡ true
 ascii-text [] e = empty-text
 ascii-text (b ∷ u) e =
     let tests = both (leb (folded b) 127) _ e in
     ascii-first b u (omega (arith, fold_up b, leb-true (folded b) 127 tests.0)) (ascii-text u tests.1)
 
 -- what begins with a letter once it is folded did so before
-first-letter : (b : ℕ) → isLetter (folded b) ≡ true → class_of b ≡ letter
+first-letter : (b : ℕ) → is_letter (folded b) ≡ true → class_of b ≡ letter
 first-letter b e = sym (fold-class b) ∙ the_class _ letter e
 
 letter-inked : (u : List ℕ) → lettered (map folded u) ≡ true → inked u ≡ true
 letter-inked [] e = absurd (false≢true e)
 letter-inked (b ∷ u) e = rw (first-letter b e)
 
-letter-ascii : (u v : List ℕ) → lettered (map folded u) ≡ true → allAscii (map folded u) ≡ true → byteAt (u ++ v) 0 ≤ 127
+letter-ascii : (u v : List ℕ) → lettered (map folded u) ≡ true → all_ascii (map folded u) ≡ true → byte_at (u ++ v) 0 ≤ 127
 letter-ascii [] v e a = absurd (false≢true e)
 letter-ascii (b ∷ u) v e a = omega (arith, fold_up b, leb-true (folded b) 127 (both (leb (folded b) 127) _ a).0)
 
@@ -178,5 +178,5 @@ module _ {list : WordList} {k : ℕ} (ok : Fit list k) (u : List ℕ) (same : ma
     unfolding word_in
     word_read =
         sym (fold-once.same list s at)
-        ∙ first_found _ (smallWords list) 0 k (map folded (take more v)) ok.apart begun
+        ∙ first_found _ (small_words list) 0 k (map folded (take more v)) ok.apart begun
         ∙ rw (zero-add k, size)

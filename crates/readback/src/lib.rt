@@ -1,7 +1,7 @@
 // Writing a moment and reading it back: the promise that both keep, as the contract of one function.
 ghost use Rattle.std.specs.Prelude.{◌≡◌, length};
 ghost use Rattle.write_text.specs.declared.Written.TheVariants.{Length};
-ghost use Rattle.readback.specs.ReadBack.{WroteAndRead, readAgain};
+ghost use Rattle.readback.specs.ReadBack.{WroteAndRead, read_again};
 
 use base_settings::Settings;
 use moment_instants::{Day, Instant};
@@ -24,7 +24,7 @@ pub enum Again {
 
 // A text's length, and the three answers to it.
 fn read_by_all(set: Settings, t: &[u8], text: &[u8]) -> Again
-    ensures { result ≡ readAgain set t.now text.now (Length (length text.now)) }
+    ensures { result ≡ read_again set t.now text.now (Length (length text.now)) }
 {
     Again::Read {
         length: text.len(),

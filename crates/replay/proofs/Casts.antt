@@ -15,14 +15,14 @@ use mir.Val.{hbits, of_z, to_z}
 use Rattle.base_strtol.specs.Strtol.{strtol}
 use Rattle.base_strtol.specs.declared.Strtol.{Strtol}
 use Rattle.base_strtol.proofs.Places.{end-within}
-use Rattle.line_questions.specs.Items.{placeAt}
+use Rattle.line_questions.specs.Items.{place_at}
 use Rattle.line_questions.specs.declared.Place.{Place}
 use Rattle.line_questions.proofs.Places.{place-small}
 
 pub back : (w : Width) {z x : ℤ} → z ≡ x → mag z < 2 ^ hbits w → to_z w (of_z w z) ≡ x
 back w e h = to_z-of_z (record { sfits = h }) ∙ e
 
-pub at_small : (line : List ℕ) (from : ℕ) (p : Place) → p ≡ placeAt line from → p.at < 2 ^ 63
+pub at_small : (line : List ℕ) (from : ℕ) (p : Place) → p ≡ place_at line from → p.at < 2 ^ 63
 at_small line from p e = rw e (place-small line from)
 
 pub end-small : (s : List ℕ) (count start : ℕ) (n : Strtol) → n ≡ strtol (take count s) start → start < 2 ^ 63 → length s ≡ 512

@@ -11,7 +11,7 @@ use native.Mathlib.Omega.{arith}
 use lib.ListN.{length, take}
 use lib.Seq.{length-sets}
 use Rattle.line_buffers.specs.Input.{before, Found}
-use Rattle.line_questions.specs.Items.{bytes_at, textAt, ReadBytes}
+use Rattle.line_questions.specs.Items.{bytes_at, text_at, ReadBytes}
 use Rattle.line_questions.specs.declared.Bytes.{Bytes}
 use Rattle.line_questions.proofs.Texts.{text-front}
 
@@ -25,7 +25,7 @@ module _ {line before after : List ℕ} {from : ℕ} {r : Bytes} (p : ReadBytes 
   pub read_as : {t : Bool} → r.malformed ≡ t → (bytes_at line from (length before)).malformed ≡ t
   read_as e = sym (ap (λ (b : Bytes). b.malformed) p.is) ∙ e
 
-  pub part-is : r.malformed ≡ false → take (r.count - 0) after ≡ textAt line from
+  pub part-is : r.malformed ≡ false → take (r.count - 0) after ≡ text_at line from
   part-is e =
       rw (whole r.count) (text-front p e).1
 

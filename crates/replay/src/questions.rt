@@ -2,9 +2,9 @@
 ghost use Rattle.std.specs.Prelude.{◌≡◌, true, ◌∷◌, ◌≤◌, length};
 ghost use Rattle.line_buffers.specs.Decimal.{decimal};
 ghost use Rattle.line_buffers.specs.Output.{Put};
-ghost use Rattle.template_nodes.specs.Template.{nodesOf};
+ghost use Rattle.template_nodes.specs.Template.{nodes_of};
 ghost use Rattle.replay.specs.declared.questions.Values.TheVariants.{One};
-ghost use Rattle.replay.specs.Answers.{answerTo, dateValues, fieldText, fieldsText, flag, lineText, namedText, nodeText, nodesText, ofMblen, ofNumbers, ofOne, ofStrtol, ofThree, ofTwo, ofUtf8, templateText, unknown, values_of, valuesText};
+ghost use Rattle.replay.specs.Answers.{answer_to, date_values, field_text, fields_text, flag, line_text, named_text, node_text, nodes_text, of_mblen, of_numbers, of_one, of_strtol, of_three, of_two, of_utf8, template_text, unknown, values_of, values_text};
 
 use calendar_julian::Date;
 use line_answers::Mode;
@@ -46,14 +46,14 @@ fn flag_of(b: bool) -> i64
 }
 
 fn of_date(d: Date) -> Values
-    ensures { result ≡ dateValues d }
+    ensures { result ≡ date_values d }
 {
     Values::Three(wide(d.year), wide(d.month), wide(d.day))
 }
 
 // Questions about a day, by its Julian number, or about a year.
 fn of_one(name: &[u8], n: i32) -> Values
-    ensures { result ≡ ofOne name.now n }
+    ensures { result ≡ of_one name.now n }
 {
     if check::same(name, b"j2date") {
         return of_date(calendar_julian::pg_j2date(n));
@@ -69,7 +69,7 @@ fn of_one(name: &[u8], n: i32) -> Values
 
 // The question about a week of a year.
 fn of_two(name: &[u8], year: i32, week: i32) -> Values
-    ensures { result ≡ ofTwo name.now year week }
+    ensures { result ≡ of_two name.now year week }
 {
     if check::same(name, b"isoweek2j") {
         return one(calendar_julian::pg_isoweek2j(year, week));
@@ -79,7 +79,7 @@ fn of_two(name: &[u8], year: i32, week: i32) -> Values
 
 // Questions about a date.
 fn of_three(name: &[u8], y: i32, m: i32, d: i32) -> Values
-    ensures { result ≡ ofThree name.now y m d }
+    ensures { result ≡ of_three name.now y m d }
 {
     if check::same(name, b"date2j") {
         return one(calendar_julian::pg_date2j(y, m, d));
@@ -97,7 +97,7 @@ fn of_three(name: &[u8], y: i32, m: i32, d: i32) -> Values
 }
 
 fn of_numbers(name: &[u8], n: Numbers) -> Values
-    ensures { result ≡ ofNumbers name.now n }
+    ensures { result ≡ of_numbers name.now n }
 {
     let v = n.values;
     let count = n.count;
@@ -111,7 +111,7 @@ fn of_numbers(name: &[u8], n: Numbers) -> Values
 
 // The number at a place of a text, the place after it, and whether it is past 64 bits.
 fn of_strtol(line: &[u8], from: usize) -> Values
-    ensures { result ≡ ofStrtol line.now from }
+    ensures { result ≡ of_strtol line.now from }
 {
     let start = read_place(line, from);
     if start.malformed {
@@ -129,7 +129,7 @@ fn of_strtol(line: &[u8], from: usize) -> Values
 
 // The length of the character at a place of a text.
 fn of_mblen(line: &[u8], from: usize) -> Values
-    ensures { result ≡ ofMblen line.now from }
+    ensures { result ≡ of_mblen line.now from }
 {
     let place = read_place(line, from);
     if place.malformed {
@@ -146,7 +146,7 @@ fn of_mblen(line: &[u8], from: usize) -> Values
 
 // Whether a text is well-formed.
 fn of_utf8(line: &[u8], from: usize) -> Values
-    ensures { result ≡ ofUtf8 line.now from }
+    ensures { result ≡ of_utf8 line.now from }
 {
     let mut text = [0u8; TEXT];
     let bytes = read_bytes(line, from, &mut text);
@@ -189,7 +189,7 @@ fn put_after(separator: u8, value: i64, out: &mut [u8], at: usize) -> usize
 }
 
 fn put_values(values: Values, out: &mut [u8], at: usize) -> usize
-    ensures { Put out.old at (valuesText values) out.new result }
+    ensures { Put out.old at (values_text values) out.new result }
 {
     match values {
         Values::One(a) => put_decimal(a, out, at),
@@ -203,13 +203,13 @@ fn put_values(values: Values, out: &mut [u8], at: usize) -> usize
 }
 
 fn put_field(n: u16, out: &mut [u8], at: usize) -> usize
-    ensures { Put out.old at (fieldText n) out.new result }
+    ensures { Put out.old at (field_text n) out.new result }
 {
     put_after(b':', n as i64, out, at)
 }
 
 fn put_fields(node: Node, out: &mut [u8], at: usize) -> usize
-    ensures { Put out.old at (fieldsText node) out.new result }
+    ensures { Put out.old at (fields_text node) out.new result }
 {
     let start = put_field(node.start as u16, out, at);
     let len = put_field(node.len, out, start);
@@ -219,7 +219,7 @@ fn put_fields(node: Node, out: &mut [u8], at: usize) -> usize
 
 // A node, and a space before it unless it is the first.
 fn put_node(first: bool, node: Node, out: &mut [u8], at: usize) -> usize
-    ensures { Put out.old at (nodeText first node) out.new result }
+    ensures { Put out.old at (node_text first node) out.new result }
 {
     let kind = node.kind as i64;
     if first {
@@ -232,7 +232,7 @@ fn put_node(first: bool, node: Node, out: &mut [u8], at: usize) -> usize
 
 fn put_nodes(t: &[u8], out: &mut [u8], at: usize) -> usize
     requires { length t.now ≤ 256 }
-    ensures { Put out.old at (nodesText true (nodesOf t.now)) out.new result }
+    ensures { Put out.old at (nodes_text true (nodes_of t.now)) out.new result }
 {
     let mut nodes = [0u8; NODES];
     let count = template_nodes::parse_format(false, t, &mut nodes);
@@ -247,7 +247,7 @@ fn put_nodes(t: &[u8], out: &mut [u8], at: usize) -> usize
 
 // The nodes of a template.
 fn put_template(line: &[u8], from: usize, out: &mut [u8], at: usize) -> usize
-    ensures { Put out.old at (templateText line.now from) out.new result }
+    ensures { Put out.old at (template_text line.now from) out.new result }
 {
     let mut text = [0u8; TEMPLATE];
     let bytes = read_bytes(line, from, &mut text);
@@ -260,7 +260,7 @@ fn put_template(line: &[u8], from: usize, out: &mut [u8], at: usize) -> usize
 
 // The line program's answer in a mode.
 fn put_line(mode: Mode, line: &[u8], from: usize, out: &mut [u8], at: usize) -> usize
-    ensures { Put out.old at (lineText mode line.now from) out.new result }
+    ensures { Put out.old at (line_text mode line.now from) out.new result }
 {
     let mut text = [0u8; LINE];
     let bytes = read_bytes(line, from, &mut text);
@@ -273,7 +273,7 @@ fn put_line(mode: Mode, line: &[u8], from: usize, out: &mut [u8], at: usize) -> 
 
 // The answer to a question with a name that ends at `end`.
 fn put_named(name: &[u8], line: &[u8], end: usize, out: &mut [u8], at: usize) -> usize
-    ensures { Put out.old at (namedText name.now line.now end) out.new result }
+    ensures { Put out.old at (named_text name.now line.now end) out.new result }
 {
     if check::same(name, b"parse") {
         return put_template(line, end, out, at);
@@ -295,7 +295,7 @@ fn put_named(name: &[u8], line: &[u8], end: usize, out: &mut [u8], at: usize) ->
 
 // Puts the answer to a question, and gives the place after it.
 pub fn answer(line: &[u8], out: &mut [u8], at: usize) -> usize
-    ensures { Put out.old at (answerTo line.now) out.new result }
+    ensures { Put out.old at (answer_to line.now) out.new result }
 {
     let end = line_buffers::find(line, 0, b' ');
     put_named(&line[0..end], line, end, out, at)

@@ -6,14 +6,14 @@ use mathlib.Core.List.{List}
 use Prim.Native.Nat.{ℕ}
 use Rattle.base_accents.proofs.Measures.{letter-whole, mark-alone}
 use Rattle.base_settings.specs.Limits.{limits-compute}
-use Rattle.moment_parts.specs.Parts.{partsBy}
+use Rattle.moment_parts.specs.Parts.{parts_by}
 use Rattle.template_nodes.proofs.Joined.{by-what-is-before}
-use Rattle.write_text.specs.Full.{isFull}
-use Rattle.write_text.specs.Writer.{writtenIn, writtenTo}
+use Rattle.write_text.specs.Full.{is_full}
+use Rattle.write_text.specs.Writer.{written_in, written_to}
 use Rattle.sorbilgan.specs.Accents.{AccentsMode}
 
 pub accents-mode : AccentsMode
-unfolding partsBy writtenTo writtenIn isFull limits-compute
+unfolding parts_by written_to written_in is_full limits-compute
 accents-mode = record {
   whole = letter-whole;
   alone = mark-alone;

@@ -12,29 +12,29 @@ use lib.ListN.{length}
 use mir.Facts.{to_z_pos}
 use mir.Syntax.{w64}
 use mir.Val.{to_z}
-use Rattle.base_settings.specs.Limits.{templateLimit}
+use Rattle.base_settings.specs.Limits.{template_limit}
 use Rattle.base_settings.specs.declared.Settings.{Settings}
-use Rattle.base_chars.specs.Utf8.{wellFormed}
+use Rattle.base_chars.specs.Utf8.{well_formed}
 use Rattle.template_nodes.proofs.Encoding.{encoded-length}
 use Rattle.template_nodes.specs.Bytes.{Parsed}
-use Rattle.template_nodes.specs.Template.{nodesBy}
-use Rattle.sorbilgan.specs.Compiled.{CompiledTo, compiledTo}
+use Rattle.template_nodes.specs.Template.{nodes_by}
+use Rattle.sorbilgan.specs.Compiled.{CompiledTo, compiled_to}
 
 module _ (set : Settings) (t before : List ℕ) where
-  pub long : templateLimit set < length t → CompiledTo set t before before (negsuc 0)
-  unfolding compiledTo
-  long h = record { is = rw (lt-ltb (templateLimit set) (length t) h); buffer = refl }
+  pub long : template_limit set < length t → CompiledTo set t before before (negsuc 0)
+  unfolding compiled_to
+  long h = record { is = rw (lt-ltb (template_limit set) (length t) h); buffer = refl }
 
-  module _ (short : length t ≤ templateLimit set) where
-    pub ill-formed : wellFormed t ≡ false → CompiledTo set t before before (negsuc 1)
-    unfolding compiledTo
-    ill-formed e = record { is = rw (le-ltb (templateLimit set) (length t) short, e); buffer = refl }
+  module _ (short : length t ≤ template_limit set) where
+    pub ill-formed : well_formed t ≡ false → CompiledTo set t before before (negsuc 1)
+    unfolding compiled_to
+    ill-formed e = record { is = rw (le-ltb (template_limit set) (length t) short, e); buffer = refl }
 
-    pub parsed : wellFormed t ≡ true → {after : List ℕ} {r : ℕ} → Parsed (nodesBy set.accents t) before after r → CompiledTo set t before after (to_z w64 (6 * r))
-    unfolding compiledTo
+    pub parsed : well_formed t ≡ true → {after : List ℕ} {r : ℕ} → Parsed (nodes_by set.accents t) before after r → CompiledTo set t before after (to_z w64 (6 * r))
+    unfolding compiled_to
     parsed e {after} {r} p =
         rw (to_z_pos w64 {n = 6 * r} (omega (arith, p.few)))
         (record {
-          is = rw (le-ltb (templateLimit set) (length t) short, e, encoded-length (nodesBy set.accents t), p.count);
+          is = rw (le-ltb (template_limit set) (length t) short, e, encoded-length (nodes_by set.accents t), p.count);
           buffer = rw p.count p.is;
         })

@@ -8,11 +8,11 @@ mod with_settings;
 mod writing;
 
 ghost use Rattle.base_settings.specs.Limits.{pages};
-ghost use Rattle.moment_instants.specs.ByTemplate.{dateOf, dayBy, instantBy, timestampOf};
-ghost use Rattle.moment_parts.specs.Parts.{partsBy, parts_of};
-ghost use Rattle.template_nodes.specs.Bytes.{nodesIn};
+ghost use Rattle.moment_instants.specs.ByTemplate.{date_of, day_by, instant_by, timestamp_of};
+ghost use Rattle.moment_parts.specs.Parts.{parts_by, parts_of};
+ghost use Rattle.template_nodes.specs.Bytes.{nodes_in};
 ghost use Rattle.sorbilgan.specs.Compiled.{CompiledTo};
-ghost use Rattle.sorbilgan_records.specs.Records.{Recorded, dayRecord, instantRecord, partsRecord};
+ghost use Rattle.sorbilgan_records.specs.Records.{Recorded, day_record, instant_record, parts_record};
 
 pub use marks::sorbilgan_has_lone_mark;
 pub use names::sorbilgan_pattern;
@@ -27,21 +27,21 @@ pub use writing::{
 
 #[unsafe(no_mangle)]
 pub extern "C" fn sorbilgan_parts(t: &[u8], s: &[u8], out: &mut [i64; 15]) -> u8
-    ensures { Recorded (partsRecord (parts_of pages t.now s.now)) out.new result }
+    ensures { Recorded (parts_record (parts_of pages t.now s.now)) out.new result }
 {
     sorbilgan_parts_with(0, t, s, out)
 }
 
 #[unsafe(no_mangle)]
 pub extern "C" fn sorbilgan_instant(t: &[u8], s: &[u8], out: &mut [i64; 5]) -> u8
-    ensures { Recorded (instantRecord (timestampOf pages t.now s.now)) out.new result }
+    ensures { Recorded (instant_record (timestamp_of pages t.now s.now)) out.new result }
 {
     sorbilgan_instant_with(0, t, s, out)
 }
 
 #[unsafe(no_mangle)]
 pub extern "C" fn sorbilgan_date(t: &[u8], s: &[u8], out: &mut [i64; 5]) -> u8
-    ensures { Recorded (dayRecord (dateOf pages t.now s.now)) out.new result }
+    ensures { Recorded (day_record (date_of pages t.now s.now)) out.new result }
 {
     sorbilgan_date_with(0, t, s, out)
 }
@@ -55,21 +55,21 @@ pub extern "C" fn sorbilgan_compile(t: &[u8], nodes: &mut [u8; 1536]) -> i64
 
 #[unsafe(no_mangle)]
 pub extern "C" fn sorbilgan_parts_by(nodes: &[u8], t: &[u8], s: &[u8], out: &mut [i64; 15]) -> u8
-    ensures { Recorded (partsRecord (partsBy pages (nodesIn nodes.now) t.now s.now)) out.new result }
+    ensures { Recorded (parts_record (parts_by pages (nodes_in nodes.now) t.now s.now)) out.new result }
 {
     sorbilgan_parts_by_with(0, nodes, t, s, out)
 }
 
 #[unsafe(no_mangle)]
 pub extern "C" fn sorbilgan_instant_by(nodes: &[u8], t: &[u8], s: &[u8], out: &mut [i64; 5]) -> u8
-    ensures { Recorded (instantRecord (instantBy (partsBy pages (nodesIn nodes.now) t.now s.now))) out.new result }
+    ensures { Recorded (instant_record (instant_by (parts_by pages (nodes_in nodes.now) t.now s.now))) out.new result }
 {
     sorbilgan_instant_by_with(0, nodes, t, s, out)
 }
 
 #[unsafe(no_mangle)]
 pub extern "C" fn sorbilgan_date_by(nodes: &[u8], t: &[u8], s: &[u8], out: &mut [i64; 5]) -> u8
-    ensures { Recorded (dayRecord (dayBy (partsBy pages (nodesIn nodes.now) t.now s.now))) out.new result }
+    ensures { Recorded (day_record (day_by (parts_by pages (nodes_in nodes.now) t.now s.now))) out.new result }
 {
     sorbilgan_date_by_with(0, nodes, t, s, out)
 }

@@ -1,17 +1,17 @@
 // Compiling and reading for a caller with settings, which are the bits of a number.
-ghost use Rattle.base_settings.specs.Bits.{settingsOf};
-ghost use Rattle.moment_instants.specs.ByTemplate.{dateOf, dayBy, instantBy, timestampOf};
-ghost use Rattle.moment_parts.specs.Parts.{partsBy, parts_of};
-ghost use Rattle.template_nodes.specs.Bytes.{nodesIn};
+ghost use Rattle.base_settings.specs.Bits.{settings_of};
+ghost use Rattle.moment_instants.specs.ByTemplate.{date_of, day_by, instant_by, timestamp_of};
+ghost use Rattle.moment_parts.specs.Parts.{parts_by, parts_of};
+ghost use Rattle.template_nodes.specs.Bytes.{nodes_in};
 ghost use Rattle.sorbilgan.specs.Compiled.{CompiledTo};
-ghost use Rattle.sorbilgan_records.specs.Records.{Recorded, dayRecord, instantRecord, partsRecord};
+ghost use Rattle.sorbilgan_records.specs.Records.{Recorded, day_record, instant_record, parts_record};
 
 use base_settings::{Settings, settings_of};
 use template_nodes::NODE;
 
 // The record of the moment that an input has by a template, and by nodes.
 fn record_of(set: Settings, t: &[u8], s: &[u8], out: &mut [i64; 15]) -> u8
-    ensures { Recorded (partsRecord (parts_of set t.now s.now)) out.new result }
+    ensures { Recorded (parts_record (parts_of set t.now s.now)) out.new result }
 {
     let mut f = [0; 24];
     let verdict = moment_parts::fields_of(set, t, s, &mut f);
@@ -19,7 +19,7 @@ fn record_of(set: Settings, t: &[u8], s: &[u8], out: &mut [i64; 15]) -> u8
 }
 
 fn record_by(set: Settings, nodes: &[u8], t: &[u8], s: &[u8], out: &mut [i64; 15]) -> u8
-    ensures { Recorded (partsRecord (partsBy set (nodesIn nodes.now) t.now s.now)) out.new result }
+    ensures { Recorded (parts_record (parts_by set (nodes_in nodes.now) t.now s.now)) out.new result }
 {
     let mut f = [0; 24];
     let verdict = moment_parts::fields_by(set, nodes, t, s, &mut f);
@@ -29,7 +29,7 @@ fn record_by(set: Settings, nodes: &[u8], t: &[u8], s: &[u8], out: &mut [i64; 15
 // The parts of the moment that an input s has by a template t.
 #[unsafe(no_mangle)]
 pub extern "C" fn sorbilgan_parts_with(settings: u32, t: &[u8], s: &[u8], out: &mut [i64; 15]) -> u8
-    ensures { Recorded (partsRecord (parts_of (settingsOf settings) t.now s.now)) out.new result }
+    ensures { Recorded (parts_record (parts_of (settings_of settings) t.now s.now)) out.new result }
 {
     record_of(settings_of(settings), t, s, out)
 }
@@ -42,7 +42,7 @@ pub extern "C" fn sorbilgan_instant_with(
     s: &[u8],
     out: &mut [i64; 5],
 ) -> u8
-    ensures { Recorded (instantRecord (timestampOf (settingsOf settings) t.now s.now)) out.new result }
+    ensures { Recorded (instant_record (timestamp_of (settings_of settings) t.now s.now)) out.new result }
 {
     sorbilgan_records::put_instant(
         moment_instants::to_timestamp_text(settings_of(settings), t, s),
@@ -53,7 +53,7 @@ pub extern "C" fn sorbilgan_instant_with(
 // Its days since then.
 #[unsafe(no_mangle)]
 pub extern "C" fn sorbilgan_date_with(settings: u32, t: &[u8], s: &[u8], out: &mut [i64; 5]) -> u8
-    ensures { Recorded (dayRecord (dateOf (settingsOf settings) t.now s.now)) out.new result }
+    ensures { Recorded (day_record (date_of (settings_of settings) t.now s.now)) out.new result }
 {
     sorbilgan_records::put_day(
         moment_instants::to_date_text(settings_of(settings), t, s),
@@ -65,7 +65,7 @@ pub extern "C" fn sorbilgan_date_with(settings: u32, t: &[u8], s: &[u8], out: &m
 // -2 for one that is not UTF-8.
 #[unsafe(no_mangle)]
 pub extern "C" fn sorbilgan_compile_with(settings: u32, t: &[u8], nodes: &mut [u8; 1536]) -> i64
-    ensures { CompiledTo (settingsOf settings) t.now nodes.old nodes.new result }
+    ensures { CompiledTo (settings_of settings) t.now nodes.old nodes.new result }
 {
     let set = settings_of(settings);
     if base_settings::template_limit(set) < t.len() {
@@ -86,7 +86,7 @@ pub extern "C" fn sorbilgan_parts_by_with(
     s: &[u8],
     out: &mut [i64; 15],
 ) -> u8
-    ensures { Recorded (partsRecord (partsBy (settingsOf settings) (nodesIn nodes.now) t.now s.now)) out.new result }
+    ensures { Recorded (parts_record (parts_by (settings_of settings) (nodes_in nodes.now) t.now s.now)) out.new result }
 {
     record_by(settings_of(settings), nodes, t, s, out)
 }
@@ -99,7 +99,7 @@ pub extern "C" fn sorbilgan_instant_by_with(
     s: &[u8],
     out: &mut [i64; 5],
 ) -> u8
-    ensures { Recorded (instantRecord (instantBy (partsBy (settingsOf settings) (nodesIn nodes.now) t.now s.now))) out.new result }
+    ensures { Recorded (instant_record (instant_by (parts_by (settings_of settings) (nodes_in nodes.now) t.now s.now))) out.new result }
 {
     sorbilgan_records::put_instant(
         moment_instants::instant_by(settings_of(settings), nodes, t, s),
@@ -115,7 +115,7 @@ pub extern "C" fn sorbilgan_date_by_with(
     s: &[u8],
     out: &mut [i64; 5],
 ) -> u8
-    ensures { Recorded (dayRecord (dayBy (partsBy (settingsOf settings) (nodesIn nodes.now) t.now s.now))) out.new result }
+    ensures { Recorded (day_record (day_by (parts_by (settings_of settings) (nodes_in nodes.now) t.now s.now))) out.new result }
 {
     sorbilgan_records::put_day(
         moment_instants::day_by(settings_of(settings), nodes, t, s),

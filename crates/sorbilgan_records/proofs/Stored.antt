@@ -10,7 +10,7 @@ use mir.Facts.{to_z-of_z, to_z_pos}
 use mir.Syntax.{w64}
 use mir.Val.{SFits, to_z, of_z}
 use Rattle.base_refusals.specs.declared.Report.{Report}
-use Rattle.sorbilgan_records.specs.Records.{reportEntries}
+use Rattle.sorbilgan_records.specs.Records.{report_entries}
 
 -- each number of a report fits its type
 pub record Ranged (r : Report) : Type 0 where
@@ -20,7 +20,7 @@ pub record Ranged (r : Report) : Type 0 where
   pub second : SFits w64 r.second
 
 pub stored : {r : Report} → Ranged r → (rest : List ℤ)
-    → to_z w64 r.number ∷ to_z w64 r.pattern ∷ to_z w64 (of_z w64 r.first) ∷ to_z w64 (of_z w64 r.second) ∷ rest ≡ reportEntries r ++ rest
+    → to_z w64 r.number ∷ to_z w64 r.pattern ∷ to_z w64 (of_z w64 r.first) ∷ to_z w64 (of_z w64 r.second) ∷ rest ≡ report_entries r ++ rest
 stored {r} s rest = λ i.
     to_z_pos w64 {n = r.number} (omega (arith, s.number)) i
     ∷ to_z_pos w64 {n = r.pattern} (omega (arith, s.pattern)) i

@@ -6,8 +6,8 @@ use mathlib.Core.List.{List}
 use Prim.Native.Nat.{ℕ}
 use lib.IntN.{ℤ}
 use Rattle.base_refusals.specs.declared.Report.{Report}
-use Rattle.sorbilgan_records.specs.Records.{Recorded, valueRecord}
+use Rattle.sorbilgan_records.specs.Records.{Recorded, value_record}
 
 pub value-recorded : {report r : Report} {value z : ℤ} {entries after : List ℤ} {n : ℕ} → r ≡ report → z ≡ value
-    → entries ≡ valueRecord report value → Recorded (valueRecord r z) after n → Recorded entries after n
+    → entries ≡ value_record report value → Recorded (value_record r z) after n → Recorded entries after n
 value-recorded report-is value-is entries-are recorded = rw entries-are (rw (report-is, value-is) at recorded)

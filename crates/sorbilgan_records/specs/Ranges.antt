@@ -2,12 +2,12 @@
 -- it is the number of the refusal, and all that would have been read is 0.
 use Rattle.std.specs.Prelude.{◌≡◌, refl, Bool, false, List, ℕ, zero, suc, ℤ, pos, negsuc, nat_abs, drop, get_or, replicate}
 use Rattle.std.proofs.Common.{inl, arith}
-use Rattle.base_refusals.specs.Report.{reportOf}
+use Rattle.base_refusals.specs.Report.{report_of}
 use Rattle.base_refusals.specs.declared.Refusal.TheVariants.{Short}
 use Rattle.moment_time.specs.declared.Offset.{Offset}
 use Rattle.moment_time.specs.declared.Offset.TheVariants.{Absent, East}
 use Rattle.moment_parts.specs.Ranges.{InRange, ReadNumber, Within}
-use Rattle.moment_parts.specs.Report.{unreadReport}
+use Rattle.moment_parts.specs.Report.{unread_report}
 use Rattle.moment_parts.specs.declared.Answer.{Answer}
 use Rattle.moment_parts.specs.declared.Answer.TheVariants.{Moment, Refused}
 use Rattle.moment_parts.specs.declared.Parts.{Parts}
@@ -17,7 +17,7 @@ use Rattle.moment_instants.specs.declared.epoch.Day.{Day}
 use Rattle.moment_instants.specs.declared.epoch.Day.TheVariants.{Number, Refused as NoDay}
 use Rattle.moment_instants.specs.declared.epoch.Instant.{Instant}
 use Rattle.moment_instants.specs.declared.epoch.Instant.TheVariants.{Micros, Refused as NoInstant}
-use Rattle.sorbilgan_records.specs.Records.{partsRecord, instantRecord, dayRecord}
+use Rattle.sorbilgan_records.specs.Records.{parts_record, instant_record, day_record}
 
 -- the entry k of a record
 abbrev pub entry : List ℤ → ℕ → ℤ
@@ -31,10 +31,10 @@ pub record RefusedRecord (Number : ℕ → Type 0) (n : ℕ) (r : List ℤ) : Ty
   pub nothing : drop 4 r ≡ replicate n (pos 0)
 
 -- the parts that a record holds: whether there is an offset is entry 12, which is 0 where there is none
-abbrev pub offsetHeld : ℤ → ℤ → Offset
-offsetHeld (pos zero) z = Absent
-offsetHeld (pos (suc n)) z = East z
-offsetHeld (negsuc n) z = East z
+abbrev pub offset_held : ℤ → ℤ → Offset
+offset_held (pos zero) z = Absent
+offset_held (pos (suc n)) z = East z
+offset_held (negsuc n) z = East z
 
 abbrev pub held : List ℤ → Parts
 held r = record {
@@ -46,7 +46,7 @@ held r = record {
   second = entry r 9;
   micros = entry r 10;
   precision = entry r 11;
-  offset = offsetHeld (entry r 12) (entry r 13);
+  offset = offset_held (entry r 12) (entry r 13);
   marks = nat_abs (entry r 14);
 }
 
@@ -60,8 +60,8 @@ pub record MomentRecord (strict : Bool) (r : List ℤ) : Type 0 where
 
 -- the parts record of an answer: a moment, or a refusal by its number
 abbrev pub PartsRecorded : Bool → Answer → Type 0
-PartsRecorded strict (Moment p) = MomentRecord strict (partsRecord (Moment p))
-PartsRecorded strict (Refused why) = RefusedRecord (ReadNumber strict) 11 (partsRecord (Refused why))
+PartsRecorded strict (Moment p) = MomentRecord strict (parts_record (Moment p))
+PartsRecorded strict (Refused why) = RefusedRecord (ReadNumber strict) 11 (parts_record (Refused why))
 
 -- a value record whose value is as P says
 pub record ValueRecord (P : ℤ → Type 0) (r : List ℤ) : Type 0 where
@@ -70,16 +70,16 @@ pub record ValueRecord (P : ℤ → Type 0) (r : List ℤ) : Type 0 where
 
 -- the value record of an instant, and of a day, or of a refusal by its number
 abbrev pub InstantRecorded : Bool → Instant → Type 0
-InstantRecorded strict (Micros z) = ValueRecord Finite64 (instantRecord (Micros z))
-InstantRecorded strict (NoInstant why) = RefusedRecord (InstantNumber strict) 1 (instantRecord (NoInstant why))
+InstantRecorded strict (Micros z) = ValueRecord Finite64 (instant_record (Micros z))
+InstantRecorded strict (NoInstant why) = RefusedRecord (InstantNumber strict) 1 (instant_record (NoInstant why))
 
 abbrev pub DayRecorded : Bool → Day → Type 0
-DayRecorded strict (Number z) = ValueRecord Finite32 (dayRecord (Number z))
-DayRecorded strict (NoDay why) = RefusedRecord (DayNumber strict) 1 (dayRecord (NoDay why))
+DayRecorded strict (Number z) = ValueRecord Finite32 (day_record (Number z))
+DayRecorded strict (NoDay why) = RefusedRecord (DayNumber strict) 1 (day_record (NoDay why))
 
 -- DD with 1 byte left of 2 is refused by number 5; the day before 1970 is a day
 pub worked : PartsRecorded false (Refused (By (Short 9 2 1))) × DayRecorded false (Number (negsuc 0))
-unfolding partsRecord dayRecord unreadReport reportOf
+unfolding parts_record day_record unread_report report_of
 worked = (
   record { number = 5; is = refl; known = inl (omega arith, omega arith); nothing = refl },
   record { number = refl; value = record { above = refl; below = refl } },

@@ -1,8 +1,8 @@
 // Answers as records of 64-bit numbers. Each function fills the record and returns its first entry: 0, or the number of
 // the refusal.
 ghost use Rattle.std.specs.Prelude.{[], ◌∷◌, ◌++◌, pos, replicate};
-ghost use Rattle.sorbilgan_records.specs.Records.{Recorded, accepted, dateTimeEntries, dayRecord, instantRecord, partsRecord, reportEntries, valueRecord};
-ghost use Rattle.moment_parts.specs.Parts.{momentOf, thenFields};
+ghost use Rattle.sorbilgan_records.specs.Records.{Recorded, accepted, date_time_entries, day_record, instant_record, parts_record, report_entries, value_record};
+ghost use Rattle.moment_parts.specs.Parts.{moment_of, then_fields};
 ghost use Rattle.read_fields.specs.Fields.{fields_of};
 
 use base_refusals::{NO_PATTERN, Report};
@@ -12,14 +12,14 @@ use moment_time::Offset;
 use read_fields::{Fields, Verdict};
 
 pub fn put_value(r: Report, value: i64, out: &mut [i64; 5]) -> u8
-    ensures { Recorded (valueRecord r value) out.new result }
+    ensures { Recorded (value_record r value) out.new result }
 {
     *out = [r.number as i64, r.pattern as i64, r.first, r.second, value];
     r.number
 }
 
 pub fn put_instant(instant: Instant, out: &mut [i64; 5]) -> u8
-    ensures { Recorded (instantRecord instant) out.new result }
+    ensures { Recorded (instant_record instant) out.new result }
 {
     match instant {
         Instant::Micros(micros) => put_value(base_refusals::alone(0), micros, out),
@@ -28,7 +28,7 @@ pub fn put_instant(instant: Instant, out: &mut [i64; 5]) -> u8
 }
 
 pub fn put_day(day: Day, out: &mut [i64; 5]) -> u8
-    ensures { Recorded (dayRecord day) out.new result }
+    ensures { Recorded (day_record day) out.new result }
 {
     match day {
         Day::Number(days) => put_value(base_refusals::alone(0), days as i64, out),
@@ -38,7 +38,7 @@ pub fn put_day(day: Day, out: &mut [i64; 5]) -> u8
 
 // A moment's parts. `zoned` is 1 where there is an offset, which is in seconds east.
 fn put_moment(p: Parts, zoned: i64, offset: i64, out: &mut [i64; 15]) -> u8
-    ensures { Recorded (reportEntries accepted ++ dateTimeEntries p ++ zoned ∷ offset ∷ pos p.marks ∷ []) out.new result }
+    ensures { Recorded (report_entries accepted ++ date_time_entries p ++ zoned ∷ offset ∷ pos p.marks ∷ []) out.new result }
 {
     *out = [
         0,
@@ -62,7 +62,7 @@ fn put_moment(p: Parts, zoned: i64, offset: i64, out: &mut [i64; 15]) -> u8
 
 // A refusal has no parts.
 fn put_refusal(r: Report, out: &mut [i64; 15]) -> u8
-    ensures { Recorded (reportEntries r ++ replicate 11 (pos 0)) out.new result }
+    ensures { Recorded (report_entries r ++ replicate 11 (pos 0)) out.new result }
 {
     *out = [
         r.number as i64,
@@ -85,7 +85,7 @@ fn put_refusal(r: Report, out: &mut [i64; 15]) -> u8
 }
 
 pub fn put_parts(answer: Answer, out: &mut [i64; 15]) -> u8
-    ensures { Recorded (partsRecord answer) out.new result }
+    ensures { Recorded (parts_record answer) out.new result }
 {
     match answer {
         Answer::Moment(p) => {
@@ -101,7 +101,7 @@ pub fn put_parts(answer: Answer, out: &mut [i64; 15]) -> u8
 
 // The moment that fields make. Plain fields need no answer in between.
 fn put_fields(strict: bool, f: &[i32; 24], out: &mut [i64; 15]) -> u8
-    ensures { Recorded (partsRecord (momentOf strict (fields_of f.now))) out.new result }
+    ensures { Recorded (parts_record (moment_of strict (fields_of f.now))) out.new result }
 {
     if moment_parts::has_plain_moment(f) {
         return put_moment(moment_parts::plain_parts(f), 0, 0, out);
@@ -111,7 +111,7 @@ fn put_fields(strict: bool, f: &[i32; 24], out: &mut [i64; 15]) -> u8
 
 // What a verdict and the fields that were read make.
 pub fn put_read(strict: bool, verdict: Verdict, f: &[i32; 24], out: &mut [i64; 15]) -> u8
-    ensures { Recorded (partsRecord (thenFields strict verdict (fields_of f.now))) out.new result }
+    ensures { Recorded (parts_record (then_fields strict verdict (fields_of f.now))) out.new result }
 {
     match verdict {
         Verdict::Read => put_fields(strict, f, out),

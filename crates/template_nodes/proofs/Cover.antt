@@ -16,29 +16,29 @@ use lib.Dec.{eqb, ltb}
 use lib.ListN.{length, drop, take, length-append, length-drop, take-append-drop, drop_of_length-le}
 use lib.Seq.{slice, drop-cons, drop-drop, get_or-drop, get_or-take, length-take-le, drop-append_seam, take-append-add, take-append_seam}
 use Rattle.base_notation.specs.Choice.{if◌then◌else◌}
-use Rattle.base_notation.specs.Text.{byteAt}
+use Rattle.base_notation.specs.Text.{byte_at}
 use Rattle.base_notation.proofs.Bytes.{byte-within}
 use Rattle.base_notation.proofs.Cases.{both, by-if}
-use Rattle.base_accents.specs.Accents.{measureOf}
+use Rattle.base_accents.specs.Accents.{measure_of}
 use Rattle.base_accents.proofs.Measures.{count, measure-left}
-use Rattle.base_chars.specs.Class.{isSeparator, isSpace}
-use Rattle.template_patterns.specs.Affixes.{affixLength, bit_at}
+use Rattle.base_chars.specs.Class.{is_separator, is_space}
+use Rattle.template_patterns.specs.Affixes.{affix_length, bit_at}
 use Rattle.template_patterns.specs.Patterns.{name_of}
-use Rattle.template_patterns.specs.Search.{patternAt}
+use Rattle.template_patterns.specs.Search.{pattern_at}
 use Rattle.template_patterns.specs.declared.Found.{Found}
 use Rattle.template_patterns.specs.declared.Found.TheVariants.{Pattern, Nothing}
 use Rattle.template_patterns.proofs.Affixes.{AffixThere, affix-there}
 use Rattle.template_patterns.proofs.Names.{There, name-there, name-length}
 use Rattle.template_patterns.proofs.Search.{found-range, found_name}
 use Rattle.template_nodes.specs.Cover.{Covers, at-end, at-quote, at-prefix, at_name, at-character, at-backslash, IsAffix, IsCharacter, InOrder, Covered}
-use Rattle.template_nodes.specs.Template.{action, actionAt, character, separator, space, quote, backslash, kind_of, char_at, charPlace, escapes, literalAt, skip, elementOf, plainAt, stepAt, nodesFrom, nodesBy, madeBy}
+use Rattle.template_nodes.specs.Template.{action, action_at, character, separator, space, quote, backslash, kind_of, char_at, char_place, escapes, literal_at, skip, element_of, plain_at, step_at, nodes_from, nodes_by, made_by}
 use Rattle.template_nodes.specs.declared.Node.{Node}
 use Rattle.template_nodes.specs.declared.Step.{Step}
 
 -- ---- what is found at a place is found at the front of what is left there
 module _ (t : List ℕ) (at : ℕ) where
-  byte_left : byteAt (drop at t) 0 ≡ byteAt t at
-  byte_left = get_or-drop at t 0 0 ∙ ap (byteAt t) (add-zero at)
+  byte_left : byte_at (drop at t) 0 ≡ byte_at t at
+  byte_left = get_or-drop at t 0 0 ∙ ap (byte_at t) (add-zero at)
 
   more_left : ltb 1 (length (drop at t)) ≡ ltb (at + 1) (length t)
   more_left = by (ltb (at + 1) (length t)) refl
@@ -55,15 +55,15 @@ module _ (t : List ℕ) (at : ℕ) where
 -- the character at p, with the rest of the template after it
 record Character (accents : Bool) (t : List ℕ) (p : ℕ) : Type 0 where
   c : List ℕ
-  size : length c ≡ measureOf accents t p
-  first : byteAt c 0 ≡ byteAt t p
+  size : length c ≡ measure_of accents t p
+  first : byte_at c 0 ≡ byte_at t p
   is : IsCharacter accents c (drop (p + length c) t)
   left : c ++ drop (p + length c) t ≡ drop p t
   within : p + length c ≤ length t
 
 char-there : (accents : Bool) (t : List ℕ) (p : ℕ) → p < length t → Character accents t p
 char-there accents t p h =
-    let n = measureOf accents t p in
+    let n = measure_of accents t p in
     let measured = count accents t p in
     let c = take n (drop p t) in
     let size : length c ≡ n = length-take-le n (drop p t) (omega (arith, measured.within, length-drop p t)) in
@@ -73,7 +73,7 @@ char-there accents t p h =
       c = c;
       size = size;
       first = get_or-take n (drop p t) 0 0 (omega (arith, measured.some)) ∙ byte_left t p;
-      is = record { some = omega (arith, size, measured.some); one = size ∙ sym (measure-left t p accents) ∙ ap (λ (r : List ℕ). measureOf accents r 0) (sym left) };
+      is = record { some = omega (arith, size, measured.some); one = size ∙ sym (measure-left t p accents) ∙ ap (λ (r : List ℕ). measure_of accents r 0) (sym left) };
       left = left;
       within = omega (arith, size, measured.within);
     }
@@ -83,13 +83,13 @@ module _ (accents : Bool) (t : List ℕ) where
   pub record Taken (at : ℕ) (quoted : Bool) (s : Step) : Type 0 where
     pub on : at < s.next
     pub within : s.next ≤ length t
-    pub covers : (ns : List Node) → Covers accents s.quoted s.next (drop s.next t) ns → Covers accents quoted at (drop at t) (madeBy s ++ ns)
+    pub covers : (ns : List Node) → Covers accents s.quoted s.next (drop s.next t) ns → Covers accents quoted at (drop at t) (made_by s ++ ns)
 
   -- the literal at p
-  abbrev literalStep : Bool → ℕ → Step
-  literalStep quoted p = char_at accents t p (if quoted then character else kind_of (byteAt t p)) quoted
+  abbrev literal_step : Bool → ℕ → Step
+  literal_step quoted p = char_at accents t p (if quoted then character else kind_of (byte_at t p)) quoted
 
-  char-taken : (at : ℕ) (quoted : Bool) → eqb (byteAt t at) quote ≡ false → escapes t at quoted ≡ false → Character accents t at → Taken at quoted (literalStep quoted at)
+  char-taken : (at : ℕ) (quoted : Bool) → eqb (byte_at t at) quote ≡ false → escapes t at quoted ≡ false → Character accents t at → Taken at quoted (literal_step quoted at)
   char-taken at quoted n e char =
       record {
         on = omega (arith, char.size, char.is.some);
@@ -99,8 +99,8 @@ module _ (accents : Bool) (t : List ℕ) where
             (at-character {quoted = quoted} {t = drop (at + length char.c) t} char.c char.is (rw char.first n) (rw char.left (escapes-left t at quoted ∙ e)) (rw (← char.size) at k));
       }
 
-  escaped-taken : (at : ℕ) (quoted : Bool) → byteAt t at ≡ backslash → at < length t → escapes t at quoted ≡ true → Character accents t (at + 1)
-      → Taken at quoted (literalStep quoted (at + 1))
+  escaped-taken : (at : ℕ) (quoted : Bool) → byte_at t at ≡ backslash → at < length t → escapes t at quoted ≡ true → Character accents t (at + 1)
+      → Taken at quoted (literal_step quoted (at + 1))
   escaped-taken at quoted b h e char =
       let left : drop at t ≡ (backslash ∷ char.c) ++ drop (at + 1 + length char.c) t = drop-cons t at 0 h ∙ rw (b, ← add-one at, char.left) in
       record {
@@ -112,38 +112,38 @@ module _ (accents : Bool) (t : List ℕ) where
       }
 
   -- after a backslash that escapes there is a character
-  one_more : (at : ℕ) (quoted : Bool) → (if quoted then ltb (at + 1) (length t) else eqb (byteAt t (at + 1)) quote) ≡ true → at + 1 < length t
+  one_more : (at : ℕ) (quoted : Bool) → (if quoted then ltb (at + 1) (length t) else eqb (byte_at t (at + 1)) quote) ≡ true → at + 1 < length t
   one_more at true e = ltb-true _ _ e
-  one_more at false e = byte-within t (at + 1) (λ z. omega (arith, eqb-true (byteAt t (at + 1)) quote e))
+  one_more at false e = byte-within t (at + 1) (λ z. omega (arith, eqb-true (byte_at t (at + 1)) quote e))
 
   -- a quote is skipped, anything else is a literal character
-  literal-taken : (at : ℕ) (quoted : Bool) → at < length t → Taken at quoted (literalAt accents t at quoted)
-  unfolding literalAt charPlace
+  literal-taken : (at : ℕ) (quoted : Bool) → at < length t → Taken at quoted (literal_at accents t at quoted)
+  unfolding literal_at char_place
   literal-taken at quoted h =
-      by-if (Taken at quoted) (eqb (byteAt t at) quote) (skip (at + 1) (not quoted)) _
+      by-if (Taken at quoted) (eqb (byte_at t at) quote) (skip (at + 1) (not quoted)) _
       (λ e. record {
         on = omega arith;
         within = omega arith;
-        covers = λ ns k. rw (drop-cons t at 0 h, eqb-true (byteAt t at) quote e, ← add-one at) (at-quote k);
+        covers = λ ns k. rw (drop-cons t at 0 h, eqb-true (byte_at t at) quote e, ← add-one at) (at-quote k);
       })
-      (λ n. by-if (λ (p : ℕ). Taken at quoted (literalStep quoted p)) (escapes t at quoted) (at + 1) at
-      (λ e. let tests = both (eqb (byteAt t at) backslash) _ e in
+      (λ n. by-if (λ (p : ℕ). Taken at quoted (literal_step quoted p)) (escapes t at quoted) (at + 1) at
+      (λ e. let tests = both (eqb (byte_at t at) backslash) _ e in
       escaped-taken at quoted (eqb-true _ _ tests.0) h e (char-there accents t (at + 1) (one_more at quoted tests.1)))
       (λ e. char-taken at quoted n e (char-there accents t at h)))
 
   -- the letters of an affix are one
   an-affix : {wanted : Bool} {at : ℕ} (a : AffixThere wanted t at) → IsAffix wanted a.name
-  an-affix a = a.size ∙ ap affixLength (sym a.same)
+  an-affix a = a.size ∙ ap affix_length (sym a.same)
 
   -- a prefix that is dropped
-  dropped : (at : ℕ) → AffixThere true t at → (ns : List Node) → Covers accents false (at + affixLength (bit_at true t at)) (drop (at + affixLength (bit_at true t at)) t) ns
+  dropped : (at : ℕ) → AffixThere true t at → (ns : List Node) → Covers accents false (at + affix_length (bit_at true t at)) (drop (at + affix_length (bit_at true t at)) t) ns
       → Covers accents false at (drop at t) ns
   dropped at prefix ns k = rw prefix.there.rest (at-prefix prefix.name (an-affix prefix) (rw (← prefix.size) at k))
 
   -- a pattern between its prefix and its suffix
   pattern-taken : (at k : ℕ) (prefix : AffixThere true t at) → k < 112 → There (name_of k) t (at + length prefix.name)
       → AffixThere false t (at + length prefix.name + length (name_of k))
-      → Taken at false (actionAt accents t (at + length prefix.name) (bit_at true t at) k (length (name_of k)))
+      → Taken at false (action_at accents t (at + length prefix.name) (bit_at true t at) k (length (name_of k)))
   pattern-taken at k prefix known name suffix =
       let left : drop at t ≡ prefix.name ++ name_of k ++ suffix.name ++ drop (at + length prefix.name + length (name_of k) + length suffix.name) t =
       prefix.there.rest ∙ rw (name.rest, suffix.there.rest) (simp append_assoc) in
@@ -156,10 +156,10 @@ module _ (accents : Bool) (t : List ℕ) where
       }
 
   -- a pattern, or a literal after a prefix that is dropped
-  element-taken : (at : ℕ) (f : Found) → patternAt t (at + affixLength (bit_at true t at)) ≡ f → at + affixLength (bit_at true t at) < length t
-      → Taken at false (elementOf accents f t (at + affixLength (bit_at true t at)) (bit_at true t at))
+  element-taken : (at : ℕ) (f : Found) → pattern_at t (at + affix_length (bit_at true t at)) ≡ f → at + affix_length (bit_at true t at) < length t
+      → Taken at false (element_of accents f t (at + affix_length (bit_at true t at)) (bit_at true t at))
   element-taken at Nothing e h =
-      let after = literal-taken (at + affixLength (bit_at true t at)) false h in
+      let after = literal-taken (at + affix_length (bit_at true t at)) false h in
       record {
         on = omega (arith, after.on);
         within = after.within;
@@ -167,40 +167,40 @@ module _ (accents : Bool) (t : List ℕ) where
       }
   element-taken at (Pattern k n) e h =
       let prefix = affix-there true t at (omega arith) in
-      let found : patternAt t (at + length prefix.name) ≡ Pattern k n = rw prefix.size e in
+      let found : pattern_at t (at + length prefix.name) ≡ Pattern k n = rw prefix.size e in
       let known = (found-range t (at + length prefix.name) k n found).0 in
       let same = found_name t (at + length prefix.name) k n found in
       let name = name-there k known t (at + length prefix.name) prefix.there.within same.1 in
       rw (← prefix.size, same.0)
       (pattern-taken at k prefix known name (affix-there false t (at + length prefix.name + length (name_of k)) name.within))
 
-  plain-taken : (at : ℕ) → at < length t → Taken at false (plainAt accents t at)
-  unfolding plainAt
+  plain-taken : (at : ℕ) → at < length t → Taken at false (plain_at accents t at)
+  unfolding plain_at
   plain-taken at h =
-      let start = at + affixLength (bit_at true t at) in
+      let start = at + affix_length (bit_at true t at) in
       let prefix = affix-there true t at (omega arith) in
       by-if (Taken at false) (ltb start (length t)) _ (skip start false)
-      (λ e. element-taken at (patternAt t start) refl (ltb-true _ _ e))
+      (λ e. element-taken at (pattern_at t start) refl (ltb-true _ _ e))
       (λ e. record {
         on = omega (arith, ltb-false start (length t) e);
         within = omega (arith, prefix.size, prefix.there.within);
         covers = λ ns k. dropped at prefix ns k;
       })
 
-  pub step-taken : (at : ℕ) (quoted : Bool) → at < length t → Taken at quoted (stepAt accents t at quoted)
-  unfolding stepAt
+  pub step-taken : (at : ℕ) (quoted : Bool) → at < length t → Taken at quoted (step_at accents t at quoted)
+  unfolding step_at
   step-taken at true h = literal-taken at true h
   step-taken at false h = plain-taken at h
 
   -- ---- all steps
-  covers-from : (fuel at : ℕ) (quoted : Bool) → length t ≤ at + fuel → at ≤ length t → Covers accents quoted at (drop at t) (nodesFrom accents fuel t at quoted)
-  unfolding nodesFrom
+  covers-from : (fuel at : ℕ) (quoted : Bool) → length t ≤ at + fuel → at ≤ length t → Covers accents quoted at (drop at t) (nodes_from accents fuel t at quoted)
+  unfolding nodes_from
   covers-from zero at quoted enough h = rw (drop_of_length-le t {i = at} (omega arith)) at-end
   covers-from (suc fuel) at quoted enough h =
       by-if (Covers accents quoted at (drop at t)) (ltb at (length t)) _ []
-      (λ e. let s = stepAt accents t at quoted in
+      (λ e. let s = step_at accents t at quoted in
       let taken = step-taken at quoted (ltb-true _ _ e) in
-      taken.covers (nodesFrom accents fuel t s.next s.quoted) (covers-from fuel s.next s.quoted (omega (arith, taken.on)) taken.within))
+      taken.covers (nodes_from accents fuel t s.next s.quoted) (covers-from fuel s.next s.quoted (omega (arith, taken.on)) taken.within))
       (λ e. rw (drop_of_length-le t {i = at} (ltb-false _ _ e)) at-end)
 
 -- ---- in order
@@ -225,8 +225,8 @@ pub no-pattern : (quoted : Bool) (b : ℕ) → (if quoted then character else ki
 unfolding kind_of
 no-pattern true b e = omega (arith, e)
 no-pattern false b e =
-    by-if (λ (k : ℕ). k ≡ action → ⊥) (isSeparator b) separator (if isSpace b then space else character) (λ p q. omega (arith, q))
-    (λ p. by-if (λ (k : ℕ). k ≡ action → ⊥) (isSpace b) space character (λ p q. omega (arith, q)) (λ p q. omega (arith, q))) e
+    by-if (λ (k : ℕ). k ≡ action → ⊥) (is_separator b) separator (if is_space b then space else character) (λ p q. omega (arith, q))
+    (λ p. by-if (λ (k : ℕ). k ≡ action → ⊥) (is_space b) space character (λ p q. omega (arith, q)) (λ p q. omega (arith, q))) e
 
 in_order : {accents quoted : Bool} {at : ℕ} {rest : List ℕ} {ns : List Node} → Covers accents quoted at rest ns → (t before : List ℕ) → t ≡ before ++ rest → length before ≡ at → InOrder t at ns
 in_order at-end t before e l = tt
@@ -252,7 +252,7 @@ in_order (at-character {quoted = quoted} {at = at} {t = rest} {ns = ns} c is no-
     let next = further t before c rest at e l in
     let here = part t before c rest at e l in (
       omega arith,
-      record { some = is.some; within = here.0; name = λ q. absurd (no-pattern quoted (byteAt c 0) q) },
+      record { some = is.some; within = here.0; name = λ q. absurd (no-pattern quoted (byte_at c 0) q) },
       in_order k t (before ++ c) next.0 next.1,
     )
 in_order (at-backslash {quoted = quoted} {at = at} {t = rest} {ns = ns} c is escape k) t before e l =
@@ -260,12 +260,12 @@ in_order (at-backslash {quoted = quoted} {at = at} {t = rest} {ns = ns} c is esc
     let next = further t (before ++ backslash ∷ []) c rest (at + 1) at-char.0 at-char.1 in
     let here = part t (before ++ backslash ∷ []) c rest (at + 1) at-char.0 at-char.1 in (
       omega arith,
-      record { some = is.some; within = here.0; name = λ q. absurd (no-pattern quoted (byteAt c 0) q) },
+      record { some = is.some; within = here.0; name = λ q. absurd (no-pattern quoted (byte_at c 0) q) },
       in_order k t (before ++ backslash ∷ [] ++ c) next.0 next.1,
     )
 
 pub covered : (accents : Bool) (t : List ℕ) → Covered accents t
-unfolding nodesBy
+unfolding nodes_by
 covered accents t =
     let whole = covers-from accents t (length t) 0 false (omega arith) (omega arith) in
     record { whole = whole; each = in_order whole t [] refl refl }
@@ -274,7 +274,7 @@ covered accents t =
 one_byte : {accents quoted : Bool} {at : ℕ} {rest : List ℕ} {ns : List Node} → Covers accents quoted at rest ns → (b : ℕ) → (b ≡ quote → ⊥) → rest ≡ b ∷ [] → ns ≡ [] → ⊥
 unfolding bit_at
 one_byte at-end b n e none = omega (arith, ap (λ (r : List ℕ). length r) e)
-one_byte (at-quote k) b n e none = n (sym (ap (λ (r : List ℕ). byteAt r 0) e))
+one_byte (at-quote k) b n e none = n (sym (ap (λ (r : List ℕ). byte_at r 0) e))
 one_byte (at-prefix [] a k) b n e none = one_byte k b n e none
 one_byte (at-prefix (x ∷ []) a k) b n e none = let odd : ◌≡◌ {A = ℕ} 1 0 = simp and-false at a in omega arith
 one_byte (at-prefix (x ∷ y ∷ s) a k) b n e none = omega (arith, ap (λ (r : List ℕ). length r) e)

@@ -10,21 +10,21 @@ use borrow.Author.Tests.{lt-ltb, ltb-true, ltb-false}
 use lib.Dec.{ltb}
 use lib.ListN.{length}
 use Rattle.base_notation.specs.Choice.{if◌then◌else◌}
-use Rattle.template_patterns.specs.Affixes.{affixLength, bit_at}
-use Rattle.template_patterns.specs.Search.{patternAt}
+use Rattle.template_patterns.specs.Affixes.{affix_length, bit_at}
+use Rattle.template_patterns.specs.Search.{pattern_at}
 use Rattle.template_patterns.specs.declared.Found.{Found}
 use Rattle.template_patterns.specs.declared.Found.TheVariants.{Pattern, Nothing}
-use Rattle.template_nodes.specs.Elements.{elementFrom, elementIn, nowhere, rest_at}
-use Rattle.template_nodes.specs.Template.{elementOf, inMode, make, pattern, plainAt, skip, stepAt}
+use Rattle.template_nodes.specs.Elements.{element_from, element_in, nowhere, rest_at}
+use Rattle.template_nodes.specs.Template.{element_of, in_mode, make, pattern, plain_at, skip, step_at}
 use Rattle.template_nodes.specs.declared.Element.{Element}
 use Rattle.template_nodes.specs.declared.Step.{Step}
 
 -- a pattern's node
-abbrev pub patternStep : Bool → Bool → Element → Step
-patternStep accents quoted e = make (inMode accents (pattern e.start e.len e.number e.bits)) e.next quoted
+abbrev pub pattern_step : Bool → Bool → Element → Step
+pattern_step accents quoted e = make (in_mode accents (pattern e.start e.len e.number e.bits)) e.next quoted
 
 abbrev pub step_of : Bool → List ℕ → Bool → Element → Step
-step_of accents t quoted e = if e.found then patternStep accents quoted e else rest_at accents t e.next quoted
+step_of accents t quoted e = if e.found then pattern_step accents quoted e else rest_at accents t e.next quoted
 
 -- a step that goes on from p, and takes a byte unless that is the end, goes on from before it
 pub goes_on : (size at p next : ℕ) → at < size → at ≤ p → p ≤ next → (p < size → p < next) → at < next
@@ -35,24 +35,24 @@ goes_on size at p next h l m f = split (ltb p size) refl
     split false q = let past = ltb-false p size q in omega arith
 
 module _ (accents : Bool) (t : List ℕ) (at : ℕ) (h : at < length t) where
-  pub element-step : (quoted : Bool) → step_of accents t quoted (elementFrom t at quoted) ≡ stepAt accents t at quoted
-  unfolding stepAt plainAt
+  pub element-step : (quoted : Bool) → step_of accents t quoted (element_from t at quoted) ≡ step_at accents t at quoted
+  unfolding step_at plain_at
   element-step true = rw (lt-ltb at (length t) h)
-  element-step false = by (ltb start (length t)) refl (patternAt t start)
+  element-step false = by (ltb start (length t)) refl (pattern_at t start)
     where
       start : ℕ
-      start = at + affixLength (bit_at true t at)
+      start = at + affix_length (bit_at true t at)
 
       by : (q : Bool) → ltb start (length t) ≡ q → (f : Found)
-          → step_of accents t false (if q then elementIn f t start (bit_at true t at) else nowhere start) ≡ (if q then elementOf accents f t start (bit_at true t at) else skip start false)
+          → step_of accents t false (if q then element_in f t start (bit_at true t at) else nowhere start) ≡ (if q then element_of accents f t start (bit_at true t at) else skip start false)
       by true e (Pattern k n) = refl
       by true e Nothing = rw e
       by false e f = rw e
 
   -- the same for what was found there
-  module _ (quoted : Bool) (e : Element) (is : e ≡ elementFrom t at quoted) where
-    pub found-step : e.found ≡ true → patternStep accents quoted e ≡ stepAt accents t at quoted
+  module _ (quoted : Bool) (e : Element) (is : e ≡ element_from t at quoted) where
+    pub found-step : e.found ≡ true → pattern_step accents quoted e ≡ step_at accents t at quoted
     found-step q = rw (← is, q) at (element-step quoted)
 
-    pub rest-step : e.found ≡ false → rest_at accents t e.next quoted ≡ stepAt accents t at quoted
+    pub rest-step : e.found ≡ false → rest_at accents t e.next quoted ≡ step_at accents t at quoted
     rest-step q = rw (← is, q) at (element-step quoted)

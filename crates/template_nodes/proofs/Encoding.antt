@@ -14,9 +14,9 @@ use lib.Dec.{leb}
 use lib.ListN.{length, take, drop, get_or, set, length-append, length-drop}
 use lib.Seq.{drop-drop, get_or-drop, sets, sets-eq, take_at, drop_at}
 use Rattle.base_notation.specs.Choice.{if◌then◌else◌}
-use Rattle.base_notation.specs.Text.{byteAt}
-use Rattle.template_nodes.specs.Bytes.{Parsed, bytes_of, encoded, modeBit, nodeFrom, nodesTo, nodesIn}
-use Rattle.template_nodes.specs.Template.{endNode}
+use Rattle.base_notation.specs.Text.{byte_at}
+use Rattle.template_nodes.specs.Bytes.{Parsed, bytes_of, encoded, mode_bit, node_from, nodes_to, nodes_in}
+use Rattle.template_nodes.specs.Template.{end_node}
 use Rattle.template_nodes.specs.declared.Node.{Node}
 
 pub encoded-length : (ns : List Node) → length (encoded ns) ≡ 6 * length ns
@@ -36,22 +36,22 @@ All P (n ∷ ns) = P n × All P ns
 
 -- the bits of a node's prefix and suffix are below that of its mode
 abbrev pub Small : List Node → Type 0
-Small ns = All (λ (n : Node). n.suffix < modeBit) ns
+Small ns = All (λ (n : Node). n.suffix < mode_bit) ns
 
 -- what was put is read
 len-back : (k : ℕ) → k / 256 * 256 + k % 256 ≡ k
 len-back k = omega arith
 
-module _ (k : ℕ) (small : k < modeBit) where
-  suffix-back : (b : Bool) → (k % modeBit + (if b then modeBit else 0)) % modeBit ≡ k
+module _ (k : ℕ) (small : k < mode_bit) where
+  suffix-back : (b : Bool) → (k % mode_bit + (if b then mode_bit else 0)) % mode_bit ≡ k
   suffix-back true = omega arith
   suffix-back false = omega arith
 
-  mode-back : (b : Bool) → leb modeBit (k % modeBit + (if b then modeBit else 0)) ≡ b
-  mode-back true = le-leb modeBit (k % modeBit + modeBit) (omega arith)
-  mode-back false = lt-leb modeBit (k % modeBit + 0) (omega arith)
+  mode-back : (b : Bool) → leb mode_bit (k % mode_bit + (if b then mode_bit else 0)) ≡ b
+  mode-back true = le-leb mode_bit (k % mode_bit + mode_bit) (omega arith)
+  mode-back false = lt-leb mode_bit (k % mode_bit + 0) (omega arith)
 
-node-back : (n : Node) → n.suffix < modeBit → (rest : List ℕ) → nodeFrom (bytes_of n ++ rest) 0 ≡ n
+node-back : (n : Node) → n.suffix < mode_bit → (rest : List ℕ) → node_from (bytes_of n ++ rest) 0 ≡ n
 node-back n small rest = λ i. record {
   start = n.start;
   len = len-back n.len i;
@@ -61,39 +61,39 @@ node-back n small rest = λ i. record {
   accents = mode-back n.suffix small n.accents i;
 }
 
-to_back : (ns : List Node) → Small ns → nodesTo (length ns) (encoded ns) ≡ ns
-unfolding nodesTo encoded
+to_back : (ns : List Node) → Small ns → nodes_to (length ns) (encoded ns) ≡ ns
+unfolding nodes_to encoded
 to_back [] small = refl
 to_back (n ∷ ns) small = λ i. node-back n small.0 (encoded ns) i ∷ to_back ns small.1 i
 
-pub nodes-back : (ns : List Node) → Small ns → nodesIn (encoded ns) ≡ ns
-unfolding nodesIn
+pub nodes-back : (ns : List Node) → Small ns → nodes_in (encoded ns) ≡ ns
+unfolding nodes_in
 nodes-back ns small =
     let count-is : length (encoded ns) / 6 ≡ length ns = omega (arith, encoded-length ns) in
     rw count-is (to_back ns small)
 
 -- any bytes: as many nodes as there are sixes, each by its index
-to-length : (n : ℕ) (c : List ℕ) → length (nodesTo n c) ≡ n
-unfolding nodesTo
+to-length : (n : ℕ) (c : List ℕ) → length (nodes_to n c) ≡ n
+unfolding nodes_to
 to-length zero c = refl
 to-length (suc n) c = ap suc (to-length n (drop 6 c))
 
 -- a byte after the first node
-past-six : (c : List ℕ) (at k : ℕ) → byteAt (drop 6 c) (at + k) ≡ byteAt c (6 + at + k)
-past-six c at k = get_or-drop 6 c (at + k) 0 ∙ ap (byteAt c) (omega arith)
+past-six : (c : List ℕ) (at k : ℕ) → byte_at (drop 6 c) (at + k) ≡ byte_at c (6 + at + k)
+past-six c at k = get_or-drop 6 c (at + k) 0 ∙ ap (byte_at c) (omega arith)
 
-shifted : (c : List ℕ) (at : ℕ) → nodeFrom (drop 6 c) at ≡ nodeFrom c (6 + at)
+shifted : (c : List ℕ) (at : ℕ) → node_from (drop 6 c) at ≡ node_from c (6 + at)
 shifted c at = λ i. record {
   start = get_or-drop 6 c at 0 i;
   len = past-six c at 1 i * 256 + past-six c at 2 i;
   kind = past-six c at 3 i;
   pattern = past-six c at 4 i;
-  suffix = past-six c at 5 i % modeBit;
-  accents = leb modeBit (past-six c at 5 i);
+  suffix = past-six c at 5 i % mode_bit;
+  accents = leb mode_bit (past-six c at 5 i);
 }
 
-to-node : (n : ℕ) (c : List ℕ) (k : ℕ) → k < n → get_or (nodesTo n c) k endNode ≡ nodeFrom c (6 * k)
-unfolding nodesTo
+to-node : (n : ℕ) (c : List ℕ) (k : ℕ) → k < n → get_or (nodes_to n c) k end_node ≡ node_from c (6 * k)
+unfolding nodes_to
 to-node zero c k h = absurd (omega arith)
 to-node (suc n) c zero h = refl
 to-node (suc n) c (suc k) h =
@@ -101,12 +101,12 @@ to-node (suc n) c (suc k) h =
     to-node n (drop 6 c) k (omega arith) ∙ shifted c (6 * k) ∙ rw place_is
 
 module _ (c : List ℕ) where
-  pub nodes-length : length (nodesIn c) ≡ length c / 6
-  unfolding nodesIn
+  pub nodes-length : length (nodes_in c) ≡ length c / 6
+  unfolding nodes_in
   nodes-length = to-length (length c / 6) c
 
-  pub node_in : (k : ℕ) → k < length c / 6 → nodeFrom c (6 * k) ≡ get_or (nodesIn c) k endNode
-  unfolding nodesIn
+  pub node_in : (k : ℕ) → k < length c / 6 → node_from c (6 * k) ≡ get_or (nodes_in c) k end_node
+  unfolding nodes_in
   node_in k h = sym (to-node (length c / 6) c k h)
 
 -- a node put after others
@@ -143,7 +143,7 @@ module _ {ns : List Node} {before after : List ℕ} {r : ℕ} (p : Parsed ns bef
   pub parsed-room : 6 * r ≤ length after
   parsed-room = rw p.is (omega (arith, p.count, encoded-length ns, length-append (encoded ns) (drop (6 * length ns) before)))
 
-  pub parsed-nodes : Small ns → nodesIn (take (6 * r) after) ≡ ns
+  pub parsed-nodes : Small ns → nodes_in (take (6 * r) after) ≡ ns
   parsed-nodes small =
       rw (p.is, p.count, take_at (encoded ns) (drop (6 * length ns) before) (6 * length ns) (encoded-length ns))
       (nodes-back ns small)

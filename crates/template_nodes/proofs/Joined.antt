@@ -15,20 +15,20 @@ use borrow.Author.Tests.{eqb-true, eq-eqb, le-ltb, lt-ltb, ltb-true, ltb-false, 
 use lib.Dec.{eqb, ltb}
 use lib.ListN.{length, drop}
 use Rattle.base_notation.specs.Choice.{if◌then◌else◌}
-use Rattle.base_notation.specs.Text.{byteAt}
+use Rattle.base_notation.specs.Text.{byte_at}
 use Rattle.base_notation.proofs.Cases.{both, by-if}
-use Rattle.base_accents.specs.Accents.{letterAt, markAt, marks, measureOf}
+use Rattle.base_accents.specs.Accents.{letter_at, mark_at, marks, measure_of}
 use Rattle.base_accents.proofs.Marks.{mark-bytes, mark-there, marks-on, marks-stop}
 use Rattle.base_accents.proofs.Measures.{mark-char}
-use Rattle.base_chars.specs.Character.{charLength}
+use Rattle.base_chars.specs.Character.{char_length}
 use Rattle.base_chars.proofs.Classes.{wide-class}
-use Rattle.template_patterns.specs.Affixes.{affixLength, bit_at}
-use Rattle.template_patterns.specs.Search.{patternAt}
+use Rattle.template_patterns.specs.Affixes.{affix_length, bit_at}
+use Rattle.template_patterns.specs.Search.{pattern_at}
 use Rattle.template_patterns.specs.declared.Found.{Found}
 use Rattle.template_patterns.specs.declared.Found.TheVariants.{Pattern, Nothing}
 use Rattle.template_patterns.proofs.Search.{head-range, none-outside}
-use Rattle.template_nodes.specs.Joined.{ByWhatIsBefore, follows, isLetter, isMark, joined, joinedTo, longer}
-use Rattle.template_nodes.specs.Template.{action, backslash, char_at, charPlace, character, elementOf, escapes, inMode, kind_of, literal, literalAt, madeBy, make, nodesBy, nodesFrom, nodesOf, plainAt, quote, skip, stepAt}
+use Rattle.template_nodes.specs.Joined.{ByWhatIsBefore, follows, is_letter, is_mark, joined, joined_to, longer}
+use Rattle.template_nodes.specs.Template.{action, backslash, char_at, char_place, character, element_of, escapes, in_mode, kind_of, literal, literal_at, made_by, make, nodes_by, nodes_from, nodes_of, plain_at, quote, skip, step_at}
 use Rattle.template_nodes.specs.declared.Node.{Node}
 use Rattle.template_nodes.specs.declared.Step.{Step}
 use Rattle.template_nodes.proofs.Cover.{no-pattern, step-taken}
@@ -38,131 +38,131 @@ module _ (t : List ℕ) where
   -- a step of the accents mode beside one of the other
   data Pair : Step → Step → Type 0 where
     no_node : (next : ℕ) (quoted : Bool) → Pair (skip next quoted) (skip next quoted)
-    no-letter : (n : Node) (next : ℕ) (quoted : Bool) → isLetter t n ≡ false → Pair (make (inMode true n) next quoted) (make n next quoted)
-    a-letter : (p kind : ℕ) (quoted : Bool) → eqb kind action ≡ false → letterAt t p ≡ true → Pair (char_at true t p kind quoted) (char_at false t p kind quoted)
+    no-letter : (n : Node) (next : ℕ) (quoted : Bool) → is_letter t n ≡ false → Pair (make (in_mode true n) next quoted) (make n next quoted)
+    a-letter : (p kind : ℕ) (quoted : Bool) → eqb kind action ≡ false → letter_at t p ≡ true → Pair (char_at true t p kind quoted) (char_at false t p kind quoted)
 
   char-pair : (p kind : ℕ) (quoted : Bool) → eqb kind action ≡ false → Pair (char_at true t p kind quoted) (char_at false t p kind quoted)
-  unfolding measureOf
+  unfolding measure_of
   char-pair p kind quoted k =
-      (elim (letterAt t p) as (λ l. letterAt t p ≡ l → Pair (char_at true t p kind quoted) (char_at false t p kind quoted)) [
+      (elim (letter_at t p) as (λ l. letter_at t p ≡ l → Pair (char_at true t p kind quoted) (char_at false t p kind quoted)) [
         | true ↦ λ l. a-letter p kind quoted k l
-        | false ↦ λ l. rw l (no-letter (literal kind p (charLength t p)) (p + charLength t p) quoted (rw (k, l)))
+        | false ↦ λ l. rw l (no-letter (literal kind p (char_length t p)) (p + char_length t p) quoted (rw (k, l)))
       ]) refl
 
-  literal-pair : (at : ℕ) (quoted : Bool) → Pair (literalAt true t at quoted) (literalAt false t at quoted)
-  unfolding literalAt
+  literal-pair : (at : ℕ) (quoted : Bool) → Pair (literal_at true t at quoted) (literal_at false t at quoted)
+  unfolding literal_at
   literal-pair at quoted =
-      let p = charPlace t at quoted in
-      let kind : ℕ = if quoted then character else kind_of (byteAt t p) in
-      (elim (eqb (byteAt t at) quote) as (λ c. Pair (if c then skip (at + 1) (not quoted) else char_at true t p kind quoted) (if c then skip (at + 1) (not quoted) else char_at false t p kind quoted)) [
+      let p = char_place t at quoted in
+      let kind : ℕ = if quoted then character else kind_of (byte_at t p) in
+      (elim (eqb (byte_at t at) quote) as (λ c. Pair (if c then skip (at + 1) (not quoted) else char_at true t p kind quoted) (if c then skip (at + 1) (not quoted) else char_at false t p kind quoted)) [
         | true ↦ no_node (at + 1) (not quoted)
-        | false ↦ char-pair p kind quoted (ne_eqb kind action (no-pattern quoted (byteAt t p)))
+        | false ↦ char-pair p kind quoted (ne_eqb kind action (no-pattern quoted (byte_at t p)))
       ])
 
-  element-pair : (at prefix : ℕ) (f : Found) → Pair (elementOf true f t at prefix) (elementOf false f t at prefix)
+  element-pair : (at prefix : ℕ) (f : Found) → Pair (element_of true f t at prefix) (element_of false f t at prefix)
   element-pair at prefix Nothing = literal-pair at false
   element-pair at prefix (Pattern k n) = no-letter _ _ false refl
 
-  plain-pair : (at : ℕ) → Pair (plainAt true t at) (plainAt false t at)
-  unfolding plainAt
+  plain-pair : (at : ℕ) → Pair (plain_at true t at) (plain_at false t at)
+  unfolding plain_at
   plain-pair at =
       let prefix = bit_at true t at in
-      let start = at + affixLength prefix in
-      let e : Bool → Step = λ accents. elementOf accents (patternAt t start) t start prefix in
+      let start = at + affix_length prefix in
+      let e : Bool → Step = λ accents. element_of accents (pattern_at t start) t start prefix in
       (elim (ltb start (length t)) as (λ c. Pair (if c then e true else skip start false) (if c then e false else skip start false)) [
-        | true ↦ element-pair start prefix (patternAt t start)
+        | true ↦ element-pair start prefix (pattern_at t start)
         | false ↦ no_node start false
       ])
 
-  step-pair : (at : ℕ) (quoted : Bool) → Pair (stepAt true t at quoted) (stepAt false t at quoted)
-  unfolding stepAt
+  step-pair : (at : ℕ) (quoted : Bool) → Pair (step_at true t at quoted) (step_at false t at quoted)
+  unfolding step_at
   step-pair at true = literal-pair at true
   step-pair at false = plain-pair at
 
   -- outside ASCII no affix begins
-  wide-affix : (at : ℕ) → 0x80 ≤ byteAt t at → bit_at true t at ≡ 0
+  wide-affix : (at : ℕ) → 0x80 ≤ byte_at t at → bit_at true t at ≡ 0
   unfolding bit_at
-  wide-affix at h = simp (ne_eqb (byteAt t at) 70 (omega arith), ne_eqb (byteAt t at) 102 (omega arith), ne_eqb (byteAt t at) 84 (omega arith), ne_eqb (byteAt t at) 116 (omega arith))
+  wide-affix at h = simp (ne_eqb (byte_at t at) 70 (omega arith), ne_eqb (byte_at t at) 102 (omega arith), ne_eqb (byte_at t at) 84 (omega arith), ne_eqb (byte_at t at) 116 (omega arith))
 
   -- where a mark is, a step of the other mode makes it a node
-  module _ (at : ℕ) (e : markAt t at ≡ true) where
+  module _ (at : ℕ) (e : mark_at t at ≡ true) where
     abbrev b : ℕ
-    b = byteAt t at
+    b = byte_at t at
 
     wide : 0x80 ≤ b
-    unfolding markAt
-    wide = omega (arith, (mark-bytes b (byteAt t (at + 1)) e).first-from)
+    unfolding mark_at
+    wide = omega (arith, (mark-bytes b (byte_at t (at + 1)) e).first-from)
 
-    mark-literal : (quoted : Bool) → literalAt false t at quoted ≡ make (literal character at 2) (at + 2) quoted
-    unfolding literalAt charPlace kind_of measureOf
+    mark-literal : (quoted : Bool) → literal_at false t at quoted ≡ make (literal character at 2) (at + 2) quoted
+    unfolding literal_at char_place kind_of measure_of
     mark-literal true = rw (ne_eqb b quote (omega (arith, wide)), ne_eqb b backslash (omega (arith, wide)), mark-char t at e)
     mark-literal false = rw (ne_eqb b quote (omega (arith, wide)), ne_eqb b backslash (omega (arith, wide)), wide-class b wide, mark-char t at e)
 
-    mark-step : (quoted : Bool) → stepAt false t at quoted ≡ make (literal character at 2) (at + 2) quoted
-    unfolding stepAt plainAt
+    mark-step : (quoted : Bool) → step_at false t at quoted ≡ make (literal character at 2) (at + 2) quoted
+    unfolding step_at plain_at
     mark-step true = mark-literal true
     mark-step false =
-        let none : patternAt t at ≡ Nothing = none-outside t at (λ j h q. omega (arith, (head-range j h).1, wide, q)) in
+        let none : pattern_at t at ≡ Nothing = none-outside t at (λ j h q. omega (arith, (head-range j h).1, wide, q)) in
         rw (wide-affix at wide, add-zero at, lt-ltb at (length t) (omega (arith, mark-there t at e)), none) (mark-literal false)
 
   -- fuel that is enough gives the same nodes
-  same-fuel : (accents : Bool) (f g at : ℕ) (quoted : Bool) → length t ≤ at + f → length t ≤ at + g → nodesFrom accents f t at quoted ≡ nodesFrom accents g t at quoted
+  same-fuel : (accents : Bool) (f g at : ℕ) (quoted : Bool) → length t ≤ at + f → length t ≤ at + g → nodes_from accents f t at quoted ≡ nodes_from accents g t at quoted
   same-fuel accents zero g at quoted h k = after-end accents t zero at quoted (omega arith) ∙ sym (after-end accents t g at quoted (omega arith))
   same-fuel accents (suc f) zero at quoted h k = after-end accents t (suc f) at quoted (omega arith) ∙ sym (after-end accents t zero at quoted (omega arith))
   same-fuel accents (suc f) (suc g) at quoted h k =
-      (elim (ltb at (length t)) as (λ c. ltb at (length t) ≡ c → nodesFrom accents (suc f) t at quoted ≡ nodesFrom accents (suc g) t at quoted) [
+      (elim (ltb at (length t)) as (λ c. ltb at (length t) ≡ c → nodes_from accents (suc f) t at quoted ≡ nodes_from accents (suc g) t at quoted) [
         | true ↦ λ c.
             let inside = ltb-true at (length t) c in
-            let s = stepAt accents t at quoted in
+            let s = step_at accents t at quoted in
             let taken = step-taken accents t at quoted inside in
             one accents t f at quoted s refl inside
-            ∙ ap (λ (ns : List Node). madeBy s ++ ns) (same-fuel accents f g s.next s.quoted (omega (arith, taken.on)) (omega (arith, taken.on)))
+            ∙ ap (λ (ns : List Node). made_by s ++ ns) (same-fuel accents f g s.next s.quoted (omega (arith, taken.on)) (omega (arith, taken.on)))
             ∙ sym (one accents t g at quoted s refl inside)
         | false ↦ λ c. after-end accents t (suc f) at quoted (ltb-false _ _ c) ∙ sym (after-end accents t (suc g) at quoted (ltb-false _ _ c))
       ]) refl
 
   -- where what follows is no mark right after a letter, nothing is joined
-  stays : (m : Node) (ns : List Node) → ((n : Node) → (isLetter t m && (isMark t n && follows m n)) ≡ false) → joinedTo t m ns ≡ m ∷ joined t ns
-  unfolding joinedTo
+  stays : (m : Node) (ns : List Node) → ((n : Node) → (is_letter t m && (is_mark t n && follows m n)) ≡ false) → joined_to t m ns ≡ m ∷ joined t ns
+  unfolding joined_to
   stays m [] h = refl
   stays m (n ∷ ns) h = rw (h n)
 
   -- a letter before a place, and the marks from there on as nodes of the other mode: they are joined to it
   abbrev Runs : ℕ → ℕ → ℕ → Bool → Node → Type 0
   Runs f g a quoted m =
-      joinedTo t m (nodesFrom false f t a quoted) ≡ longer m (marks (drop a t)) ∷ joined t (nodesFrom false g t (a + marks (drop a t)) quoted)
+      joined_to t m (nodes_from false f t a quoted) ≡ longer m (marks (drop a t)) ∷ joined t (nodes_from false g t (a + marks (drop a t)) quoted)
 
   -- where no mark is, none is joined
-  none : (m n : Node) → markAt t (m.start + m.len) ≡ false → (isLetter t m && (isMark t n && follows m n)) ≡ false
+  none : (m n : Node) → mark_at t (m.start + m.len) ≡ false → (is_letter t m && (is_mark t n && follows m n)) ≡ false
   none m n c =
-      (elim (isLetter t m && (isMark t n && follows m n)) as (λ x. (isLetter t m && (isMark t n && follows m n)) ≡ x → x ≡ false) [
+      (elim (is_letter t m && (is_mark t n && follows m n)) as (λ x. (is_letter t m && (is_mark t n && follows m n)) ≡ x → x ≡ false) [
         | true ↦ λ x.
-            let tests = both (isMark t n) _ (both (isLetter t m) _ x).1 in
-            absurd (false≢true (sym c ∙ rw (eqb-true n.start (m.start + m.len) tests.1) at (both (not (eqb n.kind action)) (markAt t n.start) tests.0).1))
+            let tests = both (is_mark t n) _ (both (is_letter t m) _ x).1 in
+            absurd (false≢true (sym c ∙ rw (eqb-true n.start (m.start + m.len) tests.1) at (both (not (eqb n.kind action)) (mark_at t n.start) tests.0).1))
         | false ↦ λ x. refl
       ]) refl
 
-  unmarked : (f g a : ℕ) (quoted : Bool) (m : Node) → m.start + m.len ≡ a → length t ≤ a + f → length t ≤ a + g → markAt t a ≡ false → Runs f g a quoted m
+  unmarked : (f g a : ℕ) (quoted : Bool) (m : Node) → m.start + m.len ≡ a → length t ≤ a + f → length t ≤ a + g → mark_at t a ≡ false → Runs f g a quoted m
   unmarked f g a quoted m q h k c =
       rw (
         marks-stop t a c,
         add-zero m.len,
         add-zero a,
-        stays m (nodesFrom false f t a quoted) (λ n. none m n (rw q c)),
+        stays m (nodes_from false f t a quoted) (λ n. none m n (rw q c)),
         same-fuel false f g a quoted h k,
       )
 
-  run : (f g a : ℕ) (quoted : Bool) (m : Node) → isLetter t m ≡ true → m.start + m.len ≡ a → length t ≤ a + f → length t ≤ a + g → Runs f g a quoted m
-  unfolding joinedTo
+  run : (f g a : ℕ) (quoted : Bool) (m : Node) → is_letter t m ≡ true → m.start + m.len ≡ a → length t ≤ a + f → length t ≤ a + g → Runs f g a quoted m
+  unfolding joined_to
   run zero g a quoted m l q h k =
-      (elim (markAt t a) as (λ c. markAt t a ≡ c → Runs zero g a quoted m) [
+      (elim (mark_at t a) as (λ c. mark_at t a ≡ c → Runs zero g a quoted m) [
         | true ↦ λ c. absurd (omega (arith, mark-there t a c))
         | false ↦ λ c. unmarked zero g a quoted m q h k c
       ]) refl
   run (suc f) g a quoted m l q h k =
-      (elim (markAt t a) as (λ c. markAt t a ≡ c → Runs (suc f) g a quoted m) [
+      (elim (mark_at t a) as (λ c. mark_at t a ≡ c → Runs (suc f) g a quoted m) [
         | true ↦ λ c.
-            let made : nodesFrom false (suc f) t a quoted ≡ literal character a 2 ∷ nodesFrom false f t (a + 2) quoted
+            let made : nodes_from false (suc f) t a quoted ≡ literal character a 2 ∷ nodes_from false f t (a + 2) quoted
             = one false t f a quoted (make (literal character a 2) (a + 2) quoted) (sym (mark-step a c quoted)) (omega (arith, mark-there t a c)) in
             let rest = run f g (a + 2) quoted (longer m 2) l (omega (arith, q)) (omega arith) (omega arith) in
             let j = marks (drop (a + 2) t) in
@@ -174,65 +174,65 @@ module _ (t : List ℕ) where
 
   -- the nodes from a place on
   abbrev Joins : ℕ → Type 0
-  Joins n = (at : ℕ) (quoted : Bool) → length t ≤ at + n → nodesFrom true n t at quoted ≡ map (inMode true) (joined t (nodesFrom false n t at quoted))
+  Joins n = (at : ℕ) (quoted : Bool) → length t ≤ at + n → nodes_from true n t at quoted ≡ map (in_mode true) (joined t (nodes_from false n t at quoted))
 
   turn : (n : ℕ) → Joins n → (s o : Step) → Pair s o → length t ≤ o.next + n
-      → madeBy s ++ nodesFrom true n t s.next s.quoted ≡ map (inMode true) (joined t (madeBy o ++ nodesFrom false n t o.next o.quoted))
-  unfolding measureOf
+      → made_by s ++ nodes_from true n t s.next s.quoted ≡ map (in_mode true) (joined t (made_by o ++ nodes_from false n t o.next o.quoted))
+  unfolding measure_of
   turn n rest s o (no_node next quoted) h = rest next quoted h
   turn n rest s o (no-letter m next quoted l) h =
-      rw (stays m (nodesFrom false n t next quoted) (λ k. rw l)) (ap (λ (ns : List Node). inMode true m ∷ ns) (rest next quoted h))
+      rw (stays m (nodes_from false n t next quoted) (λ k. rw l)) (ap (λ (ns : List Node). in_mode true m ∷ ns) (rest next quoted h))
   turn n rest s o (a-letter p kind quoted k l) h =
-      let c = charLength t p in
+      let c = char_length t p in
       let j = marks (drop (p + c) t) in
       let m = literal kind p c in
       rw (l, run n n (p + c) quoted m (rw (k, l)) refl h h, ← add_assoc p c j)
-      (ap (λ (ns : List Node). inMode true (literal kind p (c + j)) ∷ ns) (rest (p + c + j) quoted (omega arith)))
+      (ap (λ (ns : List Node). in_mode true (literal kind p (c + j)) ∷ ns) (rest (p + c + j) quoted (omega arith)))
 
   joins : (n : ℕ) → Joins n
   joins zero at quoted h = rw (after-end true t zero at quoted (omega arith), after-end false t zero at quoted (omega arith))
   joins (suc n) at quoted h =
-      (elim (ltb at (length t)) as (λ c. ltb at (length t) ≡ c → nodesFrom true (suc n) t at quoted ≡ map (inMode true) (joined t (nodesFrom false (suc n) t at quoted))) [
+      (elim (ltb at (length t)) as (λ c. ltb at (length t) ≡ c → nodes_from true (suc n) t at quoted ≡ map (in_mode true) (joined t (nodes_from false (suc n) t at quoted))) [
         | true ↦ λ c.
             let inside = ltb-true at (length t) c in
             let taken = step-taken false t at quoted inside in
-            rw (one true t n at quoted (stepAt true t at quoted) refl inside, one false t n at quoted (stepAt false t at quoted) refl inside)
-            (turn n (joins n) (stepAt true t at quoted) (stepAt false t at quoted) (step-pair at quoted) (omega (arith, taken.on)))
+            rw (one true t n at quoted (step_at true t at quoted) refl inside, one false t n at quoted (step_at false t at quoted) refl inside)
+            (turn n (joins n) (step_at true t at quoted) (step_at false t at quoted) (step-pair at quoted) (omega (arith, taken.on)))
         | false ↦ λ c. rw (after-end true t (suc n) at quoted (ltb-false _ _ c), after-end false t (suc n) at quoted (ltb-false _ _ c))
       ]) refl
 
 pub by-what-is-before : ByWhatIsBefore
-unfolding nodesBy
+unfolding nodes_by
 by-what-is-before t = joins t (length t) 0 false (omega arith)
 
 -- what is said of nodes and stays where a mark is joined to its letter
 pub record Kept {A : Type 0} (f : List Node → A) : Type 0 where
-  pub mode : (n : Node) (ns : List Node) → f (inMode true n ∷ ns) ≡ f (n ∷ ns)
+  pub mode : (n : Node) (ns : List Node) → f (in_mode true n ∷ ns) ≡ f (n ∷ ns)
   pub after : (n : Node) (ns ms : List Node) → f ns ≡ f ms → f (n ∷ ns) ≡ f (n ∷ ms)
   pub join : (m n : Node) (ns : List Node) → eqb m.kind action ≡ false → eqb n.kind action ≡ false → n.start ≡ m.start + m.len
       → f (longer m n.len ∷ ns) ≡ f (m ∷ n ∷ ns)
 
 module _ {A : Type 0} (f : List Node → A) (k : Kept f) where
-  kept-modes : (ns : List Node) → f (map (inMode true) ns) ≡ f ns
+  kept-modes : (ns : List Node) → f (map (in_mode true) ns) ≡ f ns
   kept-modes [] = refl
-  kept-modes (n ∷ ns) = k.mode n (map (inMode true) ns) ∙ k.after n (map (inMode true) ns) ns (kept-modes ns)
+  kept-modes (n ∷ ns) = k.mode n (map (in_mode true) ns) ∙ k.after n (map (in_mode true) ns) ns (kept-modes ns)
 
-  kept-joined : (t : List ℕ) (m : Node) (ns : List Node) → f (joinedTo t m ns) ≡ f (m ∷ ns)
-  unfolding joinedTo
+  kept-joined : (t : List ℕ) (m : Node) (ns : List Node) → f (joined_to t m ns) ≡ f (m ∷ ns)
+  unfolding joined_to
   kept-joined t m [] = refl
   kept-joined t m (n ∷ ns) =
-      (elim (isLetter t m && (isMark t n && follows m n)) as (λ c. (isLetter t m && (isMark t n && follows m n)) ≡ c → f (if c then joinedTo t (longer m n.len) ns else m ∷ joinedTo t n ns) ≡ f (m ∷ n ∷ ns)) [
+      (elim (is_letter t m && (is_mark t n && follows m n)) as (λ c. (is_letter t m && (is_mark t n && follows m n)) ≡ c → f (if c then joined_to t (longer m n.len) ns else m ∷ joined_to t n ns) ≡ f (m ∷ n ∷ ns)) [
         | true ↦ λ c.
-            let first = both (isLetter t m) _ c in
-            let others = both (isMark t n) _ first.1 in
+            let first = both (is_letter t m) _ c in
+            let others = both (is_mark t n) _ first.1 in
             kept-joined t (longer m n.len) ns
             ∙ k.join m n ns (not-true _ (both (not (eqb m.kind action)) _ first.0).0) (not-true _ (both (not (eqb n.kind action)) _ others.0).0) (eqb-true _ _ others.1)
-        | false ↦ λ c. k.after m (joinedTo t n ns) (n ∷ ns) (kept-joined t n ns)
+        | false ↦ λ c. k.after m (joined_to t n ns) (n ∷ ns) (kept-joined t n ns)
       ]) refl
 
-  pub in-both-modes : (accents : Bool) (t : List ℕ) → f (nodesBy accents t) ≡ f (nodesOf t)
+  pub in-both-modes : (accents : Bool) (t : List ℕ) → f (nodes_by accents t) ≡ f (nodes_of t)
   in-both-modes false t = refl
-  in-both-modes true t = ap f (by-what-is-before t) ∙ kept-modes (joined t (nodesOf t)) ∙ by (nodesOf t)
+  in-both-modes true t = ap f (by-what-is-before t) ∙ kept-modes (joined t (nodes_of t)) ∙ by (nodes_of t)
     where
       by : (ns : List Node) → f (joined t ns) ≡ f ns
       by [] = refl

@@ -13,48 +13,48 @@ use lib.Dec.{eqb, leb, ltb}
 use lib.ListN.{length, replicate}
 use Rattle.base_notation.proofs.Table.{all_from, entry}
 use Rattle.base_notation.specs.Choice.{if◌then◌else◌}
-use Rattle.base_notation.specs.Text.{byteAt}
-use Rattle.base_accents.specs.Accents.{measureOf}
+use Rattle.base_notation.specs.Text.{byte_at}
+use Rattle.base_accents.specs.Accents.{measure_of}
 use Rattle.base_accents.proofs.Measures.{plain-one}
-use Rattle.base_chars.specs.Class.{class_of, isLetter, isSeparator, isSpace}
+use Rattle.base_chars.specs.Class.{class_of, is_letter, is_separator, is_space}
 use Rattle.base_chars.specs.Sets.{in_set}
 use Rattle.base_chars.proofs.Sets.{set_is}
 use Rattle.template_patterns.specs.Affixes.{bit_at}
 use Rattle.template_patterns.specs.Patterns.{names}
-use Rattle.template_patterns.specs.Search.{patternAt}
+use Rattle.template_patterns.specs.Search.{pattern_at}
 use Rattle.template_patterns.specs.declared.Found.TheVariants.{Nothing}
 use Rattle.template_patterns.proofs.Names.{head, name-is}
 use Rattle.template_patterns.proofs.Search.{none-outside}
-use Rattle.template_nodes.specs.Template.{charPlace, inMode, isSingle, kind_of, literal, literalAt, make, plainAt, separator, skip, space, stepAt}
+use Rattle.template_nodes.specs.Template.{char_place, in_mode, is_single, kind_of, literal, literal_at, make, plain_at, separator, skip, space, step_at}
 use Rattle.template_nodes.proofs.Steps.{at-quote}
 
 -- there is none from 64 on
-wide-single : (b : ℕ) → 128 ≤ b → isSingle b ≡ false
+wide-single : (b : ℕ) → 128 ≤ b → is_single b ≡ false
 wide-single b h = rw (le-ltb b 64 (omega arith))
 
-pub singles : (b : ℕ) → in_set 0xfc00fffb00003e00 0 b ≡ isSingle b
+pub singles : (b : ℕ) → in_set 0xfc00fffb00003e00 0 b ≡ is_single b
 unfolding in_set class_of
-singles = set_is 0xfc00fffb00003e00 0 isSingle refl wide-single
+singles = set_is 0xfc00fffb00003e00 0 is_single refl wide-single
 
 -- what a computed test says of such bytes
 abbrev implies : Bool → Bool → Bool
 implies a b = not a || b
 
-of-singles : (f : ℕ → Bool) → all_from (λ (b x : ℕ). implies (isSingle b) (f b)) 0 (replicate 128 0) ≡ true → (b : ℕ) → isSingle b ≡ true → f b ≡ true
+of-singles : (f : ℕ → Bool) → all_from (λ (b x : ℕ). implies (is_single b) (f b)) 0 (replicate 128 0) ≡ true → (b : ℕ) → is_single b ≡ true → f b ≡ true
 of-singles f test b e = split (ltb b 128) refl
   where
     split : (q : Bool) → ltb b 128 ≡ q → f b ≡ true
-    split true q = rw e at (entry (λ (b x : ℕ). implies (isSingle b) (f b)) 0 (replicate 128 0) test b (ltb-true b 128 q))
+    split true q = rw e at (entry (λ (b x : ℕ). implies (is_single b) (f b)) 0 (replicate 128 0) test b (ltb-true b 128 q))
     split false q = absurd (false≢true (sym (wide-single b (ltb-false b 128 q)) ∙ e))
 
-module _ (b : ℕ) (e : isSingle b ≡ true) where
+module _ (b : ℕ) (e : is_single b ≡ true) where
   small : b < 128
   unfolding class_of
   small = ltb-true b 128 (of-singles (λ (b : ℕ). ltb b 128) refl b e)
 
-  no-letter : isLetter b ≡ false
+  no-letter : is_letter b ≡ false
   unfolding class_of
-  no-letter = not-true (isLetter b) (of-singles (λ (b : ℕ). not (isLetter b)) refl b e)
+  no-letter = not-true (is_letter b) (of-singles (λ (b : ℕ). not (is_letter b)) refl b e)
 
   no-quote : eqb b 34 ≡ false
   unfolding class_of
@@ -69,34 +69,34 @@ module _ (b : ℕ) (e : isSingle b ≡ true) where
   single-kind = eqb-true _ _ (of-singles (λ (b : ℕ). eqb (kind_of b) (if leb b 32 then space else separator)) refl b e)
 
 -- every name begins with a letter
-head-letter : (k : ℕ) → k < 112 → isLetter (head k) ≡ true
+head-letter : (k : ℕ) → k < 112 → is_letter (head k) ≡ true
 unfolding class_of
-head-letter k h = rw (name-is k) at (entry (λ (k : ℕ) (n : List ℕ). isLetter (byteAt n 0)) [] names refl k h)
+head-letter k h = rw (name-is k) at (entry (λ (k : ℕ) (n : List ℕ). is_letter (byte_at n 0)) [] names refl k h)
 
 -- and so does every prefix
-no-prefix : (t : List ℕ) (at : ℕ) → isLetter (byteAt t at) ≡ false → bit_at true t at ≡ 0
+no-prefix : (t : List ℕ) (at : ℕ) → is_letter (byte_at t at) ≡ false → bit_at true t at ≡ 0
 unfolding bit_at class_of
 no-prefix t at e =
-    let another : (c : ℕ) → isLetter c ≡ true → eqb (byteAt t at) c ≡ false = λ c l. ne_eqb (byteAt t at) c (λ q. false≢true (sym e ∙ ap isLetter q ∙ l)) in
+    let another : (c : ℕ) → is_letter c ≡ true → eqb (byte_at t at) c ≡ false = λ c l. ne_eqb (byte_at t at) c (λ q. false≢true (sym e ∙ ap is_letter q ∙ l)) in
     simp (another 70 refl, another 102 refl, another 84 refl, another 116 refl)
 
 -- no pattern is where no letter is
-no-pattern : (t : List ℕ) (at : ℕ) → isLetter (byteAt t at) ≡ false → patternAt t at ≡ Nothing
-no-pattern t at e = none-outside t at (λ j k q. false≢true (sym e ∙ ap isLetter (sym q) ∙ head-letter j k))
+no-pattern : (t : List ℕ) (at : ℕ) → is_letter (byte_at t at) ≡ false → pattern_at t at ≡ Nothing
+no-pattern t at e = none-outside t at (λ j k q. false≢true (sym e ∙ ap is_letter (sym q) ∙ head-letter j k))
 
 module _ (accents : Bool) (t : List ℕ) (at : ℕ) (h : at < length t) where
-  pub single_step : (quoted : Bool) → (not quoted && isSingle (byteAt t at)) ≡ true
-      → make (inMode accents (literal (kind_of (byteAt t at)) at 1)) (at + 1) quoted ≡ stepAt accents t at quoted
-  unfolding stepAt plainAt literalAt charPlace
+  pub single_step : (quoted : Bool) → (not quoted && is_single (byte_at t at)) ≡ true
+      → make (in_mode accents (literal (kind_of (byte_at t at)) at 1)) (at + 1) quoted ≡ step_at accents t at quoted
+  unfolding step_at plain_at literal_at char_place
   single_step true e = absurd (false≢true e)
   single_step false e =
-      let b = byteAt t at in
+      let b = byte_at t at in
       let plain = no-letter b e in
       rw (no-prefix t at plain, add-zero at, lt-ltb at (length t) h, no-pattern t at plain, no-quote b e, no-backslash b e, plain-one t at accents h (small b e) plain)
 
-  pub quote-step : (quoted : Bool) → byteAt t at ≡ 34 → skip (at + 1) (not quoted) ≡ stepAt accents t at quoted
-  unfolding stepAt plainAt class_of
+  pub quote-step : (quoted : Bool) → byte_at t at ≡ 34 → skip (at + 1) (not quoted) ≡ step_at accents t at quoted
+  unfolding step_at plain_at class_of
   quote-step true e = sym (at-quote accents t at true e)
   quote-step false e =
-      let plain : isLetter (byteAt t at) ≡ false = rw e in
+      let plain : is_letter (byte_at t at) ≡ false = rw e in
       rw (no-prefix t at plain, add-zero at, lt-ltb at (length t) h, no-pattern t at plain) (sym (at-quote accents t at false e))

@@ -6,15 +6,15 @@ use mathlib.Core.List.{List}
 use Prim.Native.Nat.{ℕ, ◌+◌}
 use borrow.Author.Tests.{ne_eqb}
 use Rattle.base_notation.specs.Choice.{if◌then◌else◌}
-use Rattle.base_notation.specs.Text.{byteAt}
-use Rattle.template_nodes.specs.Template.{character, char_at, charPlace, kind_of, literalAt, skip}
+use Rattle.base_notation.specs.Text.{byte_at}
+use Rattle.template_nodes.specs.Template.{character, char_at, char_place, kind_of, literal_at, skip}
 
 module _ (accents : Bool) (t : List ℕ) (at : ℕ) (quoted : Bool) where
-  pub at-quote : byteAt t at ≡ 34 → literalAt accents t at quoted ≡ skip (at + 1) (not quoted)
-  unfolding literalAt
+  pub at-quote : byte_at t at ≡ 34 → literal_at accents t at quoted ≡ skip (at + 1) (not quoted)
+  unfolding literal_at
   at-quote e = rw e
 
-  pub at_literal : (byteAt t at ≡ 34 → ⊥) → (p : ℕ) → p ≡ charPlace t at quoted
-      → literalAt accents t at quoted ≡ char_at accents t p (if quoted then character else kind_of (byteAt t p)) quoted
-  unfolding literalAt
+  pub at_literal : (byte_at t at ≡ 34 → ⊥) → (p : ℕ) → p ≡ char_place t at quoted
+      → literal_at accents t at quoted ≡ char_at accents t p (if quoted then character else kind_of (byte_at t p)) quoted
+  unfolding literal_at
   at_literal n p e = rw (ne_eqb _ _ n, e)

@@ -13,10 +13,10 @@ use borrow.Author.Tests.{lt-ltb, le-ltb, not-true}
 use lib.Dec.{eqb}
 use lib.ListN.{length, drop, length-append}
 use lib.Seq.{sets}
-use Rattle.base_notation.specs.Text.{byteAt}
+use Rattle.base_notation.specs.Text.{byte_at}
 use Rattle.base_notation.proofs.Cases.{both, by-if}
 use Rattle.template_nodes.specs.Bytes.{Parsed, Put, bytes_of, encoded}
-use Rattle.template_nodes.specs.Template.{character, char_at, charPlace, isQuotedChar, literalAt, stepAt, madeBy, nodesBy, nodesFrom}
+use Rattle.template_nodes.specs.Template.{character, char_at, char_place, is_quoted_char, literal_at, step_at, made_by, nodes_by, nodes_from}
 use Rattle.template_nodes.specs.declared.Node.{Node}
 use Rattle.template_nodes.specs.declared.Step.{Step}
 use Rattle.template_nodes.proofs.Encoding.{put-after}
@@ -28,10 +28,10 @@ pub record Read (accents : Bool) (t before after : List ℕ) (n at : ℕ) (quote
   pub enough : length t ≤ at + fuel
   pub size : length done ≡ n
   pub stored : after ≡ encoded done ++ drop (6 * n) before
-  pub whole : done ++ nodesFrom accents fuel t at quoted ≡ nodesBy accents t
+  pub whole : done ++ nodes_from accents fuel t at quoted ≡ nodes_by accents t
 
 pub begun : (accents : Bool) (t before : List ℕ) → Read accents t before before 0 0 false
-unfolding nodesBy encoded
+unfolding nodes_by encoded
 begun accents t before = record { fuel = length t; done = []; enough = omega arith; size = refl; stored = refl; whole = refl }
 
 -- a step puts one node at most
@@ -39,46 +39,46 @@ pub put_one : (s : Step) (before after : List ℕ) (i r : ℕ) → Put s before 
 put_one s before after i r put = rw put.count (by-if (λ (n : ℕ). n ≤ i + 1) s.made (i + 1) i (λ e. omega arith) (λ e. omega arith))
 
 -- at the end nothing is left
-pub after-end : (accents : Bool) (t : List ℕ) (fuel at : ℕ) (quoted : Bool) → length t ≤ at → nodesFrom accents fuel t at quoted ≡ []
-unfolding nodesFrom
+pub after-end : (accents : Bool) (t : List ℕ) (fuel at : ℕ) (quoted : Bool) → length t ≤ at → nodes_from accents fuel t at quoted ≡ []
+unfolding nodes_from
 after-end accents t zero at quoted h = refl
 after-end accents t (suc f) at quoted h = rw (le-ltb at (length t) h)
 
 pub ended : (accents : Bool) (t before after : List ℕ) (n at : ℕ) (quoted : Bool) → Read accents t before after n at quoted → n ≤ 256 → length t ≤ at
-    → Parsed (nodesBy accents t) before after n
+    → Parsed (nodes_by accents t) before after n
 ended accents t before after n at quoted r few h =
-    let all : r.done ≡ nodesBy accents t = rw (after-end accents t r.fuel at quoted h, append-nil) at r.whole in
-    let count : n ≡ length (nodesBy accents t) = sym r.size ∙ ap (λ (l : List Node). length l) all in
+    let all : r.done ≡ nodes_by accents t = rw (after-end accents t r.fuel at quoted h, append-nil) at r.whole in
+    let count : n ≡ length (nodes_by accents t) = sym r.size ∙ ap (λ (l : List Node). length l) all in
     record { is = r.stored ∙ rw (all, count); count = count; few = few }
 
 -- a character in quotes is a step
-pub plain_step : (accents : Bool) (t : List ℕ) (at : ℕ) (quoted : Bool) → isQuotedChar t at quoted ≡ true
-    → char_at accents t at character true ≡ stepAt accents t at quoted
-unfolding stepAt literalAt charPlace
+pub plain_step : (accents : Bool) (t : List ℕ) (at : ℕ) (quoted : Bool) → is_quoted_char t at quoted ≡ true
+    → char_at accents t at character true ≡ step_at accents t at quoted
+unfolding step_at literal_at char_place
 plain_step accents t at true e =
-    let both-are = both (not (eqb (byteAt t at) 34)) _ e in
-    rw (not-true (eqb (byteAt t at) 34) both-are.0, not-true (eqb (byteAt t at) 92) both-are.1)
+    let both-are = both (not (eqb (byte_at t at) 34)) _ e in
+    rw (not-true (eqb (byte_at t at) 34) both-are.0, not-true (eqb (byte_at t at) 92) both-are.1)
 plain_step accents t at false e = absurd (false≢true e)
 
-pub in-quotes : (t : List ℕ) (at : ℕ) (quoted : Bool) → isQuotedChar t at quoted ≡ true → true ≡ quoted
+pub in-quotes : (t : List ℕ) (at : ℕ) (quoted : Bool) → is_quoted_char t at quoted ≡ true → true ≡ quoted
 in-quotes t at true e = refl
 in-quotes t at false e = absurd (false≢true e)
 
 -- a step
-pub one : (accents : Bool) (t : List ℕ) (fuel at : ℕ) (quoted : Bool) (s : Step) → s ≡ stepAt accents t at quoted → at < length t
-    → nodesFrom accents (suc fuel) t at quoted ≡ madeBy s ++ nodesFrom accents fuel t s.next s.quoted
-unfolding nodesFrom
+pub one : (accents : Bool) (t : List ℕ) (fuel at : ℕ) (quoted : Bool) (s : Step) → s ≡ step_at accents t at quoted → at < length t
+    → nodes_from accents (suc fuel) t at quoted ≡ made_by s ++ nodes_from accents fuel t s.next s.quoted
+unfolding nodes_from
 one accents t fuel at quoted s e h = rw (e, lt-ltb at (length t) h)
 
-module _ (accents : Bool) (t before : List ℕ) (n at : ℕ) (quoted : Bool) (s : Step) (e : s ≡ stepAt accents t at quoted) (h : at < length t) (on : at < s.next) where
-  turn : (fuel : ℕ) (done : List Node) → length t ≤ at + fuel → done ++ nodesFrom accents fuel t at quoted ≡ nodesBy accents t
-      → (out : List ℕ) (n' : ℕ) → length (done ++ madeBy s) ≡ n' → out ≡ encoded (done ++ madeBy s) ++ drop (6 * n') before
+module _ (accents : Bool) (t before : List ℕ) (n at : ℕ) (quoted : Bool) (s : Step) (e : s ≡ step_at accents t at quoted) (h : at < length t) (on : at < s.next) where
+  turn : (fuel : ℕ) (done : List Node) → length t ≤ at + fuel → done ++ nodes_from accents fuel t at quoted ≡ nodes_by accents t
+      → (out : List ℕ) (n' : ℕ) → length (done ++ made_by s) ≡ n' → out ≡ encoded (done ++ made_by s) ++ drop (6 * n') before
       → Read accents t before out n' s.next s.quoted
   turn zero done l w out n' p q = absurd (omega arith)
   turn (suc f) done l w out n' p q =
       record {
         fuel = f;
-        done = done ++ madeBy s;
+        done = done ++ made_by s;
         enough = omega arith;
         size = p;
         stored = q;

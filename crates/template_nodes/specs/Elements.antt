@@ -3,11 +3,11 @@ use Rattle.std.specs.Prelude.{◌≡◌, refl, Bool, true, false, List, ℕ, ◌
 use Rattle.std.specs.Int.Bits.{bit_or}
 use Rattle.base_notation.specs.Choice.{if◌then◌else◌}
 use Rattle.base_notation.specs.Text.{utf8}
-use Rattle.template_patterns.specs.Affixes.{affixLength, bit_at}
-use Rattle.template_patterns.specs.Search.{patternAt}
+use Rattle.template_patterns.specs.Affixes.{affix_length, bit_at}
+use Rattle.template_patterns.specs.Search.{pattern_at}
 use Rattle.template_patterns.specs.declared.Found.{Found}
 use Rattle.template_patterns.specs.declared.Found.TheVariants.{Pattern, Nothing}
-use Rattle.template_nodes.specs.Template.{literalAt, skip}
+use Rattle.template_nodes.specs.Template.{literal_at, skip}
 use Rattle.template_nodes.specs.declared.Element.{Element}
 use Rattle.template_nodes.specs.declared.Step.{Step}
 
@@ -19,20 +19,20 @@ nowhere next = record { found = false; start = 0; len = 0; number = 0; bits = 0;
 abbrev pub named_at : List ℕ → ℕ → ℕ → ℕ → ℕ → Element
 named_at t at prefix number len =
     let suffix = bit_at false t (at + len) in
-    record { found = true; start = at; len = len; number = number; bits = bit_or prefix suffix; next = at + len + affixLength suffix }
+    record { found = true; start = at; len = len; number = number; bits = bit_or prefix suffix; next = at + len + affix_length suffix }
 
 -- the pattern that was found, or none
-abbrev pub elementIn : Found → List ℕ → ℕ → ℕ → Element
-elementIn (Pattern number len) t at prefix = named_at t at prefix number len
-elementIn Nothing t at prefix = nowhere at
+abbrev pub element_in : Found → List ℕ → ℕ → ℕ → Element
+element_in (Pattern number len) t at prefix = named_at t at prefix number len
+element_in Nothing t at prefix = nowhere at
 
 -- outside quotes a prefix, if there is one, and the pattern after it; in quotes there is no pattern
-abbrev pub elementFrom : List ℕ → ℕ → Bool → Element
-elementFrom t at quoted =
+abbrev pub element_from : List ℕ → ℕ → Bool → Element
+element_from t at quoted =
     if quoted then nowhere at
     else (let prefix = bit_at true t at in
-    let start = at + affixLength prefix in
-    if ltb start (length t) then elementIn (patternAt t start) t start prefix else nowhere start)
+    let start = at + affix_length prefix in
+    if ltb start (length t) then element_in (pattern_at t start) t start prefix else nowhere start)
 
 -- r is the element e from a place on; a pattern takes at least one byte
 pub record Made (at : ℕ) (e r : Element) : Type 0 where
@@ -42,7 +42,7 @@ pub record Made (at : ℕ) (e r : Element) : Type 0 where
 
 -- a literal, or nothing at the end
 abbrev pub rest_at : Bool → List ℕ → ℕ → Bool → Step
-rest_at accents t at quoted = if ltb at (length t) then literalAt accents t at quoted else skip at quoted
+rest_at accents t at quoted = if ltb at (length t) then literal_at accents t at quoted else skip at quoted
 
 -- r is the step s from a place on, which takes at least one byte before the end
 pub record Rested (size at : ℕ) (s r : Step) : Type 0 where
@@ -51,6 +51,6 @@ pub record Rested (size at : ℕ) (s r : Step) : Type 0 where
   pub on : at < size → at < r.next
 
 -- FM before Month; in quotes there is none
-pub worked : (elementFrom (utf8 "FMMonth") 0 false ≡ record { found = true; start = 2; len = 5; number = 37; bits = 1; next = 7 }) × (elementFrom (utf8 "DD") 0 true ≡ nowhere 0)
-unfolding bit_at patternAt
+pub worked : (element_from (utf8 "FMMonth") 0 false ≡ record { found = true; start = 2; len = 5; number = 37; bits = 1; next = 7 }) × (element_from (utf8 "DD") 0 true ≡ nowhere 0)
+unfolding bit_at pattern_at
 worked = (refl, refl)

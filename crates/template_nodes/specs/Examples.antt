@@ -3,22 +3,22 @@ use Rattle.std.specs.Prelude.{◌≡◌, refl, List, [], ◌∷◌, ℕ}
 use Rattle.base_notation.specs.Text.{utf8}
 use Rattle.base_accents.specs.Accents.{measure-computes}
 use Rattle.template_patterns.specs.Affixes.{bit_at}
-use Rattle.template_patterns.specs.Search.{patternAt}
-use Rattle.template_nodes.specs.Template.{character, separator, space, literal, pattern, kind_of, charPlace, literalAt, plainAt, stepAt, nodesFrom, nodesBy, nodesOf}
+use Rattle.template_patterns.specs.Search.{pattern_at}
+use Rattle.template_nodes.specs.Template.{character, separator, space, literal, pattern, kind_of, char_place, literal_at, plain_at, step_at, nodes_from, nodes_by, nodes_of}
 
 -- unfolds all that the nodes of a template are computed by
 unfoldable pub nodes-compute : ℕ
-unfolding nodesBy nodesFrom stepAt plainAt charPlace literalAt patternAt bit_at kind_of measure-computes
+unfolding nodes_by nodes_from step_at plain_at char_place literal_at pattern_at bit_at kind_of measure-computes
 nodes-compute = 0
 
 -- no bytes, no nodes
-pub empty : nodesOf [] ≡ []
+pub empty : nodes_of [] ≡ []
 unfolding nodes-compute
 empty = refl
 
 -- a letter of two bytes is one node; a quoted space is a character
 pub vietnamese
-    : nodesOf (utf8 "\"ngày \"DD\" tháng \"MM")
+    : nodes_of (utf8 "\"ngày \"DD\" tháng \"MM")
     ≡ literal character 1 1
     ∷ literal character 2 1
     ∷ literal character 3 2
@@ -39,7 +39,7 @@ vietnamese = refl
 
 -- a prefix (1), a suffix (4), a separator and spaces outside quotes
 pub ordinal
-    : nodesOf (utf8 "FMMonth DDth, YYYY")
+    : nodes_of (utf8 "FMMonth DDth, YYYY")
     ≡ pattern 2 5 37 1
     ∷ literal space 7 1
     ∷ pattern 8 2 9 4
@@ -51,7 +51,7 @@ unfolding nodes-compute
 ordinal = refl
 
 pub time
-    : nodesOf (utf8 "HH24:MI:SS.US")
+    : nodes_of (utf8 "HH24:MI:SS.US")
     ≡ pattern 0 4 21 0
     ∷ literal separator 4 1
     ∷ pattern 5 2 32 0
@@ -64,21 +64,21 @@ unfolding nodes-compute
 time = refl
 
 -- quotes that stay open, with a quote after a backslash in them
-pub open-quote : nodesOf (utf8 "\"a\\\"b") ≡ literal character 1 1 ∷ literal character 3 1 ∷ literal character 4 1 ∷ []
+pub open-quote : nodes_of (utf8 "\"a\\\"b") ≡ literal character 1 1 ∷ literal character 3 1 ∷ literal character 4 1 ∷ []
 unfolding nodes-compute
 open-quote = refl
 
 -- outside quotes a backslash makes the quote after it plain, which is a separator
-pub escaped : nodesOf (utf8 "\\\"x") ≡ literal separator 1 1 ∷ literal character 2 1 ∷ []
+pub escaped : nodes_of (utf8 "\\\"x") ≡ literal separator 1 1 ∷ literal character 2 1 ∷ []
 unfolding nodes-compute
 escaped = refl
 
 -- a prefix before a literal and one at the end are dropped
-pub dropped : nodesOf (utf8 "FM\"x\"FM") ≡ literal character 3 1 ∷ []
+pub dropped : nodes_of (utf8 "FM\"x\"FM") ≡ literal character 3 1 ∷ []
 unfolding nodes-compute
 dropped = refl
 
 -- the longest name first: SSSSS, then SS
-pub seconds : nodesOf (utf8 "SSSSSSS") ≡ pattern 0 5 44 0 ∷ pattern 5 2 46 0 ∷ []
+pub seconds : nodes_of (utf8 "SSSSSSS") ≡ pattern 0 5 44 0 ∷ pattern 5 2 46 0 ∷ []
 unfolding nodes-compute
 seconds = refl

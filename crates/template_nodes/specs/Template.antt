@@ -4,11 +4,11 @@ use Rattle.std.specs.Prelude.{◌≡◌, Bool, true, false, not, ◌&&◌, ◌||
 use Prim.Native.Char.{code}
 use Rattle.std.specs.Int.Bits.{bit_or}
 use Rattle.base_notation.specs.Choice.{if◌then◌else◌}
-use Rattle.base_notation.specs.Text.{byteAt}
-use Rattle.base_chars.specs.Class.{isSeparator, isSpace}
-use Rattle.base_accents.specs.Accents.{measureOf}
-use Rattle.template_patterns.specs.Affixes.{bit_at, affixLength}
-use Rattle.template_patterns.specs.Search.{patternAt}
+use Rattle.base_notation.specs.Text.{byte_at}
+use Rattle.base_chars.specs.Class.{is_separator, is_space}
+use Rattle.base_accents.specs.Accents.{measure_of}
+use Rattle.template_patterns.specs.Affixes.{bit_at, affix_length}
+use Rattle.template_patterns.specs.Search.{pattern_at}
 use Rattle.template_patterns.specs.declared.Found.{Found}
 use Rattle.template_patterns.specs.declared.Found.TheVariants.{Pattern, Nothing}
 use Rattle.template_nodes.specs.declared.Node.{Node}
@@ -38,7 +38,7 @@ backslash = code "\\"
 
 -- the kind of a character outside quotes, by its first byte
 unfoldable pub kind_of : ℕ → ℕ
-kind_of b = if isSeparator b then separator else if isSpace b then space else character
+kind_of b = if is_separator b then separator else if is_space b then space else character
 
 -- a literal character of a kind
 abbrev pub literal : ℕ → ℕ → ℕ → Node
@@ -50,17 +50,17 @@ pattern start len number bits =
     record { start = start; len = len; kind = action; pattern = number; suffix = bits; accents = false }
 
 -- a node of the accents mode, or of the other
-abbrev pub inMode : Bool → Node → Node
-inMode accents n =
+abbrev pub in_mode : Bool → Node → Node
+in_mode accents n =
     record { start = n.start; len = n.len; kind = n.kind; pattern = n.pattern; suffix = n.suffix; accents = accents }
 
 -- what comes after the last node
-abbrev pub endNode : Node
-endNode = literal end 0 0
+abbrev pub end_node : Node
+end_node = literal end 0 0
 
 -- a step that makes no node, and one that makes a node
 abbrev pub skip : ℕ → Bool → Step
-skip next quoted = record { made = false; node = endNode; next = next; quoted = quoted }
+skip next quoted = record { made = false; node = end_node; next = next; quoted = quoted }
 
 abbrev pub make : Node → ℕ → Bool → Step
 make node next quoted = record { made = true; node = node; next = next; quoted = quoted }
@@ -68,83 +68,83 @@ make node next quoted = record { made = true; node = node; next = next; quoted =
 -- one character as a node
 abbrev pub char_at : Bool → List ℕ → ℕ → ℕ → Bool → Step
 char_at accents t at kind quoted =
-    let n = measureOf accents t at in make (inMode accents (literal kind at n)) (at + n) quoted
+    let n = measure_of accents t at in make (in_mode accents (literal kind at n)) (at + n) quoted
 
 -- a backslash at a place makes the next character plain: in quotes unless it is the last byte,
 -- outside quotes only before a quote
 abbrev pub escapes : List ℕ → ℕ → Bool → Bool
-escapes t at quoted = eqb (byteAt t at) backslash && (if quoted then ltb (at + 1) (length t) else eqb (byteAt t (at + 1)) quote)
+escapes t at quoted = eqb (byte_at t at) backslash && (if quoted then ltb (at + 1) (length t) else eqb (byte_at t (at + 1)) quote)
 
 -- a character in quotes that neither ends them nor makes the next one plain
-abbrev pub isQuotedChar : List ℕ → ℕ → Bool → Bool
-isQuotedChar t at quoted = quoted && (not (eqb (byteAt t at) quote) && not (eqb (byteAt t at) backslash))
+abbrev pub is_quoted_char : List ℕ → ℕ → Bool → Bool
+is_quoted_char t at quoted = quoted && (not (eqb (byte_at t at) quote) && not (eqb (byte_at t at) backslash))
 
 -- a byte below 64 that is a node by itself wherever it is outside quotes: a space, or a separator but for a quote
-abbrev pub isSingle : ℕ → Bool
-isSingle b = ltb b 64 && ((isSpace b || isSeparator b) && not (eqb b quote))
+abbrev pub is_single : ℕ → Bool
+is_single b = ltb b 64 && ((is_space b || is_separator b) && not (eqb b quote))
 
 -- where the literal character is
-unfoldable pub charPlace : List ℕ → ℕ → Bool → ℕ
-charPlace t at quoted = if escapes t at quoted then at + 1 else at
+unfoldable pub char_place : List ℕ → ℕ → Bool → ℕ
+char_place t at quoted = if escapes t at quoted then at + 1 else at
 
 -- r is that place, within the template
 pub record Placed (t : List ℕ) (at : ℕ) (quoted : Bool) (r : ℕ) : Type 0 where
-  pub is : r ≡ charPlace t at quoted
+  pub is : r ≡ char_place t at quoted
   pub from : at ≤ r
   pub near : r ≤ at + 1
   pub within : r < length t
 
 -- a quote begins or ends a quoted text; any other character is a node, in quotes a plain character
-unfoldable pub literalAt : Bool → List ℕ → ℕ → Bool → Step
-literalAt accents t at quoted =
-    if eqb (byteAt t at) quote then skip (at + 1) (not quoted)
-    else let place = charPlace t at quoted in char_at accents t place (if quoted then character else kind_of (byteAt t place)) quoted
+unfoldable pub literal_at : Bool → List ℕ → ℕ → Bool → Step
+literal_at accents t at quoted =
+    if eqb (byte_at t at) quote then skip (at + 1) (not quoted)
+    else let place = char_place t at quoted in char_at accents t place (if quoted then character else kind_of (byte_at t place)) quoted
 
 -- a pattern's name at a place, and the suffix after it
-abbrev pub actionAt : Bool → List ℕ → ℕ → ℕ → ℕ → ℕ → Step
-actionAt accents t at prefix number len =
+abbrev pub action_at : Bool → List ℕ → ℕ → ℕ → ℕ → ℕ → Step
+action_at accents t at prefix number len =
     let suffix = bit_at false t (at + len) in
-    make (inMode accents (pattern at len number (bit_or prefix suffix))) (at + len + affixLength suffix) false
+    make (in_mode accents (pattern at len number (bit_or prefix suffix))) (at + len + affix_length suffix) false
 
 -- a pattern, or a literal: the prefix before a literal is dropped
-abbrev pub elementOf : Bool → Found → List ℕ → ℕ → ℕ → Step
-elementOf accents (Pattern number len) t at prefix = actionAt accents t at prefix number len
-elementOf accents Nothing t at prefix = literalAt accents t at false
+abbrev pub element_of : Bool → Found → List ℕ → ℕ → ℕ → Step
+element_of accents (Pattern number len) t at prefix = action_at accents t at prefix number len
+element_of accents Nothing t at prefix = literal_at accents t at false
 
-abbrev pub elementAt : Bool → List ℕ → ℕ → ℕ → Step
-elementAt accents t at prefix = elementOf accents (patternAt t at) t at prefix
+abbrev pub element_at : Bool → List ℕ → ℕ → ℕ → Step
+element_at accents t at prefix = element_of accents (pattern_at t at) t at prefix
 
 -- outside quotes: a prefix, if there is one, and what follows it; at the end the prefix is dropped
-unfoldable pub plainAt : Bool → List ℕ → ℕ → Step
-plainAt accents t at =
+unfoldable pub plain_at : Bool → List ℕ → ℕ → Step
+plain_at accents t at =
     let prefix = bit_at true t at in
-    let start = at + affixLength prefix in
-    if ltb start (length t) then elementAt accents t start prefix else skip start false
+    let start = at + affix_length prefix in
+    if ltb start (length t) then element_at accents t start prefix else skip start false
 
-unfoldable pub stepAt : Bool → List ℕ → ℕ → Bool → Step
-stepAt accents t at quoted = if quoted then literalAt accents t at true else plainAt accents t at
+unfoldable pub step_at : Bool → List ℕ → ℕ → Bool → Step
+step_at accents t at quoted = if quoted then literal_at accents t at true else plain_at accents t at
 
 -- r is the step s from at on; it takes at least one byte
 pub record Stepped (at : ℕ) (s r : Step) : Type 0 where
   pub is : r ≡ s
   pub on : at < r.next
 
-abbrev pub madeBy : Step → List Node
-madeBy s = if s.made then s.node ∷ [] else []
+abbrev pub made_by : Step → List Node
+made_by s = if s.made then s.node ∷ [] else []
 
 -- the nodes from a place on, in at most fuel steps
-unfoldable pub nodesFrom : Bool → ℕ → List ℕ → ℕ → Bool → List Node
-nodesFrom accents zero t at quoted = []
-nodesFrom accents (suc fuel) t at quoted =
+unfoldable pub nodes_from : Bool → ℕ → List ℕ → ℕ → Bool → List Node
+nodes_from accents zero t at quoted = []
+nodes_from accents (suc fuel) t at quoted =
     if ltb at (length t)
-    then (let s = stepAt accents t at quoted in madeBy s ++ nodesFrom accents fuel t s.next s.quoted)
+    then (let s = step_at accents t at quoted in made_by s ++ nodes_from accents fuel t s.next s.quoted)
     else []
 
 -- the nodes of a template in the accents mode or the other; each step takes a byte at least, so its length is enough
 -- fuel. Quotes may stay open at the end.
-unfoldable pub nodesBy : Bool → List ℕ → List Node
-nodesBy accents t = nodesFrom accents (length t) t 0 false
+unfoldable pub nodes_by : Bool → List ℕ → List Node
+nodes_by accents t = nodes_from accents (length t) t 0 false
 
 -- its nodes as PostgreSQL has them, each character by itself
-abbrev pub nodesOf : List ℕ → List Node
-nodesOf t = nodesBy false t
+abbrev pub nodes_of : List ℕ → List Node
+nodes_of t = nodes_by false t

@@ -1,8 +1,8 @@
 // The kind of a literal by its first byte.
 ghost use Rattle.std.specs.Prelude.{◌≡◌, true, not, ◌&&◌, ◌<◌, length};
 ghost use Rattle.base_notation.specs.Choice.{if◌then◌else◌};
-ghost use Rattle.base_notation.specs.Text.{byteAt};
-ghost use Rattle.template_nodes.specs.Template.{character, isSingle, kind_of};
+ghost use Rattle.base_notation.specs.Text.{byte_at};
+ghost use Rattle.template_nodes.specs.Template.{character, is_single, kind_of};
 
 use crate::{FN_CHAR, FN_SEPARATOR, FN_SPACE};
 
@@ -32,7 +32,7 @@ pub fn literal_kind(quoted: bool, b: u8) -> u8
 // 64 are asked for: letters begin at 65.
 pub fn is_single(t: &[u8], at: usize, quoted: bool) -> bool
     requires { at < length t.now }
-    ensures { result ≡ (not quoted && isSingle (byteAt t.now at)) }
+    ensures { result ≡ (not quoted && is_single (byte_at t.now at)) }
 {
     if quoted {
         return false;
@@ -42,7 +42,7 @@ pub fn is_single(t: &[u8], at: usize, quoted: bool) -> bool
 
 // The kind of such a byte: the spaces come before the separators.
 pub fn single_kind(b: u8) -> u8
-    requires { isSingle b ≡ true }
+    requires { is_single b ≡ true }
     ensures { result ≡ kind_of b }
 {
     if b <= b' ' {

@@ -5,11 +5,11 @@ mod marks;
 ghost use Rattle.std.specs.Prelude.{◌≡◌, ◌+◌, ◌*◌, ◌/◌, ◌%◌, ◌<◌, ◌≤◌, true, false, [], ◌∷◌, length, get_or};
 ghost use Rattle.base_notation.specs.Choice.{if◌then◌else◌};
 ghost use Rattle.std.proofs.lemmas.List.Edits.{sets};
-ghost use Rattle.template_patterns.specs.Affixes.{affixLength};
-ghost use Rattle.template_patterns.specs.Search.{patternAt};
-ghost use Rattle.template_nodes.specs.Template.{Placed, Stepped, char_at, endNode, inMode, isQuotedChar, literal, literalAt, nodesBy, skip};
-ghost use Rattle.template_nodes.specs.Elements.{Made, Rested, elementFrom, elementIn, named_at, nowhere, rest_at};
-ghost use Rattle.template_nodes.specs.Bytes.{Parsed, Put, bytes_of, modeBit, nodesIn};
+ghost use Rattle.template_patterns.specs.Affixes.{affix_length};
+ghost use Rattle.template_patterns.specs.Search.{pattern_at};
+ghost use Rattle.template_nodes.specs.Template.{Placed, Stepped, char_at, end_node, in_mode, is_quoted_char, literal, literal_at, nodes_by, skip};
+ghost use Rattle.template_nodes.specs.Elements.{Made, Rested, element_from, element_in, named_at, nowhere, rest_at};
+ghost use Rattle.template_nodes.specs.Bytes.{Parsed, Put, bytes_of, mode_bit, nodes_in};
 
 pub use marks::has_lone_mark;
 use template_patterns::Found;
@@ -119,7 +119,7 @@ fn char_place(t: &[u8], at: usize, quoted: bool) -> usize
 // A quote, or one literal character.
 fn literal_step(accents: bool, t: &[u8], at: usize, quoted: bool) -> Step
     requires { (at < length t.now) × (length t.now ≤ 256) }
-    ensures { Stepped at (literalAt accents t.now at quoted) result }
+    ensures { Stepped at (literal_at accents t.now at quoted) result }
 {
     if t[at] == b'"' {
         return skipped(at + 1, !quoted);
@@ -136,7 +136,7 @@ fn literal_step(accents: bool, t: &[u8], at: usize, quoted: bool) -> Step
 
 fn past_affix(at: usize, bit: u8) -> usize
     requires { at ≤ 512 }
-    ensures { result ≡ at + affixLength bit }
+    ensures { result ≡ at + affix_length bit }
 {
     if bit == 0 { at } else { at + 2 }
 }
@@ -185,7 +185,7 @@ fn named(t: &[u8], at: usize, prefix: u8, number: usize, len: usize) -> Element
 // A pattern, or none, after a prefix.
 fn element_after(t: &[u8], at: usize, prefix: u8) -> Element
     requires { (at < length t.now) × (length t.now ≤ 256) }
-    ensures { Made at (elementIn (patternAt t.now at) t.now at prefix) result }
+    ensures { Made at (element_in (pattern_at t.now at) t.now at prefix) result }
 {
     match template_patterns::fmt_index_search(t, at) {
         Found::Pattern { number, len } => named(t, at, prefix, number, len),
@@ -196,7 +196,7 @@ fn element_after(t: &[u8], at: usize, prefix: u8) -> Element
 // What is at a place. In quotes there is no pattern.
 fn element_at(t: &[u8], at: usize, quoted: bool) -> Element
     requires { (at < length t.now) × (length t.now ≤ 256) }
-    ensures { Made at (elementFrom t.now at quoted) result }
+    ensures { Made at (element_from t.now at quoted) result }
 {
     if quoted {
         return no_pattern(at);
@@ -223,7 +223,7 @@ fn rest_step(accents: bool, t: &[u8], at: usize, quoted: bool) -> Step
 // Whether a character in quotes is just that: neither the end of them nor a backslash.
 fn is_quoted_char(t: &[u8], at: usize, quoted: bool) -> bool
     requires { at < length t.now }
-    ensures { result ≡ isQuotedChar t.now at quoted }
+    ensures { result ≡ is_quoted_char t.now at quoted }
 {
     if !quoted {
         return false;
@@ -236,7 +236,7 @@ fn is_quoted_char(t: &[u8], at: usize, quoted: bool) -> bool
 
 // The last byte of a node: the bits of its prefix and suffix, and that of its mode.
 fn last_byte(suffix: u8, accents: bool) -> u8
-    ensures { result ≡ suffix % modeBit + (if accents then modeBit else 0) }
+    ensures { result ≡ suffix % mode_bit + (if accents then mode_bit else 0) }
 {
     let bits = suffix % MODE;
     if accents { bits + MODE } else { bits }
@@ -259,7 +259,7 @@ fn put_bytes(out: &mut [u8], i: usize, start: u8, len: u16, kind: u8, pattern: u
 // Puts the node of a literal.
 fn put_literal(accents: bool, out: &mut [u8], i: usize, start: usize, len: usize, kind: u8)
     requires { (6 * i + 6 ≤ length out.old) × (start < 256) × (len ≤ 256) }
-    ensures { out.new ≡ sets out.old (6 * i) (bytes_of (inMode accents (literal kind start len))) }
+    ensures { out.new ≡ sets out.old (6 * i) (bytes_of (in_mode accents (literal kind start len))) }
 {
     put_bytes(
         out,
@@ -288,7 +288,7 @@ fn put_made(out: &mut [u8], i: usize, s: Step) -> usize
 
 // Node i of any bytes, END after the last.
 pub fn node_at(c: &[u8], i: usize) -> Node
-    ensures { result ≡ get_or (nodesIn c.now) i endNode }
+    ensures { result ≡ get_or (nodes_in c.now) i end_node }
 {
     if i < c.len() / NODE {
         let at = NODE * i;
@@ -314,7 +314,7 @@ pub fn node_at(c: &[u8], i: usize) -> Node
 // Puts the bytes of a template's nodes into the buffer; the result is how many nodes they are. `accents` is the mode.
 pub fn parse_format(accents: bool, t: &[u8], out: &mut [u8]) -> usize
     requires { (length t.now ≤ 256) × (1536 ≤ length out.old) }
-    ensures { Parsed (nodesBy accents t.now) out.old out.new result }
+    ensures { Parsed (nodes_by accents t.now) out.old out.new result }
 {
     let mut n: usize = 0;
     let mut at: usize = 0;

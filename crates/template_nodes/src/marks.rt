@@ -1,13 +1,13 @@
 // Accent marks that count alone in a compiled template.
 ghost use Rattle.std.specs.Prelude.{◌≡◌};
-ghost use Rattle.template_nodes.specs.Joined.{hasLoneMark, isMark};
-ghost use Rattle.template_nodes.specs.Bytes.{nodesIn};
+ghost use Rattle.template_nodes.specs.Joined.{has_lone_mark, is_mark};
+ghost use Rattle.template_nodes.specs.Bytes.{nodes_in};
 
 use crate::{FN_ACTION, NODE, Node, node_at};
 
 // Whether a node is a mark that counts alone.
 fn is_lone_mark(t: &[u8], n: Node) -> bool
-    ensures { result ≡ isMark t.now n }
+    ensures { result ≡ is_mark t.now n }
 {
     if n.kind == FN_ACTION {
         return false;
@@ -17,7 +17,7 @@ fn is_lone_mark(t: &[u8], n: Node) -> bool
 
 // Whether a mark counts alone in the template that was compiled to these bytes. Any bytes are taken for nodes.
 pub fn has_lone_mark(c: &[u8], t: &[u8]) -> bool
-    ensures { result ≡ hasLoneMark t.now (nodesIn c.now) }
+    ensures { result ≡ has_lone_mark t.now (nodes_in c.now) }
 {
     let count = c.len() / NODE;
     let mut i = 0;

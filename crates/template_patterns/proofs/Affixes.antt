@@ -14,11 +14,11 @@ use lib.ListN.{length, get_or-eq_default}
 use lib.Seq.{drop-cons}
 use Rattle.base_notation.proofs.Bytes.{byte-within}
 use Rattle.base_notation.proofs.Cases.{by-if}
-use Rattle.base_notation.specs.Text.{byteAt}
-use Rattle.template_patterns.specs.Affixes.{affixLength, bit_at}
+use Rattle.base_notation.specs.Text.{byte_at}
+use Rattle.template_patterns.specs.Affixes.{affix_length, bit_at}
 use Rattle.template_patterns.proofs.Names.{There}
 
-pub by-letters : (wanted : Bool) (t : List ℕ) (at : ℕ) → bit_at wanted t at ≡ bit_at wanted (byteAt t at ∷ byteAt t (at + 1) ∷ []) 0
+pub by-letters : (wanted : Bool) (t : List ℕ) (at : ℕ) → bit_at wanted t at ≡ bit_at wanted (byte_at t at ∷ byte_at t (at + 1) ∷ []) 0
 unfolding bit_at
 by-letters wanted t at = refl
 
@@ -32,13 +32,13 @@ none-past false t at h = simp (get_or-eq_default t 0 h)
 below : (b c : ℕ) → b < 70 → 70 ≤ c → eqb b c ≡ false
 below b c h l = ne_eqb b c (λ q. omega arith)
 
-pub none_below : (wanted : Bool) (t : List ℕ) (at : ℕ) → byteAt t at < 70 → bit_at wanted t at ≡ 0
+pub none_below : (wanted : Bool) (t : List ℕ) (at : ℕ) → byte_at t at < 70 → bit_at wanted t at ≡ 0
 unfolding bit_at
 none_below true t at h = simp (below _ 70 h (omega arith), below _ 102 h (omega arith), below _ 84 h (omega arith), below _ 116 h (omega arith))
 none_below false t at h = simp (below _ 84 h (omega arith), below _ 116 h (omega arith), below _ 83 h (omega arith))
 
 -- an affix has at most two letters
-pub affix-short : (bit : ℕ) → affixLength bit ≤ 2
+pub affix-short : (bit : ℕ) → affix_length bit ≤ 2
 affix-short bit = by-if (λ (n : ℕ). n ≤ 2) (eqb bit 0) 0 2 (λ e. omega arith) (λ e. omega arith)
 
 -- an affix has a second letter
@@ -51,7 +51,7 @@ second-letter false a b e = simp (e, and-false)
 pub record AffixThere (wanted : Bool) (t : List ℕ) (at : ℕ) : Type 0 where
   pub name : List ℕ
   pub there : There name t at
-  pub size : length name ≡ affixLength (bit_at wanted t at)
+  pub size : length name ≡ affix_length (bit_at wanted t at)
   pub same : bit_at wanted name 0 ≡ bit_at wanted t at
 
 pub affix-there : (wanted : Bool) (t : List ℕ) (at : ℕ) → at ≤ length t → AffixThere wanted t at
@@ -68,10 +68,10 @@ affix-there wanted t at h = by (eqb (bit_at wanted t at) 0) refl
         }
     by false e =
         let inside : at + 1 < length t =
-        byte-within t (at + 1) (λ z. eqb-false _ _ e (by-letters wanted t at ∙ second-letter wanted (byteAt t at) (byteAt t (at + 1)) z)) in
+        byte-within t (at + 1) (λ z. eqb-false _ _ e (by-letters wanted t at ∙ second-letter wanted (byte_at t at) (byte_at t (at + 1)) z)) in
         let two : suc (at + 1) ≡ at + 2 = omega arith in
         record {
-          name = byteAt t at ∷ byteAt t (at + 1) ∷ [];
+          name = byte_at t at ∷ byte_at t (at + 1) ∷ [];
           there = record {
             within = omega arith;
             rest = drop-cons t at 0 (omega arith) ∙ rw (← add-one at, drop-cons t (at + 1) 0 inside, two);

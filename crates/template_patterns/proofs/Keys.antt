@@ -15,10 +15,10 @@ use lib.ListN.{length, get_or-eq_default}
 use lib.Pow.{mod-pow-add}
 use Rattle.base_notation.proofs.Cases.{both}
 use Rattle.base_notation.proofs.Table.{all_from, entry}
-use Rattle.base_notation.specs.Text.{byteAt, utf8}
-use Rattle.template_patterns.specs.Numbers.{fiveAt, nameNumber, number_of, packed}
-use Rattle.template_patterns.specs.Patterns.{names, name_of, patternOf, patterns}
-use Rattle.template_patterns.specs.Search.{firstWith, matchesAt, start_of}
+use Rattle.base_notation.specs.Text.{byte_at, utf8}
+use Rattle.template_patterns.specs.Numbers.{five_at, name_number, number_of, packed}
+use Rattle.template_patterns.specs.Patterns.{names, name_of, pattern_of, patterns}
+use Rattle.template_patterns.specs.Search.{first_with, matches_at, start_of}
 use Rattle.template_patterns.proofs.Names.{head, name-is, name-length}
 
 -- a number is one of some
@@ -32,7 +32,7 @@ is_byte j c = ltb c 256
 -- the computed test
 abbrev parted : ℕ → List ℕ → Bool
 parted k n =
-    eqb (number_of n % 256) (byteAt n 0)
+    eqb (number_of n % 256) (byte_at n 0)
     && (eqb (number_of n / 2 ^ 40) (8 * length n)
     && (eqb (number_of n / 2 ^ 43) (length n)
     && (eqb (number_of n % 2 ^ (8 * length n)) (packed n)
@@ -40,14 +40,14 @@ parted k n =
 
 -- the parts of the number of pattern k's name
 pub record Parts (k : ℕ) : Type 0 where
-  pub first : nameNumber k % 256 ≡ head k
-  pub bits : nameNumber k / 2 ^ 40 ≡ 8 * length (name_of k)
-  pub size : nameNumber k / 2 ^ 43 ≡ length (name_of k)
-  pub low : nameNumber k % 2 ^ (8 * length (name_of k)) ≡ packed (name_of k)
+  pub first : name_number k % 256 ≡ head k
+  pub bits : name_number k / 2 ^ 40 ≡ 8 * length (name_of k)
+  pub size : name_number k / 2 ^ 43 ≡ length (name_of k)
+  pub low : name_number k % 2 ^ (8 * length (name_of k)) ≡ packed (name_of k)
   pub bytes : all_from is_byte 0 (name_of k) ≡ true
 
 pub number-parts : (k : ℕ) → k < 112 → Parts k
-unfolding nameNumber
+unfolding name_number
 number-parts k h =
     let tests = both (eqb (number_of (name_of k) % 256) (head k)) _ (rw (name-is k) at (entry parted [] names refl k h)) in
     let after_first = both (eqb (number_of (name_of k) / 2 ^ 40) _) _ tests.1 in
@@ -62,9 +62,9 @@ number-parts k h =
     }
 
 -- past the table a name has no bytes
-pub past-numbers : (k : ℕ) → 112 ≤ k → nameNumber k ≡ 0
-unfolding nameNumber
-past-numbers k h = rw (get_or-eq_default patterns (patternOf 112) h)
+pub past-numbers : (k : ℕ) → 112 ≤ k → name_number k ≡ 0
+unfolding name_number
+past-numbers k h = rw (get_or-eq_default patterns (pattern_of 112) h)
 
 -- c is none of some bytes, as a match says of its last arm
 abbrev pub NoneOf : ℕ → List ℕ → Type 0
@@ -72,8 +72,8 @@ NoneOf c [] = Unit {0}
 NoneOf c (b ∷ bs) = NoneOf c bs × (c ≡ b → ⊥)
 
 -- the first bytes of the names, the last first
-abbrev pub firstBytes : List ℕ
-firstBytes = utf8 "ywutsrqpomjihfdcbaYWUTSRQPOMJIHFDCBA"
+abbrev pub first_bytes : List ℕ
+first_bytes = utf8 "ywutsrqpomjihfdcbaYWUTSRQPOMJIHFDCBA"
 
 another : (c : ℕ) (bs : List ℕ) → NoneOf c bs → (n : ℕ) → elem n bs ≡ true → eqb n c ≡ false
 another c [] none n e = absurd (false≢true e)
@@ -84,13 +84,13 @@ another c (b ∷ bs) none n e = split (eqb n b) refl (another c bs none.0 n)
     split false q rest = rest (rw q at e)
 
 -- then no name begins with it
-none_from : (c k : ℕ) (ns : List (List ℕ)) → NoneOf c firstBytes → all_from (λ (j : ℕ) (n : List ℕ). elem (byteAt n 0) firstBytes) k ns ≡ true → firstWith k c ns ≡ k + length ns
+none_from : (c k : ℕ) (ns : List (List ℕ)) → NoneOf c first_bytes → all_from (λ (j : ℕ) (n : List ℕ). elem (byte_at n 0) first_bytes) k ns ≡ true → first_with k c ns ≡ k + length ns
 none_from c k [] none e = omega arith
 none_from c k (n ∷ ns) none e =
-    let tests = both (elem (byteAt n 0) firstBytes) _ e in
-    rw (another c firstBytes none (byteAt n 0) tests.0) (none_from c (suc k) ns none tests.1 ∙ omega arith)
+    let tests = both (elem (byte_at n 0) first_bytes) _ e in
+    rw (another c first_bytes none (byte_at n 0) tests.0) (none_from c (suc k) ns none tests.1 ∙ omega arith)
 
-pub no_start : (c : ℕ) → NoneOf c firstBytes → start_of c ≡ 112
+pub no_start : (c : ℕ) → NoneOf c first_bytes → start_of c ≡ 112
 unfolding start_of
 no_start c none = none_from c 0 names none refl
 
@@ -103,19 +103,19 @@ same_parts b c x y p q = split (eqb b c) refl (eqb x y) refl
     split true d false e = let two = eqb-false x y e in let one = eqb-true b c d in ne_eqb (x * 256 + b) (c + 256 * y) (λ z. two (omega arith))
     split false d v e = let one = eqb-false b c d in ne_eqb (x * 256 + b) (c + 256 * y) (λ z. one (omega arith))
 
-module _ (t : List ℕ) (bytes : (i : ℕ) → byteAt t i < 256) where
+module _ (t : List ℕ) (bytes : (i : ℕ) → byte_at t i < 256) where
   -- n bytes from a place on
   abbrev packed_at : ℕ → ℕ → ℕ
   packed_at zero at = 0
-  packed_at (suc n) at = byteAt t at + 256 * packed_at n (at + 1)
+  packed_at (suc n) at = byte_at t at + 256 * packed_at n (at + 1)
 
   low_bits : (name : List ℕ) (i n at : ℕ) → all_from is_byte i name ≡ true → length name ≤ n
-      → eqb (packed_at n at % 2 ^ (8 * length name)) (packed name) ≡ matchesAt name t at
+      → eqb (packed_at n at % 2 ^ (8 * length name)) (packed name) ≡ matches_at name t at
   low_bits [] i n at p h = rw mod-one
   low_bits (c ∷ cs) i zero at p h = absurd (not-suc-le-zero h)
   low_bits (c ∷ cs) i (suc n) at p h =
       let in-range = both (ltb c 256) _ p in
-      let b = byteAt t at in
+      let b = byte_at t at in
       let rest = packed_at n (at + 1) in
       let small = bytes at in
       let more : 8 * suc (length cs) ≡ 8 * length cs + 8 = omega arith in
@@ -130,17 +130,17 @@ module _ (t : List ℕ) (bytes : (i : ℕ) → byteAt t i < 256) where
         low_bits cs (suc i) n (at + 1) in-range.1 (omega arith),
       )
 
-  five-is : (at : ℕ) → fiveAt t at ≡ packed_at 5 at
+  five-is : (at : ℕ) → five_at t at ≡ packed_at 5 at
   five-is at =
       let two : at + 1 + 1 ≡ at + 2 = omega arith in
       let three : at + 2 + 1 ≡ at + 3 = omega arith in
       let four : at + 3 + 1 ≡ at + 4 = omega arith in
       rw (two, three, four)
 
-  pub key-begins : (at k : ℕ) → k < 112 → eqb (fiveAt t at % 2 ^ (nameNumber k / 2 ^ 40)) (nameNumber k % 2 ^ (nameNumber k / 2 ^ 40)) ≡ matchesAt (name_of k) t at
+  pub key-begins : (at k : ℕ) → k < 112 → eqb (five_at t at % 2 ^ (name_number k / 2 ^ 40)) (name_number k % 2 ^ (name_number k / 2 ^ 40)) ≡ matches_at (name_of k) t at
   key-begins at k h =
       let parts = number-parts k h in
       rw (parts.bits, parts.low, five-is at) (low_bits (name_of k) 0 5 at parts.bytes (name-length k h).1)
 
-  pub key-first : (at : ℕ) → fiveAt t at % 256 ≡ byteAt t at
+  pub key-first : (at : ℕ) → five_at t at % 256 ≡ byte_at t at
   key-first at = omega (arith, bytes at)

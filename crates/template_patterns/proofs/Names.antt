@@ -17,10 +17,10 @@ use lib.Seq.{drop-cons}
 use Rattle.base_notation.proofs.Bytes.{byte-within}
 use Rattle.base_notation.proofs.Cases.{both}
 use Rattle.base_notation.proofs.Table.{all_from, entry}
-use Rattle.base_notation.specs.Text.{byteAt}
-use Rattle.template_patterns.specs.Patterns.{Pattern, patterns, names, name_of, patternOf}
+use Rattle.base_notation.specs.Text.{byte_at}
+use Rattle.template_patterns.specs.Patterns.{Pattern, patterns, names, name_of, pattern_of}
 use Rattle.template_patterns.specs.Rows.{filled}
-use Rattle.template_patterns.specs.Search.{matchesAt, nameTable}
+use Rattle.template_patterns.specs.Search.{matches_at, name_table}
 use Rattle.template_patterns.proofs.Rows.{row-byte, in-name, past-name}
 
 -- the name of number k, by either table
@@ -36,7 +36,7 @@ spaceless k n = all_from (λ (j c : ℕ). not (eqb c 32)) 0 n
 
 -- the first byte of a name
 abbrev pub head : ℕ → ℕ
-head k = byteAt (name_of k) 0
+head k = byte_at (name_of k) 0
 
 module _ (k : ℕ) (here : k < 112) where
   pub name-length : (1 ≤ length (name_of k)) × (length (name_of k) ≤ 5)
@@ -50,12 +50,12 @@ module _ (k : ℕ) (here : k < 112) where
       eqb-false _ _ (not-true _ (entry (λ (j c : ℕ). not (eqb c 32)) 0 (name_of k) passed j h))
 
   -- byte j of the name's row
-  pub name-byte : (j : ℕ) → j < 5 → get_or nameTable (5 * k + j) 0 ≡ get_or (filled 5 (name_of k)) j 0
-  unfolding nameTable
+  pub name-byte : (j : ℕ) → j < 5 → get_or name_table (5 * k + j) 0 ≡ get_or (filled 5 (name_of k)) j 0
+  unfolding name_table
   name-byte j h = rw (← name-is k) (row-byte 5 names 0 k j refl here h)
 
   -- a space of the row is past the name
-  pub at-space : (j : ℕ) → j < 5 → get_or nameTable (5 * k + j) 0 ≡ 32 → length (name_of k) ≤ j
+  pub at-space : (j : ℕ) → j < 5 → get_or name_table (5 * k + j) 0 ≡ 32 → length (name_of k) ≤ j
   at-space j h e = split (ltb j (length (name_of k))) refl
     where
       split : (b : Bool) → ltb j (length (name_of k)) ≡ b → length (name_of k) ≤ j
@@ -65,23 +65,23 @@ module _ (k : ℕ) (here : k < 112) where
       split false q = ltb-false _ _ q
 
   -- any other byte of the row is the name's
-  pub at-letter : (j : ℕ) → j < 5 → (get_or nameTable (5 * k + j) 0 ≡ 32 → ⊥) → (j < length (name_of k)) × (get_or nameTable (5 * k + j) 0 ≡ get_or (name_of k) j 0)
+  pub at-letter : (j : ℕ) → j < 5 → (get_or name_table (5 * k + j) 0 ≡ 32 → ⊥) → (j < length (name_of k)) × (get_or name_table (5 * k + j) 0 ≡ get_or (name_of k) j 0)
   at-letter j h n = split (ltb j (length (name_of k))) refl
     where
-      split : (b : Bool) → ltb j (length (name_of k)) ≡ b → (j < length (name_of k)) × (get_or nameTable (5 * k + j) 0 ≡ get_or (name_of k) j 0)
+      split : (b : Bool) → ltb j (length (name_of k)) ≡ b → (j < length (name_of k)) × (get_or name_table (5 * k + j) 0 ≡ get_or (name_of k) j 0)
       split true q = let in-it = ltb-true _ _ q in (in-it, name-byte j h ∙ in-name 5 (name_of k) j in-it)
       split false q = absurd (n (name-byte j h ∙ past-name 5 (name_of k) j (ltb-false _ _ q) h))
 
 -- one byte of the comparison
-matchesAt-step : (name t : List ℕ) (at j : ℕ) → j < length name → matchesAt (drop j name) t (at + j) ≡ (eqb (byteAt t (at + j)) (get_or name j 0) && matchesAt (drop (j + 1) name) t (at + (j + 1)))
-matchesAt-step name t at j h =
+matches_at-step : (name t : List ℕ) (at j : ℕ) → j < length name → matches_at (drop j name) t (at + j) ≡ (eqb (byte_at t (at + j)) (get_or name j 0) && matches_at (drop (j + 1) name) t (at + (j + 1)))
+matches_at-step name t at j h =
     let same : at + j + 1 ≡ at + (j + 1) = omega arith in
     rw (drop-cons name j 0 h, same, add-one j)
 
 module _ (name t : List ℕ) (at j : ℕ) where
   -- the byte is another: the name is not there
-  pub matches-not : j < length name → (byteAt t (at + j) ≡ get_or name j 0 → ⊥) → matchesAt (drop j name) t (at + j) ≡ false
-  matches-not h n = rw (matchesAt-step name t at j h, ne_eqb _ _ n)
+  pub matches-not : j < length name → (byte_at t (at + j) ≡ get_or name j 0 → ⊥) → matches_at (drop j name) t (at + j) ≡ false
+  matches-not h n = rw (matches_at-step name t at j h, ne_eqb _ _ n)
 
 -- a name is in t from a place on, and the rest of t after it
 pub record There (name t : List ℕ) (at : ℕ) : Type 0 where
@@ -92,12 +92,12 @@ pub record There (name t : List ℕ) (at : ℕ) : Type 0 where
 abbrev positive : ℕ → ℕ → Bool
 positive j c = ltb 0 c
 
-bytes-there : (name t : List ℕ) (i at : ℕ) → all_from positive i name ≡ true → at ≤ length t → matchesAt name t at ≡ true → There name t at
+bytes-there : (name t : List ℕ) (i at : ℕ) → all_from positive i name ≡ true → at ≤ length t → matches_at name t at ≡ true → There name t at
 bytes-there [] t i at p h e = let same : at + 0 ≡ at = omega arith in record { within = omega arith; rest = rw same }
 bytes-there (c ∷ cs) t i at p h e =
     let positive-bytes = both (ltb 0 c) _ p in
-    let same_bytes = both (eqb (byteAt t at) c) _ e in
-    let byte : byteAt t at ≡ c = eqb-true _ _ same_bytes.0 in
+    let same_bytes = both (eqb (byte_at t at) c) _ e in
+    let byte : byte_at t at ≡ c = eqb-true _ _ same_bytes.0 in
     let inside : at < length t = byte-within t at (λ z. omega (arith, ltb-true 0 c positive-bytes.0, byte)) in
     let after = bytes-there cs t (suc i) (at + 1) positive-bytes.1 (omega arith) same_bytes.1 in
     let same : at + 1 + length cs ≡ at + suc (length cs) = omega arith in
@@ -106,7 +106,7 @@ bytes-there (c ∷ cs) t i at p h e =
       rest = drop-cons t at 0 inside ∙ rw (byte, ← add-one at, after.rest, same);
     }
 
-pub name-there : (k : ℕ) → k < 112 → (t : List ℕ) (at : ℕ) → at ≤ length t → matchesAt (name_of k) t at ≡ true → There (name_of k) t at
+pub name-there : (k : ℕ) → k < 112 → (t : List ℕ) (at : ℕ) → at ≤ length t → matches_at (name_of k) t at ≡ true → There (name_of k) t at
 name-there k here t at h e =
     bytes-there (name_of k) t 0 at
     (rw (name-is k) at (entry (λ (j : ℕ) (n : List ℕ). all_from positive 0 n) [] names refl k here)) h e

@@ -13,7 +13,7 @@ use lib.ListN.{length, get_or, replicate, length-append, length-replicate, get_o
 use lib.Seq.{get_or-append-add}
 use Rattle.base_notation.proofs.Cases.{both}
 use Rattle.base_notation.proofs.Table.{all_from}
-use Rattle.template_patterns.specs.Rows.{filled, inRows}
+use Rattle.template_patterns.specs.Rows.{filled, in_rows}
 
 -- each name has at most n bytes
 abbrev pub within : ℕ → ℕ → List (List ℕ) → Bool
@@ -35,14 +35,14 @@ module _ (n : ℕ) (w : List ℕ) where
       rw same at (get_or-append-add w (replicate (n - length w) 32) (j - length w) 0) ∙ get_or-replicate (n - length w) (j - length w) 32 0 (omega arith)
 
 -- byte j of row k
-pub row-byte : (n : ℕ) (ws : List (List ℕ)) (i k j : ℕ) → within n i ws ≡ true → k < length ws → j < n → get_or (inRows n ws) (n * k + j) 0 ≡ get_or (filled n (get_or ws k [])) j 0
+pub row-byte : (n : ℕ) (ws : List (List ℕ)) (i k j : ℕ) → within n i ws ≡ true → k < length ws → j < n → get_or (in_rows n ws) (n * k + j) 0 ≡ get_or (filled n (get_or ws k [])) j 0
 row-byte n [] i k j e h l = absurd (not-suc-le-zero h)
 row-byte n (w ∷ ws) i zero j e h l =
     let row-length : length (filled n w) ≡ n = filled-length n w (leb-true _ _ (both (leb (length w) n) _ e).0) in
     let same : n * 0 + j ≡ j = omega arith in
-    rw same (get_or-append (filled n w) (inRows n ws) 0 j (rw row-length l))
+    rw same (get_or-append (filled n w) (in_rows n ws) 0 j (rw row-length l))
 row-byte n (w ∷ ws) i (suc k) j e h l =
     let row-length : length (filled n w) ≡ n = filled-length n w (leb-true _ _ (both (leb (length w) n) _ e).0) in
     let further : n * suc k + j ≡ n + (n * k + j) = omega (arith, mul-suc n k) in
-    let past_row = get_or-append-add (filled n w) (inRows n ws) (n * k + j) 0 in
+    let past_row = get_or-append-add (filled n w) (in_rows n ws) (n * k + j) 0 in
     rw further ((rw row-length at past_row) ∙ row-byte n ws (suc i) k j (both (leb (length w) n) _ e).1 (le_of_suc-le-suc h) l)

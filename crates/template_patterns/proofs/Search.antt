@@ -18,9 +18,9 @@ use lib.Seq.{drop-cons, drop-length, get_or-drop}
 use Rattle.base_notation.proofs.Cases.{both}
 use Rattle.base_notation.proofs.Table.{all_from, entry}
 use Rattle.base_notation.specs.Choice.{if◌then◌else◌}
-use Rattle.base_notation.specs.Text.{byteAt}
+use Rattle.base_notation.specs.Text.{byte_at}
 use Rattle.template_patterns.specs.Patterns.{names, name_of}
-use Rattle.template_patterns.specs.Search.{matchesAt, first_at, firstWith, patternAt, start_of}
+use Rattle.template_patterns.specs.Search.{matches_at, first_at, first_with, pattern_at, start_of}
 use Rattle.template_patterns.specs.declared.Found.{Found}
 use Rattle.template_patterns.specs.declared.Found.TheVariants.{Pattern, Nothing}
 use Rattle.template_patterns.proofs.Names.{name-is, name-length, head, matches-not}
@@ -29,29 +29,29 @@ use Rattle.template_patterns.proofs.Names.{name-is, name-length, head, matches-n
 record First (k c : ℕ) (ns : List (List ℕ)) (x : ℕ) : Type 0 where
   from : k ≤ x
   to : x ≤ k + length ns
-  own : (i : ℕ) → k + i ≡ x → i < length ns → byteAt (get_or ns i []) 0 ≡ c
-  others : (i : ℕ) → k + i < x → byteAt (get_or ns i []) 0 ≡ c → ⊥
+  own : (i : ℕ) → k + i ≡ x → i < length ns → byte_at (get_or ns i []) 0 ≡ c
+  others : (i : ℕ) → k + i < x → byte_at (get_or ns i []) 0 ≡ c → ⊥
 
-first-is : (ns : List (List ℕ)) (k c : ℕ) → First k c ns (firstWith k c ns)
+first-is : (ns : List (List ℕ)) (k c : ℕ) → First k c ns (first_with k c ns)
 first-is [] k c =
     record { from = omega arith; to = omega arith; own = λ i h l. absurd (not-suc-le-zero l); others = λ i h. absurd (omega (arith, h)) }
-first-is (n ∷ ns) k c = split (eqb (byteAt n 0) c) refl (first-is ns (suc k) c)
+first-is (n ∷ ns) k c = split (eqb (byte_at n 0) c) refl (first-is ns (suc k) c)
   where
-    split : (b : Bool) → eqb (byteAt n 0) c ≡ b → First (suc k) c ns (firstWith (suc k) c ns) → First k c (n ∷ ns) (if b then k else firstWith (suc k) c ns)
+    split : (b : Bool) → eqb (byte_at n 0) c ≡ b → First (suc k) c ns (first_with (suc k) c ns) → First k c (n ∷ ns) (if b then k else first_with (suc k) c ns)
     split true q f =
         record {
           from = omega arith;
           to = omega arith;
-          own = λ i. (elim i as (λ (i : ℕ). k + i ≡ k → i < suc (length ns) → byteAt (get_or (n ∷ ns) i []) 0 ≡ c) [ zero ↦ λ h l. eqb-true _ _ q | suc i ↦ λ h l. absurd (omega (arith, h)) ]);
+          own = λ i. (elim i as (λ (i : ℕ). k + i ≡ k → i < suc (length ns) → byte_at (get_or (n ∷ ns) i []) 0 ≡ c) [ zero ↦ λ h l. eqb-true _ _ q | suc i ↦ λ h l. absurd (omega (arith, h)) ]);
           others = λ i h. absurd (omega (arith, h));
         }
     split false q f =
-        let x = firstWith (suc k) c ns in
+        let x = first_with (suc k) c ns in
         record {
           from = omega (arith, f.from);
           to = omega (arith, f.to);
-          own = λ i. (elim i as (λ (i : ℕ). k + i ≡ x → i < suc (length ns) → byteAt (get_or (n ∷ ns) i []) 0 ≡ c) [ zero ↦ λ h l. absurd (omega (arith, h, f.from)) | suc i ↦ λ h l. f.own i (omega (arith, h)) (omega (arith, l)) ]);
-          others = λ i. (elim i as (λ (i : ℕ). k + i < x → byteAt (get_or (n ∷ ns) i []) 0 ≡ c → ⊥) [ zero ↦ λ h. eqb-false _ _ q | suc i ↦ λ h. f.others i (omega (arith, h)) ]);
+          own = λ i. (elim i as (λ (i : ℕ). k + i ≡ x → i < suc (length ns) → byte_at (get_or (n ∷ ns) i []) 0 ≡ c) [ zero ↦ λ h l. absurd (omega (arith, h, f.from)) | suc i ↦ λ h l. f.own i (omega (arith, h)) (omega (arith, l)) ]);
+          others = λ i. (elim i as (λ (i : ℕ). k + i < x → byte_at (get_or (n ∷ ns) i []) 0 ≡ c → ⊥) [ zero ↦ λ h. eqb-false _ _ q | suc i ↦ λ h. f.others i (omega (arith, h)) ]);
         }
 
 -- ---- the names' first bytes
@@ -60,16 +60,16 @@ implies a b = not a || b
 
 -- a name that comes after another begins with no lower byte
 abbrev ordered : ℕ → List ℕ → Bool
-ordered k n = all_from (λ (j : ℕ) (m : List ℕ). implies (leb k j) (leb (byteAt n 0) (byteAt m 0))) 0 names
+ordered k n = all_from (λ (j : ℕ) (m : List ℕ). implies (leb k j) (leb (byte_at n 0) (byte_at m 0))) 0 names
 
 pub sorted : (k j : ℕ) → k < 112 → j < 112 → k ≤ j → head k ≤ head j
 sorted k j p q r =
     let after-k = entry ordered [] names refl k p in
-    let at_j = entry (λ (j : ℕ) (m : List ℕ). implies (leb k j) (leb (byteAt (get_or names k []) 0) (byteAt m 0))) [] names after-k j q in
+    let at_j = entry (λ (j : ℕ) (m : List ℕ). implies (leb k j) (leb (byte_at (get_or names k []) 0) (byte_at m 0))) [] names after-k j q in
     leb-true _ _ (rw (le-leb k j r, name-is k, name-is j) at at_j)
 
 abbrev printable : ℕ → List ℕ → Bool
-printable k n = ltb 32 (byteAt n 0) && ltb (byteAt n 0) 126
+printable k n = ltb 32 (byte_at n 0) && ltb (byte_at n 0) 126
 
 -- each first byte is above the space and below the tilde
 pub head-range : (k : ℕ) → k < 112 → (32 < head k) × (head k < 126)
@@ -79,7 +79,7 @@ head-range k p =
 
 -- ---- the search
 -- names that are not at the place are passed over
-passed : (t : List ℕ) (at : ℕ) (ns : List (List ℕ)) (k n : ℕ) → ((j : ℕ) → j < n → matchesAt (get_or ns j []) t at ≡ false) → n ≤ length ns → first_at k ns t at ≡ first_at (k + n) (drop n ns) t at
+passed : (t : List ℕ) (at : ℕ) (ns : List (List ℕ)) (k n : ℕ) → ((j : ℕ) → j < n → matches_at (get_or ns j []) t at ≡ false) → n ≤ length ns → first_at k ns t at ≡ first_at (k + n) (drop n ns) t at
 passed t at ns k zero h l = rw add-zero
 passed t at [] k (suc n) h l = absurd (not-suc-le-zero l)
 passed t at (m ∷ ns) k (suc n) h l =
@@ -88,13 +88,13 @@ passed t at (m ∷ ns) k (suc n) h l =
 
 module _ (t : List ℕ) (at : ℕ) where
   -- a name that begins with another byte is not there
-  other : (k : ℕ) → k < 112 → (head k ≡ byteAt t at → ⊥) → matchesAt (get_or names k []) t at ≡ false
+  other : (k : ℕ) → k < 112 → (head k ≡ byte_at t at → ⊥) → matches_at (get_or names k []) t at ≡ false
   other k p n =
       let same : at + 0 ≡ at = omega arith in
-      rw (name-is k) (rw same at (matches-not (name_of k) t at 0 (name-length k p).0 (λ q. n (sym q ∙ ap (byteAt t) same))))
+      rw (name-is k) (rw same at (matches-not (name_of k) t at 0 (name-length k p).0 (λ q. n (sym q ∙ ap (byte_at t) same))))
 
   -- if no name from k on begins with the byte, none is found
-  pub ends : (k : ℕ) → k ≤ 112 → ((j : ℕ) → k ≤ j → j < 112 → head j ≡ byteAt t at → ⊥) → first_at k (drop k names) t at ≡ Nothing
+  pub ends : (k : ℕ) → k ≤ 112 → ((j : ℕ) → k ≤ j → j < 112 → head j ≡ byte_at t at → ⊥) → first_at k (drop k names) t at ≡ Nothing
   ends k l n =
       let names-left : length (drop k names) ≡ 112 - k = length-drop k names in
       passed t at (drop k names) k (length (drop k names))
@@ -102,36 +102,36 @@ module _ (t : List ℕ) (at : ℕ) where
       ∙ rw (drop-length (drop k names))
 
   -- if no name at all does, there is no pattern
-  pub none-outside : ((j : ℕ) → j < 112 → head j ≡ byteAt t at → ⊥) → patternAt t at ≡ Nothing
-  unfolding patternAt
+  pub none-outside : ((j : ℕ) → j < 112 → head j ≡ byte_at t at → ⊥) → pattern_at t at ≡ Nothing
+  unfolding pattern_at
   none-outside n = ends 0 (omega arith) (λ j b. n j)
 
   -- the number where the search begins
-  start : First 0 (byteAt t at) names (start_of (byteAt t at))
+  start : First 0 (byte_at t at) names (start_of (byte_at t at))
   unfolding start_of
-  start = first-is names 0 (byteAt t at)
+  start = first-is names 0 (byte_at t at)
 
   -- the names before it are passed over
-  pub begins : (x : ℕ) → x ≡ start_of (byteAt t at) → (x ≤ 112) × (patternAt t at ≡ first_at x (drop x names) t at)
-  unfolding patternAt
+  pub begins : (x : ℕ) → x ≡ start_of (byte_at t at) → (x ≤ 112) × (pattern_at t at ≡ first_at x (drop x names) t at)
+  unfolding pattern_at
   begins x e =
-      let first : First 0 (byteAt t at) names x = rw e start in
+      let first : First 0 (byte_at t at) names x = rw e start in
       let to : x ≤ 112 = omega (arith, first.to) in
-      (to, rw (zero-add x) at (passed t at names 0 x (λ j b. other j (omega (arith, b)) (λ q. first.others j (omega (arith, b)) (ap (λ (n : List ℕ). byteAt n 0) (name-is j) ∙ q))) to))
+      (to, rw (zero-add x) at (passed t at names 0 x (λ j b. other j (omega (arith, b)) (λ q. first.others j (omega (arith, b)) (ap (λ (n : List ℕ). byte_at n 0) (name-is j) ∙ q))) to))
 
   -- a name that is there is found
-  pub found : (k : ℕ) → k < 112 → matchesAt (name_of k) t at ≡ true → first_at k (drop k names) t at ≡ Pattern k (length (name_of k))
+  pub found : (k : ℕ) → k < 112 → matches_at (name_of k) t at ≡ true → first_at k (drop k names) t at ≡ Pattern k (length (name_of k))
   found k p e = rw (drop-cons names k [] p, name-is k, e)
 
   -- one that is not is passed over
-  pub next : (k : ℕ) → k < 112 → matchesAt (name_of k) t at ≡ false → first_at k (drop k names) t at ≡ first_at (k + 1) (drop (k + 1) names) t at
+  pub next : (k : ℕ) → k < 112 → matches_at (name_of k) t at ≡ false → first_at k (drop k names) t at ≡ first_at (k + 1) (drop (k + 1) names) t at
   next k p e = rw (drop-cons names k [] p, name-is k, e, add-one k)
 
   -- the search ends where a name begins with another byte
-  pub none-on : (x k : ℕ) → x ≡ start_of (byteAt t at) → k < 112 → x ≤ k → (head k ≡ byteAt t at → ⊥) → first_at k (drop k names) t at ≡ Nothing
+  pub none-on : (x k : ℕ) → x ≡ start_of (byte_at t at) → k < 112 → x ≤ k → (head k ≡ byte_at t at → ⊥) → first_at k (drop k names) t at ≡ Nothing
   none-on x k e p l n =
-      let first : First 0 (byteAt t at) names x = rw e start in
-      let own : head x ≡ byteAt t at = sym (ap (λ (n : List ℕ). byteAt n 0) (name-is x)) ∙ first.own x (zero-add x) (omega arith) in
+      let first : First 0 (byte_at t at) names x = rw e start in
+      let own : head x ≡ byte_at t at = sym (ap (λ (n : List ℕ). byte_at n 0) (name-is x)) ∙ first.own x (zero-add x) (omega arith) in
       ends k (omega arith) (λ j b q e. n (omega (arith, sorted x k (omega arith) p l, sorted k j p q b)))
 
 -- ---- what is found
@@ -141,13 +141,13 @@ record Hit (t : List ℕ) (at k : ℕ) (ns : List (List ℕ)) (p n : ℕ) : Type
   number : p ≡ k + nth
   inside : nth < length ns
   size : n ≡ length (get_or ns nth [])
-  there : matchesAt (get_or ns nth []) t at ≡ true
+  there : matches_at (get_or ns nth []) t at ≡ true
 
 hit : (t : List ℕ) (at : ℕ) (ns : List (List ℕ)) (k p n : ℕ) → first_at k ns t at ≡ Pattern p n → Hit t at k ns p n
 hit t at [] k p n e = absurd (let z : ◌≡◌ {A = ℕ} 0 1 = cc in omega arith)
-hit t at (m ∷ ns) k p n e = split (matchesAt m t at) refl (hit t at ns (suc k) p n)
+hit t at (m ∷ ns) k p n e = split (matches_at m t at) refl (hit t at ns (suc k) p n)
   where
-    split : (b : Bool) → matchesAt m t at ≡ b → (first_at (suc k) ns t at ≡ Pattern p n → Hit t at (suc k) ns p n) → Hit t at k (m ∷ ns) p n
+    split : (b : Bool) → matches_at m t at ≡ b → (first_at (suc k) ns t at ≡ Pattern p n → Hit t at (suc k) ns p n) → Hit t at k (m ∷ ns) p n
     split true q rest =
         let same : Pattern k (length m) ≡ Pattern p n = rw q at e in
         record { nth = 0; number = (let x : k ≡ p = cc in omega arith); inside = omega arith; size = (let x : length m ≡ n = cc in omega arith); there = q }
@@ -156,8 +156,8 @@ hit t at (m ∷ ns) k p n e = split (matchesAt m t at) refl (hit t at ns (suc k)
         record { nth = suc h.nth; number = omega (arith, h.number); inside = omega (arith, h.inside); size = h.size; there = h.there }
 
 -- a pattern of the table, whose name has 1 to 5 bytes
-pub found-range : (t : List ℕ) (at p n : ℕ) → patternAt t at ≡ Pattern p n → (p < 112) × (1 ≤ n) × (n ≤ 5)
-unfolding patternAt
+pub found-range : (t : List ℕ) (at p n : ℕ) → pattern_at t at ≡ Pattern p n → (p < 112) × (1 ≤ n) × (n ≤ 5)
+unfolding pattern_at
 found-range t at p n e =
     let is-hit = hit t at names 0 p n e in
     let same_length : n ≡ length (name_of is-hit.nth) = is-hit.size ∙ ap (λ (m : List ℕ). length m) (name-is is-hit.nth) in
@@ -165,8 +165,8 @@ found-range t at p n e =
     (omega (arith, is-hit.number, is-hit.inside), omega (arith, one-to-five), omega (arith, one-to-five))
 
 -- its name is there
-pub found_name : (t : List ℕ) (at p n : ℕ) → patternAt t at ≡ Pattern p n → (n ≡ length (name_of p)) × (matchesAt (name_of p) t at ≡ true)
-unfolding patternAt
+pub found_name : (t : List ℕ) (at p n : ℕ) → pattern_at t at ≡ Pattern p n → (n ≡ length (name_of p)) × (matches_at (name_of p) t at ≡ true)
+unfolding pattern_at
 found_name t at p n e =
     let is-hit = hit t at names 0 p n e in
     let name : get_or names is-hit.nth [] ≡ name_of p = name-is is-hit.nth ∙ ap name_of (sym (is-hit.number ∙ zero-add is-hit.nth)) in

@@ -11,13 +11,13 @@ none = 0
 abbrev pub gregorian : ℕ
 gregorian = 1
 
-abbrev pub isoWeek : ℕ
-isoWeek = 2
+abbrev pub iso_week : ℕ
+iso_week = 2
 
 -- a pattern: its name, whether it is read as digits (formatting.c's is_digit), and its date mode
 pub record Pattern : Type 0 where
   pub name : List ℕ
-  pub isDigit : Bool
+  pub is_digit : Bool
   pub mode : ℕ
 
 abbrev letters : Bool
@@ -27,7 +27,7 @@ abbrev digits : Bool
 digits = true
 
 abbrev row : String → Bool → ℕ → Pattern
-row name isDigit mode = record { name = utf8 name; isDigit = isDigit; mode = mode }
+row name is_digit mode = record { name = utf8 name; is_digit = is_digit; mode = mode }
 
 abbrev pub patterns : List Pattern
 patterns =
@@ -55,13 +55,13 @@ patterns =
     ∷ row "HH24" digits none
     ∷ row "HH12" digits none
     ∷ row "HH" digits none
-    ∷ row "IDDD" digits isoWeek
-    ∷ row "ID" digits isoWeek
-    ∷ row "IW" digits isoWeek
-    ∷ row "IYYY" digits isoWeek
-    ∷ row "IYY" digits isoWeek
-    ∷ row "IY" digits isoWeek
-    ∷ row "I" digits isoWeek
+    ∷ row "IDDD" digits iso_week
+    ∷ row "ID" digits iso_week
+    ∷ row "IW" digits iso_week
+    ∷ row "IYYY" digits iso_week
+    ∷ row "IYY" digits iso_week
+    ∷ row "IY" digits iso_week
+    ∷ row "I" digits iso_week
     ∷ row "J" digits none
     ∷ row "MI" digits none
     ∷ row "MM" digits gregorian
@@ -111,13 +111,13 @@ patterns =
     ∷ row "hh24" digits none
     ∷ row "hh12" digits none
     ∷ row "hh" digits none
-    ∷ row "iddd" digits isoWeek
-    ∷ row "id" digits isoWeek
-    ∷ row "iw" digits isoWeek
-    ∷ row "iyyy" digits isoWeek
-    ∷ row "iyy" digits isoWeek
-    ∷ row "iy" digits isoWeek
-    ∷ row "i" digits isoWeek
+    ∷ row "iddd" digits iso_week
+    ∷ row "id" digits iso_week
+    ∷ row "iw" digits iso_week
+    ∷ row "iyyy" digits iso_week
+    ∷ row "iyy" digits iso_week
+    ∷ row "iy" digits iso_week
+    ∷ row "i" digits iso_week
     ∷ row "j" digits none
     ∷ row "mi" digits none
     ∷ row "mm" digits gregorian
@@ -146,11 +146,11 @@ patterns =
     ∷ []
 
 -- the pattern of number k; past the table's end one without a name
-abbrev pub patternOf : ℕ → Pattern
-patternOf k = get_or patterns k (record { name = []; isDigit = letters; mode = none })
+abbrev pub pattern_of : ℕ → Pattern
+pattern_of k = get_or patterns k (record { name = []; is_digit = letters; mode = none })
 
 abbrev pub name_of : ℕ → List ℕ
-name_of k = (patternOf k).name
+name_of k = (pattern_of k).name
 
 abbrev pub names : List (List ℕ)
 names = map (λ (p : Pattern). p.name) patterns
@@ -160,5 +160,5 @@ pub worked : (length patterns ≡ 112) × (name_of 0 ≡ utf8 "A.D.") × (name_o
 worked = (refl, refl, refl, refl)
 
 -- SSSSS and SSSS are two patterns; DDD is read as digits in a Gregorian date, and ID in one by ISO weeks
-pub modes : (name_of 44 ≡ utf8 "SSSSS") × (name_of 45 ≡ utf8 "SSSS") × (patternOf 8 ≡ row "DDD" digits gregorian) × (patternOf 25 ≡ row "ID" digits isoWeek)
+pub modes : (name_of 44 ≡ utf8 "SSSSS") × (name_of 45 ≡ utf8 "SSSS") × (pattern_of 8 ≡ row "DDD" digits gregorian) × (pattern_of 25 ≡ row "ID" digits iso_week)
 modes = (refl, refl, refl, refl)

@@ -7,10 +7,10 @@ abbrev pub filled : ℕ → List ℕ → List ℕ
 filled n name = name ++ replicate (n - length name) 32
 
 -- names in n bytes each, one after the other
-abbrev pub inRows : ℕ → List (List ℕ) → List ℕ
-inRows n [] = []
-inRows n (w ∷ ws) = filled n w ++ inRows n ws
+abbrev pub in_rows : ℕ → List (List ℕ) → List ℕ
+in_rows n [] = []
+in_rows n (w ∷ ws) = filled n w ++ in_rows n ws
 
 -- two names in rows of five bytes
-pub worked : inRows 5 (utf8 "HH24" ∷ utf8 "Y,YYY" ∷ []) ≡ utf8 "HH24 Y,YYY"
+pub worked : in_rows 5 (utf8 "HH24" ∷ utf8 "Y,YYY" ∷ []) ≡ utf8 "HH24 Y,YYY"
 worked = refl

@@ -2,7 +2,7 @@
 use Rattle.std.specs.Prelude.{◌≡◌, refl, List, [], ◌∷◌, map, ℕ, max, length}
 use Rattle.base_chars.specs.Fold.{folded}
 use Rattle.base_notation.specs.Text.{utf8}
-use Rattle.template_patterns.specs.Rows.{filled, inRows}
+use Rattle.template_patterns.specs.Rows.{filled, in_rows}
 use Rattle.template_patterns.specs.declared.tables.WordList.{WordList}
 use Rattle.template_patterns.specs.declared.tables.WordList.TheVariants.{MonthsFull, MonthsAbbrev, DaysFull, DaysAbbrev, AmPm, AmPmLong, AdBc, AdBcLong, RomanMonths}
 
@@ -19,8 +19,8 @@ words_of AdBcLong = map utf8 ("a.d." ∷ "b.c." ∷ "A.D." ∷ "B.C." ∷ [])
 words_of RomanMonths = map utf8 ("xii" ∷ "xi" ∷ "x" ∷ "ix" ∷ "viii" ∷ "vii" ∷ "vi" ∷ "v" ∷ "iv" ∷ "iii" ∷ "ii" ∷ "i" ∷ [])
 
 -- the words of a list in small letters
-abbrev pub smallWords : WordList → List (List ℕ)
-smallWords list = map (map folded) (words_of list)
+abbrev pub small_words : WordList → List (List ℕ)
+small_words list = map (map folded) (words_of list)
 
 -- the length of the longest of the words
 abbrev pub longest : List (List ℕ) → ℕ
@@ -28,9 +28,9 @@ longest [] = 0
 longest (w ∷ ws) = max (length w) (longest ws)
 
 -- the words of a list in small letters, in rows of 9 bytes, 12 rows
-unfoldable pub wordTable : WordList → List ℕ
-wordTable list = filled 108 (inRows 9 (smallWords list))
+unfoldable pub word_table : WordList → List ℕ
+word_table list = filled 108 (in_rows 9 (small_words list))
 
 -- AM is the same word as am, and September is the longest name of a month
-pub worked : (smallWords AmPm ≡ map utf8 ("am" ∷ "pm" ∷ "am" ∷ "pm" ∷ [])) × (longest (words_of MonthsFull) ≡ length (utf8 "September"))
+pub worked : (small_words AmPm ≡ map utf8 ("am" ∷ "pm" ∷ "am" ∷ "pm" ∷ [])) × (longest (words_of MonthsFull) ≡ length (utf8 "September"))
 worked = (refl, refl)

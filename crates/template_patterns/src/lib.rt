@@ -5,8 +5,8 @@ mod tables;
 ghost use Rattle.std.specs.Prelude.{◌≡◌, ◌<◌, ◌≤◌, ◌+◌, ◌/◌, ◌%◌, ◌^◌, eqb, length, true, false, [], ◌∷◌};
 ghost use Rattle.template_patterns.specs.Cases.{case_of};
 ghost use Rattle.template_patterns.specs.Numbers.{Key, packed};
-ghost use Rattle.template_patterns.specs.Patterns.{patternOf};
-ghost use Rattle.template_patterns.specs.Search.{patternAt};
+ghost use Rattle.template_patterns.specs.Patterns.{pattern_of};
+ghost use Rattle.template_patterns.specs.Search.{pattern_at};
 ghost use Rattle.template_patterns.specs.Affixes.{bit_at};
 
 pub use tables::{WordList, dch_names, longest, months_full, words};
@@ -82,7 +82,7 @@ fn begins(key: u64, name: u64) -> bool
 // The first pattern in table order whose name is at a place of the template.
 pub fn fmt_index_search(t: &[u8], at: usize) -> Found
     requires { at < length t.now }
-    ensures { result ≡ patternAt t.now at }
+    ensures { result ≡ pattern_at t.now at }
 {
     let mut k = numbers::first_of(t[at]);
     if k == 112 {
@@ -187,7 +187,7 @@ pub fn fmt_suffix_search(t: &[u8], at: usize, prefix: bool) -> u8
 
 // Whether the pattern of a number is read as digits. A set of patterns has a bit for each number.
 pub fn is_digit(k: u8) -> bool
-    ensures { result ≡ (patternOf k).isDigit }
+    ensures { result ≡ (pattern_of k).is_digit }
 {
     base_chars::in_set(0x03fd7413ffefe340, 0xff5d13ffefed, k)
 }

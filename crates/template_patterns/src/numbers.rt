@@ -1,12 +1,12 @@
 // The names of the patterns as numbers, and the first pattern for each first byte. A match with a number in each arm is
 // a table that is there before a call.
 ghost use Rattle.std.specs.Prelude.{◌≡◌};
-ghost use Rattle.template_patterns.specs.Numbers.{nameNumber};
+ghost use Rattle.template_patterns.specs.Numbers.{name_number};
 ghost use Rattle.template_patterns.specs.Search.{start_of};
 
 // The name of pattern k: its bytes, the first the lowest, and above five of them how many bits they have.
 pub fn name_of(k: usize) -> u64
-    ensures { result ≡ nameNumber k }
+    ensures { result ≡ name_number k }
 {
     match k {
         0 => 0x20002e442e41, // A.D.

@@ -1,7 +1,7 @@
 // The tables: names of patterns, and word lists.
 ghost use Rattle.std.specs.Prelude.{◌≡◌};
-ghost use Rattle.template_patterns.specs.Search.{nameTable};
-ghost use Rattle.template_patterns.specs.Words.{longest as longestOf, wordTable, words_of};
+ghost use Rattle.template_patterns.specs.Search.{name_table};
+ghost use Rattle.template_patterns.specs.Words.{longest as longest_of, word_table, words_of};
 ghost use Rattle.template_patterns.specs.declared.tables.WordList.TheVariants.{MonthsFull};
 
 // The names of the patterns in table order, five bytes each, filled with spaces.
@@ -58,7 +58,7 @@ pub enum WordList {
 
 // The length of a list's longest word.
 pub fn longest(list: WordList) -> usize
-    ensures { result ≡ longestOf (words_of list) }
+    ensures { result ≡ longest_of (words_of list) }
 {
     match list {
         WordList::MonthsFull => 9,
@@ -75,13 +75,13 @@ pub fn longest(list: WordList) -> usize
 
 // The list that is asked for most has a function of its own: a choice among nine lists lays out more than one.
 pub fn months_full() -> [u8; 108]
-    ensures { result ≡ wordTable MonthsFull }
+    ensures { result ≡ word_table MonthsFull }
 {
     WORDS_MONTHS_FULL
 }
 
 pub fn words(list: WordList) -> [u8; 108]
-    ensures { result ≡ wordTable list }
+    ensures { result ≡ word_table list }
 {
     match list {
         WordList::MonthsFull => WORDS_MONTHS_FULL,
@@ -97,7 +97,7 @@ pub fn words(list: WordList) -> [u8; 108]
 }
 
 pub fn dch_names() -> [u8; 560]
-    ensures { result ≡ nameTable }
+    ensures { result ≡ name_table }
 {
     DCH_NAMES
 }

@@ -15,7 +15,7 @@ use Rattle.base_chars.specs.Fold.{folded}
 use Rattle.base_chars.proofs.Folds.{fold-raised, fold-twice, raise-folded}
 use Rattle.template_patterns.specs.declared.Case.{Case}
 use Rattle.template_patterns.specs.declared.Case.TheVariants.{Capitals, Small, Title}
-use Rattle.write_pieces.specs.Words.{inCase, letterIn}
+use Rattle.write_pieces.specs.Words.{in_case, letter_in}
 use Rattle.write_pieces.proofs.Puts.{next-byte}
 
 -- what holds of every byte holds of a word: one map after another is a third
@@ -24,46 +24,46 @@ mapped f g h e [] = refl
 mapped f g h e (b ∷ w) = rw (e b, mapped f g h e w)
 
 -- 0 is no letter, and stays
-no-letter : (case : Case) (first : Bool) → letterIn case first 0 ≡ 0
+no-letter : (case : Case) (first : Bool) → letter_in case first 0 ≡ 0
 no-letter Capitals first = refl
 no-letter Small first = refl
 no-letter Title true = refl
 no-letter Title false = refl
 
 -- a letter that was folded before
-letter-folded : (case : Case) (first : Bool) (b : ℕ) → letterIn case first (folded b) ≡ letterIn case first b
+letter-folded : (case : Case) (first : Bool) (b : ℕ) → letter_in case first (folded b) ≡ letter_in case first b
 letter-folded Capitals first b = raise-folded b
 letter-folded Small first b = fold-twice b
 letter-folded Title true b = raise-folded b
 letter-folded Title false b = fold-twice b
 
 -- a letter in a case, once it is folded
-folded-letter : (case : Case) (first : Bool) (b : ℕ) → folded (letterIn case first b) ≡ folded b
+folded-letter : (case : Case) (first : Bool) (b : ℕ) → folded (letter_in case first b) ≡ folded b
 folded-letter Capitals first b = fold-raised b
 folded-letter Small first b = fold-twice b
 folded-letter Title true b = fold-raised b
 folded-letter Title false b = fold-twice b
 
 module _ (case : Case) where
-  pub cased-size : (w : List ℕ) → length (inCase case w) ≡ length w
+  pub cased-size : (w : List ℕ) → length (in_case case w) ≡ length w
   cased-size [] = refl
-  cased-size (b ∷ w) = ap suc (length-map w (letterIn case false))
+  cased-size (b ∷ w) = ap suc (length-map w (letter_in case false))
 
   -- byte i of a word in a case is byte i of the word, in the case as the first letter or as another
-  cased-byte : (w : List ℕ) (i : ℕ) → get_or (inCase case w) i 0 ≡ letterIn case (eqb i 0) (get_or w i 0)
+  cased-byte : (w : List ℕ) (i : ℕ) → get_or (in_case case w) i 0 ≡ letter_in case (eqb i 0) (get_or w i 0)
   cased-byte [] i = sym (no-letter case (eqb i 0))
   cased-byte (b ∷ w) zero = refl
-  cased-byte (b ∷ w) (suc i) = rw eqb-suc-zero (rw (no-letter case false) at (get_or-map (letterIn case false) w i 0))
+  cased-byte (b ∷ w) (suc i) = rw eqb-suc-zero (rw (no-letter case false) at (get_or-map (letter_in case false) w i 0))
 
   -- b is the next letter
-  pub next-letter : (l : List ℕ) (at : ℕ) (w : List ℕ) (i : ℕ) → i < length w → (b : ℕ) → b ≡ letterIn case (eqb i 0) (get_or w i 0)
-      → sets (set l (at + i) b) (at + (i + 1)) (drop (i + 1) (inCase case w)) ≡ sets l (at + i) (drop i (inCase case w))
-  next-letter l at w i h b e = rw (e, ← cased-byte w i) (next-byte l at (inCase case w) i (omega (arith, cased-size w)))
+  pub next-letter : (l : List ℕ) (at : ℕ) (w : List ℕ) (i : ℕ) → i < length w → (b : ℕ) → b ≡ letter_in case (eqb i 0) (get_or w i 0)
+      → sets (set l (at + i) b) (at + (i + 1)) (drop (i + 1) (in_case case w)) ≡ sets l (at + i) (drop i (in_case case w))
+  next-letter l at w i h b e = rw (e, ← cased-byte w i) (next-byte l at (in_case case w) i (omega (arith, cased-size w)))
 
-  pub cased-folded : (w : List ℕ) → inCase case (map folded w) ≡ inCase case w
+  pub cased-folded : (w : List ℕ) → in_case case (map folded w) ≡ in_case case w
   cased-folded [] = refl
-  cased-folded (b ∷ w) = rw (letter-folded case true b, mapped (letterIn case false) folded (letterIn case false) (letter-folded case false) w)
+  cased-folded (b ∷ w) = rw (letter-folded case true b, mapped (letter_in case false) folded (letter_in case false) (letter-folded case false) w)
 
-  pub folded-cased : (w : List ℕ) → map folded (inCase case w) ≡ map folded w
+  pub folded-cased : (w : List ℕ) → map folded (in_case case w) ≡ map folded w
   folded-cased [] = refl
-  folded-cased (b ∷ w) = rw (folded-letter case true b, mapped folded (letterIn case false) folded (folded-letter case false) w)
+  folded-cased (b ∷ w) = rw (folded-letter case true b, mapped folded (letter_in case false) folded (folded-letter case false) w)

@@ -17,9 +17,9 @@ use Rattle.base_strtol.specs.Decimal.{decimal}
 use Rattle.base_strtol.proofs.Decimals.{decimal-length}
 use Rattle.calendar_gregorian.proofs.Dates.{each}
 use Rattle.template_patterns.specs.declared.Case.{Case}
-use Rattle.write_pieces.specs.Moment.{isMoment}
-use Rattle.write_pieces.specs.Pieces.{marker, dottedMarker, monthName, shortMonth, isMorning, number_of, pieceText, width_of, widths}
-use Rattle.write_pieces.specs.Words.{markerText, monthText}
+use Rattle.write_pieces.specs.Moment.{is_moment}
+use Rattle.write_pieces.specs.Pieces.{marker, dotted_marker, month_name, short_month, is_morning, number_of, piece_text, width_of, widths}
+use Rattle.write_pieces.specs.Words.{marker_text, month_text}
 use Rattle.write_pieces.specs.declared.Moment.{Moment}
 use Rattle.write_pieces.proofs.Markers.{marker-size}
 use Rattle.write_pieces.proofs.Moments.{NoneTo, numbers}
@@ -41,54 +41,54 @@ no-width p n = split (eqb p 0) refl
     split false e = let zero = eqb-false p 0 e in get_or-eq_default widths 0 {n = p} (none-to p 17 n (omega arith))
 
 module _ (case : Case) (m : Moment) where
-  pub number-text : (p : ℕ) → p < 14 → pieceText p case m ≡ decimal (width_of p) (number_of p m)
-  unfolding pieceText
+  pub number-text : (p : ℕ) → p < 14 → piece_text p case m ≡ decimal (width_of p) (number_of p m)
+  unfolding piece_text
   number-text p h =
       rw (
         ne_eqb p marker (omega arith),
-        ne_eqb p dottedMarker (omega arith),
-        ne_eqb p monthName (omega arith),
-        ne_eqb p shortMonth (omega arith),
+        ne_eqb p dotted_marker (omega arith),
+        ne_eqb p month_name (omega arith),
+        ne_eqb p short_month (omega arith),
       )
 
   module _ (p : ℕ) where
-    pub number_put : p < 14 → (size n : ℕ) → size ≡ width_of p → n ≡ number_of p m → decimal size n ≡ pieceText p case m
+    pub number_put : p < 14 → (size n : ℕ) → size ≡ width_of p → n ≡ number_of p m → decimal size n ≡ piece_text p case m
     number_put h size n e f = rw (e, f) (sym (number-text p h))
 
-    module _ (early : Bool) (e : early ≡ isMorning m) where
-      pub marker-put : p ≡ marker → markerText case false early ≡ pieceText p case m
-      unfolding pieceText
+    module _ (early : Bool) (e : early ≡ is_morning m) where
+      pub marker-put : p ≡ marker → marker_text case false early ≡ piece_text p case m
+      unfolding piece_text
       marker-put q = rw (q, e)
 
-      pub dotted-put : p ≡ dottedMarker → markerText case true early ≡ pieceText p case m
-      unfolding pieceText
+      pub dotted-put : p ≡ dotted_marker → marker_text case true early ≡ piece_text p case m
+      unfolding piece_text
       dotted-put q = rw (q, e)
 
     module _ (month : ℕ) (e : month ≡ nat_abs m.month) where
-      pub name-put : p ≡ monthName → monthText case true month ≡ pieceText p case m
-      unfolding pieceText
+      pub name-put : p ≡ month_name → month_text case true month ≡ piece_text p case m
+      unfolding piece_text
       name-put q = rw (q, e)
 
-      pub short-put : p ≡ shortMonth → monthText case false month ≡ pieceText p case m
-      unfolding pieceText
+      pub short-put : p ≡ short_month → month_text case false month ≡ piece_text p case m
+      unfolding piece_text
       short-put q = rw (q, e)
 
   -- the text of a word that is no full name of a month
-  word_size : isMoment m ≡ true → (p : ℕ) → 14 ≤ p → p ≤ 17 → (p ≡ monthName → ⊥) → width_of p ≡ length (pieceText p case m)
-  unfolding pieceText
+  word_size : is_moment m ≡ true → (p : ℕ) → 14 ≤ p → p ≤ 17 → (p ≡ month_name → ⊥) → width_of p ≡ length (piece_text p case m)
+  unfolding piece_text
   word_size is =
       let date = (numbers m is).date in
-      each (λ p. (p ≡ monthName → ⊥) → width_of p ≡ length (pieceText p case m)) 14 3 (
-        λ _. sym (marker-size case false (isMorning m)),
+      each (λ p. (p ≡ month_name → ⊥) → width_of p ≡ length (piece_text p case m)) 14 3 (
+        λ _. sym (marker-size case false (is_morning m)),
         (
-          λ _. sym (marker-size case true (isMorning m)),
+          λ _. sym (marker-size case true (is_morning m)),
           (λ n. absurd (n refl), λ _. short-size case (nat_abs m.month) date.month-from date.month-to false refl),
         ),
       )
 
-  pub piece-size : (p : ℕ) → isMoment m ≡ true → p < 18 → (p ≡ monthName → ⊥) → width_of p ≡ length (pieceText p case m)
+  pub piece-size : (p : ℕ) → is_moment m ≡ true → p < 18 → (p ≡ month_name → ⊥) → width_of p ≡ length (piece_text p case m)
   piece-size p is h other = split (ltb p 14) refl
     where
-      split : (b : Bool) → ltb p 14 ≡ b → width_of p ≡ length (pieceText p case m)
+      split : (b : Bool) → ltb p 14 ≡ b → width_of p ≡ length (piece_text p case m)
       split true e = sym (ap length (number-text p (ltb-true p 14 e)) ∙ decimal-length (width_of p) (number_of p m))
       split false e = word_size is p (ltb-false p 14 e) (omega arith) other

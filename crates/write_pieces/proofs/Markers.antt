@@ -14,31 +14,31 @@ use lib.Seq.{sets}
 use Rattle.base_notation.specs.Choice.{if◌then◌else◌}
 use Rattle.template_patterns.specs.declared.Case.{Case}
 use Rattle.template_patterns.specs.declared.Case.TheVariants.{Capitals, Small, Title}
-use Rattle.write_pieces.specs.Words.{letterIn, markerText}
+use Rattle.write_pieces.specs.Words.{letter_in, marker_text}
 
 -- a dot is the same in every case
-dot : (case : Case) → letterIn case false (code ".") ≡ code "."
+dot : (case : Case) → letter_in case false (code ".") ≡ code "."
 dot Capitals = refl
 dot Small = refl
 dot Title = refl
 
 module _ (case : Case) where
-  pub marker-size : (dotted morning : Bool) → length (markerText case dotted morning) ≡ (if dotted then 4 else 2)
+  pub marker-size : (dotted morning : Bool) → length (marker_text case dotted morning) ≡ (if dotted then 4 else 2)
   marker-size true true = refl
   marker-size true false = refl
   marker-size false true = refl
   marker-size false false = refl
 
-  pub marker-some : (dotted morning : Bool) → 2 ≤ length (markerText case dotted morning)
+  pub marker-some : (dotted morning : Bool) → 2 ≤ length (marker_text case dotted morning)
   marker-some true morning = omega (arith, marker-size true morning)
   marker-some false morning = omega (arith, marker-size false morning)
 
   -- the letter of the half of the day
   abbrev pub half : Bool → ℕ
-  half morning = letterIn case true (if morning then code "A" else code "P")
+  half morning = letter_in case true (if morning then code "A" else code "P")
 
   abbrev m : ℕ
-  m = letterIn case false (code "M")
+  m = letter_in case false (code "M")
 
   module _ (l : List ℕ) (at : ℕ) where
     next : at + 1 ≡ suc at
@@ -52,16 +52,16 @@ module _ (case : Case) where
 
     -- x and y are the letters
     module _ (x y : ℕ) (b : Bool) (first : x ≡ half b) (second : y ≡ m) where
-      pub plain-put : set (set l at x) (at + 1) y ≡ sets l at (markerText case false b)
+      pub plain-put : set (set l at x) (at + 1) y ≡ sets l at (marker_text case false b)
       plain-put = rw (first, second, next) (by b)
         where
-          by : (b : Bool) → set (set l at (half b)) (suc at) m ≡ sets l at (markerText case false b)
+          by : (b : Bool) → set (set l at (half b)) (suc at) m ≡ sets l at (marker_text case false b)
           by true = refl
           by false = refl
 
-      pub dotted-put : set (set (set (set l at x) (at + 1) (code ".")) (at + 2) y) (at + 3) (code ".") ≡ sets l at (markerText case true b)
+      pub dotted-put : set (set (set (set l at x) (at + 1) (code ".")) (at + 2) y) (at + 3) (code ".") ≡ sets l at (marker_text case true b)
       dotted-put = rw (first, second, next, next-2, next-3) (by b)
         where
-          by : (b : Bool) → set (set (set (set l at (half b)) (suc at) (code ".")) (suc (suc at)) m) (suc (suc (suc at))) (code ".") ≡ sets l at (markerText case true b)
+          by : (b : Bool) → set (set (set (set l at (half b)) (suc at) (code ".")) (suc (suc at)) m) (suc (suc (suc at))) (code ".") ≡ sets l at (marker_text case true b)
           by true = rw (dot case)
           by false = rw (dot case)

@@ -23,9 +23,9 @@ use mir.Val.{Fits, hbits, to_z, of_z}
 use mir.Facts.{sfits_widen, to_z-of_z}
 use Rattle.base_notation.proofs.Cases.{both}
 use Rattle.base_wrapping.proofs.Fits.{read}
-use Rattle.calendar_gregorian.specs.Civil.{dayOfYearℤ, length_of, lengthsIn}
-use Rattle.calendar_gregorian.specs.Gregorian.{dayNumber, dayOfYear, isLeap, leap, Valid}
-use Rattle.calendar_gregorian.specs.IsoWeek.{isoWeek, isoYear}
+use Rattle.calendar_gregorian.specs.Civil.{day_of_year_ℤ, length_of, lengths_in}
+use Rattle.calendar_gregorian.specs.Gregorian.{day_number, day_of_year, is_leap, leap, Valid}
+use Rattle.calendar_gregorian.specs.IsoWeek.{iso_week, iso_year}
 use Rattle.calendar_gregorian.proofs.Dates.{first-to-last, length-range, real}
 use Rattle.calendar_gregorian.proofs.Ordinal.{ordinal, ordinal-range}
 use Rattle.calendar_gregorian.proofs.Weeks.{week-range, year-range}
@@ -35,8 +35,8 @@ use Rattle.calendar_julian.proofs.DayNumber.{date2j-valid}
 use Rattle.calendar_julian.proofs.IsoWeeks.{date2isoweek-is, date2isoyear-is}
 use Rattle.moment_sums.specs.Within.{Within}
 use Rattle.moment_sums.proofs.Within.{within as in-range}
-use Rattle.write_pieces.specs.Moment.{isMoment, within, PlainMoment}
-use Rattle.write_pieces.specs.Pieces.{isMorning, number_of}
+use Rattle.write_pieces.specs.Moment.{is_moment, within, PlainMoment}
+use Rattle.write_pieces.specs.Pieces.{is_morning, number_of}
 use Rattle.write_pieces.specs.declared.Moment.{Moment}
 
 -- the number z is n, and fits 31 bits
@@ -69,27 +69,27 @@ natural : {low high : ℕ} {z : ℤ} → Within low high z → (z ≡ pos (nat_a
 natural w = rw w.is (refl, w.from, w.to)
 
 -- only the months 1 to 12 have a length
-month-range : (inLeap : Bool) (m : ℤ) → 1 ≤ length_of inLeap m → Within 1 12 m
-month-range inLeap (pos zero) h = absurd (omega arith)
-month-range inLeap (pos (suc i)) h =
-    let in-year : i < 12 = lt_of_not-le (λ k. omega (arith, get_or-eq_default (lengthsIn inLeap) 0 {n = i} k)) in
+month-range : (in_leap : Bool) (m : ℤ) → 1 ≤ length_of in_leap m → Within 1 12 m
+month-range in_leap (pos zero) h = absurd (omega arith)
+month-range in_leap (pos (suc i)) h =
+    let in-year : i < 12 = lt_of_not-le (λ k. omega (arith, get_or-eq_default (lengths_in in_leap) 0 {n = i} k)) in
     record { at = suc i; is = refl; from = omega arith; to = omega arith }
-month-range inLeap (negsuc n) h = absurd (omega arith)
+month-range in_leap (negsuc n) h = absurd (omega arith)
 
 -- from the tests to the ranges, and back
-pub moment-plain : (m : Moment) → isMoment m ≡ true → PlainMoment m
-unfolding isMoment
+pub moment-plain : (m : Moment) → is_moment m ≡ true → PlainMoment m
+unfolding is_moment
 moment-plain m e =
-    let inLeap = isLeap (nat_abs m.year) in
+    let in_leap = is_leap (nat_abs m.year) in
     let year-test = both (within (pos 1) (pos 9999) m.year) _ e in
-    let day-test = both (within (pos 1) (pos (length_of inLeap m.month)) m.day) _ year-test.1 in
+    let day-test = both (within (pos 1) (pos (length_of in_leap m.month)) m.day) _ year-test.1 in
     let hour-test = both (within (pos 0) (pos 23) m.hour) _ day-test.1 in
     let minute-test = both (within (pos 0) (pos 59) m.minute) _ hour-test.1 in
     let second-test = both (within (pos 0) (pos 59) m.second) _ minute-test.1 in
-    let day = tested 1 (length_of inLeap m.month) m.day day-test.0 in
+    let day = tested 1 (length_of in_leap m.month) m.day day-test.0 in
     record {
       year = tested 1 9999 m.year year-test.0;
-      month = month-range inLeap m.month (omega (arith, day.from, day.to));
+      month = month-range in_leap m.month (omega (arith, day.from, day.to));
       day = day;
       hour = tested 0 23 m.hour hour-test.0;
       minute = tested 0 59 m.minute minute-test.0;
@@ -97,8 +97,8 @@ moment-plain m e =
       micros = tested 0 999999 m.micros second-test.1;
     }
 
-pub plain-moment : (m : Moment) → PlainMoment m → isMoment m ≡ true
-unfolding isMoment
+pub plain-moment : (m : Moment) → PlainMoment m → is_moment m ≡ true
+unfolding is_moment
 plain-moment m p =
     rw (passed p.year, passed p.day, passed p.hour, passed p.minute, passed p.second, passed p.micros)
 
@@ -118,15 +118,15 @@ pub record Numbers (m : Moment) : Type 0 where
   pub micros-to : nat_abs m.micros ≤ 999999
 
 -- the length of a month, by either table
-length-is : (inLeap : Bool) (m : ℤ) → 1 ≤ nat_abs m → m ≡ pos (nat_abs m) → length_of inLeap m ≡ get_or (lengthsIn inLeap) (nat_abs m - 1) 0
-length-is inLeap (pos zero) h e = absurd (omega arith)
-length-is inLeap (pos (suc i)) h e =
+length-is : (in_leap : Bool) (m : ℤ) → 1 ≤ nat_abs m → m ≡ pos (nat_abs m) → length_of in_leap m ≡ get_or (lengths_in in_leap) (nat_abs m - 1) 0
+length-is in_leap (pos zero) h e = absurd (omega arith)
+length-is in_leap (pos (suc i)) h e =
     let same : i ≡ suc i - 1 = omega arith in
-    ap (λ (k : ℕ). get_or (lengthsIn inLeap) k 0) same
-length-is inLeap (negsuc n) h e = absurd (let z : ◌≡◌ {A = ℕ} 0 1 = cc in omega arith)
+    ap (λ (k : ℕ). get_or (lengths_in in_leap) k 0) same
+length-is in_leap (negsuc n) h e = absurd (let z : ◌≡◌ {A = ℕ} 0 1 = cc in omega arith)
 
 -- what each range of a moment gives
-pub numbers : (m : Moment) → isMoment m ≡ true → Numbers m
+pub numbers : (m : Moment) → is_moment m ≡ true → Numbers m
 unfolding leap
 numbers m e =
     let is = moment-plain m e in
@@ -144,7 +144,7 @@ numbers m e =
       month-from = month.1;
       month-to = month.2;
       day-from = day.1;
-      day-to = omega (arith, length-is (isLeap (nat_abs m.year)) m.month month.1 month.0);
+      day-to = omega (arith, length-is (is_leap (nat_abs m.year)) m.month month.1 month.0);
     } in
     let days = length-range (nat_abs m.year) (nat_abs m.month) month.1 month.2 in
     record {
@@ -164,10 +164,10 @@ numbers m e =
 
 -- what the calendar's functions give for a date, as they are called
 pub record Dated (y m d : ℤ) (year month day : ℕ) : Type 0 where
-  pub year-day : Plain (dayOfYearℤ y m d) (dayOfYear year month day)
-  pub week-year : Plain (date2isoyear y m d) (isoYear year month day)
-  pub week : Plain (date2isoweek y m d) (isoWeek year month day)
-  pub day-number : Plain (date2j y m d) (dayNumber year month day)
+  pub year-day : Plain (day_of_year_ℤ y m d) (day_of_year year month day)
+  pub week-year : Plain (date2isoyear y m d) (iso_year year month day)
+  pub week : Plain (date2isoweek y m d) (iso_week year month day)
+  pub day-number : Plain (date2j y m d) (day_number year month day)
 
 dated : {y m d : ℤ} {year month day : ℕ} → y ≡ pos year → m ≡ pos month → d ≡ pos day → Valid year month day → Dated y m d year month day
 dated {y} {m} {d} {year} {month} {day} a b c v =
@@ -211,11 +211,11 @@ last-number p m (((((((((((((u, not-1), not-2), not-3), not-4), not-5), not-6), 
     )
 
 -- the test of the hour
-pub morning : (m : Moment) → isMoment m ≡ true → lt_z (read m.hour) (pos 12) ≡ isMorning m
+pub morning : (m : Moment) → is_moment m ≡ true → lt_z (read m.hour) (pos 12) ≡ is_morning m
 morning m e = rw (read_plain (numbers m e).hour w32 tt)
 
 -- the month by which its name is chosen
-pub named-month : (m : Moment) → isMoment m ≡ true
+pub named-month : (m : Moment) → is_moment m ≡ true
     → let month = nat_abs (read m.month) in (month ≡ nat_abs m.month) × (1 ≤ month) × (month ≤ 12)
 named-month m e =
     let known = numbers m e in

@@ -10,10 +10,10 @@ use native.Mathlib.Omega.{arith}
 use lib.ListN.{length, get_or, take, drop}
 use Rattle.base_chars.specs.Fold.{folded}
 use Rattle.calendar_gregorian.proofs.Dates.{by-month}
-use Rattle.template_patterns.specs.Words.{wordTable}
+use Rattle.template_patterns.specs.Words.{word_table}
 use Rattle.template_patterns.specs.declared.Case.{Case}
 use Rattle.template_patterns.specs.declared.tables.WordList.TheVariants.{MonthsFull}
-use Rattle.write_pieces.specs.Words.{inCase, monthNames, monthText}
+use Rattle.write_pieces.specs.Words.{in_case, month_names, month_text}
 use Rattle.write_pieces.proofs.Cased.{cased-folded, cased-size}
 
 abbrev pub letters : List ℕ
@@ -24,7 +24,7 @@ few-letters = by-month (λ m. get_or letters (m - 1) 0 ≤ 9) (omega arith)
 
 -- the name of a month, full or of three letters
 abbrev name : Bool → ℕ → List ℕ
-name full month = get_or (monthNames full) (month - 1) []
+name full month = get_or (month_names full) (month - 1) []
 
 -- where a month's row of nine bytes begins
 abbrev row : ℕ → ℕ
@@ -32,24 +32,24 @@ row month = 9 * (month - 1)
 
 -- the row of a month begins with its name in small letters, full or short
 abbrev Begins : Bool → ℕ → Type 0
-Begins full month = take (length (name full month)) (drop (row month) (wordTable MonthsFull)) ≡ map folded (name full month)
+Begins full month = take (length (name full month)) (drop (row month) (word_table MonthsFull)) ≡ map folded (name full month)
 
 begins : (full : Bool) (month : ℕ) → 1 ≤ month → month ≤ 12 → Begins full month
-unfolding wordTable
+unfolding word_table
 begins true = by-month (Begins true) (search depth 20)
 begins false = by-month (Begins false) (search depth 20)
 
 module _ (case : Case) (month : ℕ) (from : 1 ≤ month) (to : month ≤ 12) (full : Bool) where
-  pub full_size : full ≡ true → get_or letters (month - 1) 0 ≡ length (monthText case full month)
+  pub full_size : full ≡ true → get_or letters (month - 1) 0 ≡ length (month_text case full month)
   full_size e =
       rw (e, cased-size case (name true month)) (by-month (λ m. get_or letters (m - 1) 0 ≡ length (name true m)) (omega arith) month from to)
 
-  pub short-size : full ≡ false → 3 ≡ length (monthText case full month)
+  pub short-size : full ≡ false → 3 ≡ length (month_text case full month)
   short-size e = rw (e, cased-size case (name false month)) (by-month (λ m. 3 ≡ length (name false m)) (omega arith) month from to)
 
   -- n is the length of the name, and the part is the one that the code takes
-  pub name-part : (table : List ℕ) → table ≡ wordTable MonthsFull → (n : ℕ) → n ≡ length (monthText case full month)
-      → inCase case (take (row month + n - row month) (drop (row month) table)) ≡ monthText case full month
+  pub name-part : (table : List ℕ) → table ≡ word_table MonthsFull → (n : ℕ) → n ≡ length (month_text case full month)
+      → in_case case (take (row month + n - row month) (drop (row month) table)) ≡ month_text case full month
   name-part table e n size =
       let same : row month + n - row month ≡ n = omega arith in
       rw (same, e, size, cased-size case (name full month), begins full month from to) (cased-folded case (name full month))

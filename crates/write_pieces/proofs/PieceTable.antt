@@ -11,32 +11,32 @@ use lib.Dec.{eqb, ltb}
 use lib.ListN.{get_or, get_or-eq_default}
 use Rattle.base_notation.proofs.Cases.{both}
 use Rattle.base_notation.proofs.Table.{entry}
-use Rattle.template_patterns.specs.Patterns.{Pattern, patterns, patternOf}
-use Rattle.write_pieces.specs.Pieces.{none, pieceNamed, pieceOf, rows}
-use Rattle.write_pieces.specs.Tables.{letterOf, pieceTable}
+use Rattle.template_patterns.specs.Patterns.{Pattern, patterns, pattern_of}
+use Rattle.write_pieces.specs.Pieces.{none, piece_named, piece_of, rows}
+use Rattle.write_pieces.specs.Tables.{letter_of, piece_table}
 
 -- an entry is the letter of its pattern's piece
 abbrev right : ℕ → ℕ → Bool
-right k x = eqb x (letterOf (pieceOf k)) && ltb (pieceOf k) 18
+right k x = eqb x (letter_of (piece_of k)) && ltb (piece_of k) 18
 
 -- what one computed test of the table says of each entry
-tested : (k : ℕ) → k < 112 → (get_or pieceTable k 0 ≡ letterOf (pieceOf k)) × (pieceOf k < 18)
-unfolding pieceTable pieceOf
+tested : (k : ℕ) → k < 112 → (get_or piece_table k 0 ≡ letter_of (piece_of k)) × (piece_of k < 18)
+unfolding piece_table piece_of
 tested k h =
-    let tests = both (eqb (get_or pieceTable k 0) (letterOf (pieceOf k))) _ (entry right 0 pieceTable refl k h) in
+    let tests = both (eqb (get_or piece_table k 0) (letter_of (piece_of k))) _ (entry right 0 piece_table refl k h) in
     (eqb-true _ _ tests.0, ltb-true _ _ tests.1)
 
-pub letter_at : (k : ℕ) → k < 112 → get_or pieceTable k 0 ≡ letterOf (pieceOf k)
+pub letter_at : (k : ℕ) → k < 112 → get_or piece_table k 0 ≡ letter_of (piece_of k)
 letter_at k h = (tested k h).0
 
 -- a number past the table
-pub none-past : (k : ℕ) → 112 ≤ k → pieceOf k ≡ none
-unfolding pieceOf
-none-past k h = ap (λ (p : Pattern). pieceNamed p.name rows) (get_or-eq_default patterns (patternOf 112) h)
+pub none-past : (k : ℕ) → 112 ≤ k → piece_of k ≡ none
+unfolding piece_of
+none-past k h = ap (λ (p : Pattern). piece_named p.name rows) (get_or-eq_default patterns (pattern_of 112) h)
 
-pub piece-range : (k : ℕ) → pieceOf k < 18
+pub piece-range : (k : ℕ) → piece_of k < 18
 piece-range k = split (ltb k 112) refl
   where
-    split : (b : Bool) → ltb k 112 ≡ b → pieceOf k < 18
+    split : (b : Bool) → ltb k 112 ≡ b → piece_of k < 18
     split true e = (tested k (ltb-true k 112 e)).1
     split false e = rw (none-past k (ltb-false k 112 e)) (omega arith)

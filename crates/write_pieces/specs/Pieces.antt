@@ -2,10 +2,10 @@
 -- month, in the pattern's case.
 use Rattle.std.specs.Prelude.{◌≡◌, refl, Bool, true, false, List, [], ◌∷◌, map, ℕ, ◌+◌, ◌*◌, ◌%◌, eqb, ltb, nat_abs, get_or}
 use Prim.Native.String.{String}
-use Rattle.calendar_gregorian.specs.IsoWeek.{weeks-compute, isoWeek, isoWeekday, isoYear}
+use Rattle.calendar_gregorian.specs.IsoWeek.{weeks-compute, iso_week, iso_weekday, iso_year}
 use Rattle.base_notation.specs.Choice.{if◌then◌else◌}
 use Rattle.base_notation.specs.Text.{utf8}
-use Rattle.calendar_gregorian.specs.Gregorian.{dayNumber, dayOfYear}
+use Rattle.calendar_gregorian.specs.Gregorian.{day_number, day_of_year}
 use Rattle.template_patterns.specs.Affixes.{bit_at}
 use Rattle.template_patterns.specs.Patterns.{name_of}
 use Rattle.template_patterns.specs.declared.Case.{Case}
@@ -13,7 +13,7 @@ use Rattle.template_patterns.specs.declared.Case.TheVariants.{Capitals, Small, T
 use Rattle.read_fields.specs.Tasks.{among}
 use Rattle.base_strtol.specs.Decimal.{decimal}
 use Rattle.write_pieces.specs.Moment.{moment}
-use Rattle.write_pieces.specs.Words.{markerText, monthText}
+use Rattle.write_pieces.specs.Words.{marker_text, month_text}
 use Rattle.write_pieces.specs.declared.Moment.{Moment}
 
 -- the pieces: none; year, month and day; day of the year; ISO year, week and weekday; hour of 24 and of 12, minute,
@@ -30,11 +30,11 @@ month = 2
 abbrev pub day : ℕ
 day = 3
 
-abbrev pub yearDay : ℕ
-yearDay = 4
+abbrev pub year_day : ℕ
+year_day = 4
 
-abbrev pub weekYear : ℕ
-weekYear = 5
+abbrev pub week_year : ℕ
+week_year = 5
 
 abbrev pub week : ℕ
 week = 6
@@ -54,8 +54,8 @@ minute = 10
 abbrev pub second : ℕ
 second = 11
 
-abbrev pub daySecond : ℕ
-daySecond = 12
+abbrev pub day_second : ℕ
+day_second = 12
 
 abbrev pub micros : ℕ
 micros = 13
@@ -63,14 +63,14 @@ micros = 13
 abbrev pub marker : ℕ
 marker = 14
 
-abbrev pub dottedMarker : ℕ
-dottedMarker = 15
+abbrev pub dotted_marker : ℕ
+dotted_marker = 15
 
-abbrev pub monthName : ℕ
-monthName = 16
+abbrev pub month_name : ℕ
+month_name = 16
 
-abbrev pub shortMonth : ℕ
-shortMonth = 17
+abbrev pub short_month : ℕ
+short_month = 17
 
 -- a row of the table below: names of patterns, and their piece
 pub record Row : Type 0 where
@@ -87,30 +87,30 @@ rows =
     ("YYYY" ∷ [] ⇒ year)
     ∷ ("MM" ∷ [] ⇒ month)
     ∷ ("DD" ∷ [] ⇒ day)
-    ∷ ("DDD" ∷ [] ⇒ yearDay)
-    ∷ ("IYYY" ∷ [] ⇒ weekYear)
+    ∷ ("DDD" ∷ [] ⇒ year_day)
+    ∷ ("IYYY" ∷ [] ⇒ week_year)
     ∷ ("IW" ∷ [] ⇒ week)
     ∷ ("ID" ∷ [] ⇒ weekday)
     ∷ ("HH24" ∷ [] ⇒ hour24)
     ∷ ("HH" ∷ "HH12" ∷ [] ⇒ hour12)
     ∷ ("MI" ∷ [] ⇒ minute)
     ∷ ("SS" ∷ [] ⇒ second)
-    ∷ ("SSSSS" ∷ [] ⇒ daySecond)
+    ∷ ("SSSSS" ∷ [] ⇒ day_second)
     ∷ ("US" ∷ [] ⇒ micros)
     ∷ ("AM" ∷ "PM" ∷ [] ⇒ marker)
-    ∷ ("A.M." ∷ "P.M." ∷ [] ⇒ dottedMarker)
-    ∷ ("MONTH" ∷ [] ⇒ monthName)
-    ∷ ("MON" ∷ [] ⇒ shortMonth)
+    ∷ ("A.M." ∷ "P.M." ∷ [] ⇒ dotted_marker)
+    ∷ ("MONTH" ∷ [] ⇒ month_name)
+    ∷ ("MON" ∷ [] ⇒ short_month)
     ∷ []
 
 -- the piece of the first row that has the name
-abbrev pub pieceNamed : List ℕ → List Row → ℕ
-pieceNamed name [] = none
-pieceNamed name (r ∷ rs) = if among name r.names then r.piece else pieceNamed name rs
+abbrev pub piece_named : List ℕ → List Row → ℕ
+piece_named name [] = none
+piece_named name (r ∷ rs) = if among name r.names then r.piece else piece_named name rs
 
 -- the piece of a pattern, by its number
-unfoldable pub pieceOf : ℕ → ℕ
-pieceOf k = pieceNamed (name_of k) rows
+unfoldable pub piece_of : ℕ → ℕ
+piece_of k = piece_named (name_of k) rows
 
 -- how many bytes each piece has at every moment; 0 for the full name of a month, whose length depends on the moment
 abbrev pub widths : List ℕ
@@ -121,7 +121,7 @@ width_of p = get_or widths p 0
 
 -- the prefix that a piece's pattern needs, by its bit: FM on the full name of a month, none on any other
 abbrev pub prefix_of : ℕ → ℕ
-prefix_of p = if eqb p monthName then 1 else 0
+prefix_of p = if eqb p month_name then 1 else 0
 
 -- the hour of the 12-hour clock: 12 for 0 and 12
 abbrev pub of12 : ℕ → ℕ
@@ -139,50 +139,50 @@ number_of p m =
     if eqb p year then y
     else if eqb p month then mo
     else if eqb p day then d
-    else if eqb p yearDay then dayOfYear y mo d
-    else if eqb p weekYear then isoYear y mo d
-    else if eqb p week then isoWeek y mo d
-    else if eqb p weekday then isoWeekday (dayNumber y mo d)
+    else if eqb p year_day then day_of_year y mo d
+    else if eqb p week_year then iso_year y mo d
+    else if eqb p week then iso_week y mo d
+    else if eqb p weekday then iso_weekday (day_number y mo d)
     else if eqb p hour24 then h
     else if eqb p hour12 then of12 h
     else if eqb p minute then mi
     else if eqb p second then s
-    else if eqb p daySecond then h * 3600 + mi * 60 + s
+    else if eqb p day_second then h * 3600 + mi * 60 + s
     else nat_abs m.micros
 
 -- the moment is before noon
-abbrev pub isMorning : Moment → Bool
-isMorning m = ltb (nat_abs m.hour) 12
+abbrev pub is_morning : Moment → Bool
+is_morning m = ltb (nat_abs m.hour) 12
 
 -- the text of a piece in a case at a moment, a number filled with zeros
-unfoldable pub pieceText : ℕ → Case → Moment → List ℕ
-pieceText p case m =
-    if eqb p marker then markerText case false (isMorning m)
-    else if eqb p dottedMarker then markerText case true (isMorning m)
-    else if eqb p monthName then monthText case true (nat_abs m.month)
-    else if eqb p shortMonth then monthText case false (nat_abs m.month)
+unfoldable pub piece_text : ℕ → Case → Moment → List ℕ
+piece_text p case m =
+    if eqb p marker then marker_text case false (is_morning m)
+    else if eqb p dotted_marker then marker_text case true (is_morning m)
+    else if eqb p month_name then month_text case true (nat_abs m.month)
+    else if eqb p short_month then month_text case false (nat_abs m.month)
     else decimal (width_of p) (number_of p m)
 
 -- yyyy is the year, and Month and mon are names of months; FF1 is not written
-pub known : (pieceOf 108 ≡ year) × (pieceOf 37 ≡ monthName) × (pieceOf 91 ≡ shortMonth) × (pieceOf 14 ≡ none)
-unfolding pieceOf
+pub known : (piece_of 108 ≡ year) × (piece_of 37 ≡ month_name) × (piece_of 91 ≡ short_month) × (piece_of 14 ≡ none)
+unfolding piece_of
 known = (refl, refl, refl, refl)
 
 -- FM is the prefix of the full name, and the short one has none
-pub prefixes : (prefix_of monthName ≡ bit_at true (utf8 "FMMonth") 0) × (prefix_of shortMonth ≡ 0)
+pub prefixes : (prefix_of month_name ≡ bit_at true (utf8 "FMMonth") 0) × (prefix_of short_month ≡ 0)
 unfolding bit_at
 prefixes = (refl, refl)
 
 -- January 1 of 2021 is day 5 of week 53 of 2020; midnight is 12 AM
 pub worked
-    : (pieceText weekYear Capitals (moment 2021 1 1 0 0 0 7) ≡ utf8 "2020") × (pieceText hour12 Capitals (moment 2021 1 1 0 0 0 7) ≡ utf8 "12")
-    × (pieceText marker Capitals (moment 2021 1 1 0 0 0 7) ≡ utf8 "AM") × (pieceText micros Small (moment 2021 1 1 0 0 0 7) ≡ utf8 "000007")
-unfolding pieceText number_of decimal weeks-compute
+    : (piece_text week_year Capitals (moment 2021 1 1 0 0 0 7) ≡ utf8 "2020") × (piece_text hour12 Capitals (moment 2021 1 1 0 0 0 7) ≡ utf8 "12")
+    × (piece_text marker Capitals (moment 2021 1 1 0 0 0 7) ≡ utf8 "AM") × (piece_text micros Small (moment 2021 1 1 0 0 0 7) ≡ utf8 "000007")
+unfolding piece_text number_of decimal weeks-compute
 worked = (refl, refl, refl, refl)
 
 -- noon is pm, the hour before it a.m.; the month is named in the pattern's case
 pub cased
-    : (pieceText marker Small (moment 2021 1 1 12 0 0 0) ≡ utf8 "pm") × (pieceText dottedMarker Small (moment 2021 1 1 11 0 0 0) ≡ utf8 "a.m.")
-    × (pieceText monthName Title (moment 2024 9 5 0 0 0 0) ≡ utf8 "September") × (pieceText shortMonth Capitals (moment 2024 9 5 0 0 0 0) ≡ utf8 "SEP")
-unfolding pieceText
+    : (piece_text marker Small (moment 2021 1 1 12 0 0 0) ≡ utf8 "pm") × (piece_text dotted_marker Small (moment 2021 1 1 11 0 0 0) ≡ utf8 "a.m.")
+    × (piece_text month_name Title (moment 2024 9 5 0 0 0 0) ≡ utf8 "September") × (piece_text short_month Capitals (moment 2024 9 5 0 0 0 0) ≡ utf8 "SEP")
+unfolding piece_text
 cased = (refl, refl, refl, refl)

@@ -9,37 +9,37 @@ use Rattle.template_patterns.specs.declared.Case.TheVariants.{Capitals, Small, T
 use Rattle.template_patterns.specs.declared.tables.WordList.TheVariants.{MonthsFull, MonthsAbbrev}
 
 -- a letter of a word in a case: in title case the first is a capital
-abbrev pub letterIn : Case → Bool → ℕ → ℕ
-letterIn Capitals first b = raised b
-letterIn Small first b = folded b
-letterIn Title first b = if first then raised b else folded b
+abbrev pub letter_in : Case → Bool → ℕ → ℕ
+letter_in Capitals first b = raised b
+letter_in Small first b = folded b
+letter_in Title first b = if first then raised b else folded b
 
 -- a word in a case
-abbrev pub inCase : Case → List ℕ → List ℕ
-inCase case [] = []
-inCase case (b ∷ w) = letterIn case true b ∷ map (letterIn case false) w
+abbrev pub in_case : Case → List ℕ → List ℕ
+in_case case [] = []
+in_case case (b ∷ w) = letter_in case true b ∷ map (letter_in case false) w
 
 -- a marker in a case, dotted where the pattern is
-abbrev pub markerText : Case → Bool → Bool → List ℕ
-markerText case dotted morning =
-    inCase case
+abbrev pub marker_text : Case → Bool → Bool → List ℕ
+marker_text case dotted morning =
+    in_case case
     (if dotted then (if morning then utf8 "A.M." else utf8 "P.M.") else (if morning then utf8 "AM" else utf8 "PM"))
 
 -- the names of months, full or of three letters
-abbrev pub monthNames : Bool → List (List ℕ)
-monthNames full = words_of (if full then MonthsFull else MonthsAbbrev)
+abbrev pub month_names : Bool → List (List ℕ)
+month_names full = words_of (if full then MonthsFull else MonthsAbbrev)
 
 -- the name of a month from 1 to 12 in a case
-abbrev pub monthText : Case → Bool → ℕ → List ℕ
-monthText case full month = inCase case (get_or (monthNames full) (month - 1) [])
+abbrev pub month_text : Case → Bool → ℕ → List ℕ
+month_text case full month = in_case case (get_or (month_names full) (month - 1) [])
 
 -- markers have capitals or small letters; no marker's pattern is in title case, in which it would be Am
 pub markers
-    : (markerText Small false false ≡ utf8 "pm") × (markerText Capitals true true ≡ utf8 "A.M.") × (markerText Title false true ≡ utf8 "Am")
+    : (marker_text Small false false ≡ utf8 "pm") × (marker_text Capitals true true ≡ utf8 "A.M.") × (marker_text Title false true ≡ utf8 "Am")
 markers = (refl, refl, refl)
 
 -- a name in each case, and of each length
 pub months
-    : (monthText Title true 9 ≡ utf8 "September") × (monthText Small true 5 ≡ utf8 "may") × (monthText Capitals true 12 ≡ utf8 "DECEMBER")
-    × (monthText Title false 9 ≡ utf8 "Sep") × (monthText Small false 6 ≡ utf8 "jun") × (monthText Capitals false 7 ≡ utf8 "JUL")
+    : (month_text Title true 9 ≡ utf8 "September") × (month_text Small true 5 ≡ utf8 "may") × (month_text Capitals true 12 ≡ utf8 "DECEMBER")
+    × (month_text Title false 9 ≡ utf8 "Sep") × (month_text Small false 6 ≡ utf8 "jun") × (month_text Capitals false 7 ≡ utf8 "JUL")
 months = (refl, refl, refl, refl, refl, refl)

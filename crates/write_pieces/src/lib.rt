@@ -6,10 +6,10 @@ mod words;
 
 ghost use Rattle.std.specs.Prelude.{◌≡◌, true, ◌+◌, ◌<◌, ◌≤◌, length};
 ghost use Rattle.template_patterns.specs.declared.Case.{Case};
-ghost use Rattle.write_pieces.specs.Moment.{isMoment, sevenNumbers};
+ghost use Rattle.write_pieces.specs.Moment.{is_moment, seven_numbers};
 ghost use Rattle.write_pieces.specs.Output.{Put};
-ghost use Rattle.write_pieces.specs.Pieces.{pieceOf, pieceText, prefix_of, width_of};
-ghost use Rattle.write_pieces.specs.Tables.{pieceTable};
+ghost use Rattle.write_pieces.specs.Pieces.{piece_of, piece_text, prefix_of, width_of};
+ghost use Rattle.write_pieces.specs.Tables.{piece_table};
 
 pub use numbers::is_moment;
 pub use output::put_bytes;
@@ -37,7 +37,7 @@ pub fn seven_numbers(
     second: i32,
     micros: i32,
 ) -> Moment
-    ensures { result ≡ sevenNumbers year month day hour minute second micros }
+    ensures { result ≡ seven_numbers year month day hour minute second micros }
 {
     Moment {
         year,
@@ -99,15 +99,15 @@ const PIECES: [u8; 112] = *b"\
 
 // The table is laid out once and lent to what writes by it.
 pub fn table() -> [u8; 112]
-    ensures { result ≡ pieceTable }
+    ensures { result ≡ piece_table }
 {
     PIECES
 }
 
 // The piece of a pattern, by its number.
 pub fn piece_of(table: &[u8; 112], pattern: u8) -> u8
-    requires { table.now ≡ pieceTable }
-    ensures { result ≡ pieceOf pattern }
+    requires { table.now ≡ piece_table }
+    ensures { result ≡ piece_of pattern }
 {
     if pattern >= 112 {
         return NONE;
@@ -153,8 +153,8 @@ fn width_of(piece: u8) -> usize
 
 // The length of a piece's text at a moment, which is the same in every case.
 pub fn piece_length(piece: u8, m: Moment) -> usize
-    requires { (piece < 18) × (isMoment m ≡ true) }
-    ensures { ((case : Case) → result ≡ length (pieceText piece case m)) × (result ≤ 9) }
+    requires { (piece < 18) × (is_moment m ≡ true) }
+    ensures { ((case : Case) → result ≡ length (piece_text piece case m)) × (result ≤ 9) }
 {
     if piece == MONTH_NAME {
         return words::name_length(true, m.month as u32);
@@ -164,8 +164,8 @@ pub fn piece_length(piece: u8, m: Moment) -> usize
 
 // The text of a piece put into the buffer. Tests of one piece each become one jump, with those of `number_of`.
 pub fn put_piece(piece: u8, case: Case, m: Moment, out: &mut [u8], at: usize) -> usize
-    requires { (piece < 18) × (isMoment m ≡ true) × (at + length (pieceText piece case m) ≤ length out.old) }
-    ensures { Put out.old at (pieceText piece case m) out.new result }
+    requires { (piece < 18) × (is_moment m ≡ true) × (at + length (piece_text piece case m) ≤ length out.old) }
+    ensures { Put out.old at (piece_text piece case m) out.new result }
 {
     if piece == MARKER {
         return words::put_marker(case, false, m.hour < 12, out, at);

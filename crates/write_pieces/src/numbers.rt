@@ -1,6 +1,6 @@
 // The numbers of a moment.
 ghost use Rattle.std.specs.Prelude.{◌≡◌, true};
-ghost use Rattle.write_pieces.specs.Moment.{isMoment, within};
+ghost use Rattle.write_pieces.specs.Moment.{is_moment, within};
 ghost use Rattle.write_pieces.specs.Pieces.{number_of};
 
 use crate::{
@@ -23,7 +23,7 @@ fn in_range(low: i32, high: i32, x: i32) -> bool
 
 // Whether seven numbers are a moment.
 pub fn is_moment(m: Moment) -> bool
-    ensures { result ≡ isMoment m }
+    ensures { result ≡ is_moment m }
 {
     if !in_range(1, 9999, m.year) {
         return false;
@@ -46,7 +46,7 @@ pub fn is_moment(m: Moment) -> bool
 
 // The number of a piece that is one: no marker, and no name of a month.
 pub fn number_of(piece: u8, m: Moment) -> u32
-    requires { isMoment m ≡ true }
+    requires { is_moment m ≡ true }
     ensures { result ≡ number_of piece m }
 {
     match piece {

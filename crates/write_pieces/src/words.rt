@@ -2,13 +2,13 @@
 ghost use Rattle.std.specs.Prelude.{◌≡◌, ◌+◌, ◌≤◌, length};
 ghost use Rattle.template_patterns.specs.declared.Case.{Case};
 ghost use Rattle.write_pieces.specs.Output.{Put};
-ghost use Rattle.write_pieces.specs.Words.{inCase, letterIn, markerText, monthText};
+ghost use Rattle.write_pieces.specs.Words.{in_case, letter_in, marker_text, month_text};
 
 use template_patterns::Case;
 
 // A letter of a word in a case, the first or another.
 fn letter_in(case: Case, first: bool, b: u8) -> u8
-    ensures { result ≡ letterIn case first b }
+    ensures { result ≡ letter_in case first b }
 {
     match case {
         Case::Capitals => base_chars::raised(b),
@@ -25,7 +25,7 @@ fn letter_in(case: Case, first: bool, b: u8) -> u8
 // A word put into the buffer in a case.
 fn put_word(word: &[u8], case: Case, out: &mut [u8], at: usize) -> usize
     requires { at + length word.now ≤ length out.old }
-    ensures { Put out.old at (inCase case word.now) out.new result }
+    ensures { Put out.old at (in_case case word.now) out.new result }
 {
     let mut i = 0;
     while i < word.len() {
@@ -37,8 +37,8 @@ fn put_word(word: &[u8], case: Case, out: &mut [u8], at: usize) -> usize
 
 // A marker put into the buffer.
 pub fn put_marker(case: Case, dotted: bool, morning: bool, out: &mut [u8], at: usize) -> usize
-    requires { at + length (markerText case dotted morning) ≤ length out.old }
-    ensures { Put out.old at (markerText case dotted morning) out.new result }
+    requires { at + length (marker_text case dotted morning) ≤ length out.old }
+    ensures { Put out.old at (marker_text case dotted morning) out.new result }
 {
     let half = if morning { b'A' } else { b'P' };
     let m = letter_in(case, false, b'M');
@@ -58,7 +58,7 @@ const LENGTHS: [u8; 12] = [7, 8, 5, 5, 3, 4, 4, 6, 9, 7, 8, 8];
 
 pub fn name_length(full: bool, month: u32) -> usize
     requires { (1 ≤ month) × (month ≤ 12) }
-    ensures { ((case : Case) → result ≡ length (monthText case full month)) × (result ≤ 9) }
+    ensures { ((case : Case) → result ≡ length (month_text case full month)) × (result ≤ 9) }
 {
     if full {
         return LENGTHS[month as usize - 1] as usize;
@@ -68,8 +68,8 @@ pub fn name_length(full: bool, month: u32) -> usize
 
 // The name of a month put into the buffer. A short name is the beginning of the full one.
 pub fn put_month(full: bool, month: u32, case: Case, out: &mut [u8], at: usize) -> usize
-    requires { (1 ≤ month) × (month ≤ 12) × (at + length (monthText case full month) ≤ length out.old) }
-    ensures { Put out.old at (monthText case full month) out.new result }
+    requires { (1 ≤ month) × (month ≤ 12) × (at + length (month_text case full month) ≤ length out.old) }
+    ensures { Put out.old at (month_text case full month) out.new result }
 {
     let names = template_patterns::months_full();
     let start = 9 * (month as usize - 1);

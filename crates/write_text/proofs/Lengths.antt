@@ -13,26 +13,26 @@ use lib.ListN.{length, take, drop, length-drop, length-take}
 use Rattle.template_patterns.specs.Cases.{case_of}
 use Rattle.template_nodes.specs.Template.{action}
 use Rattle.template_nodes.specs.declared.Node.{Node}
-use Rattle.write_pieces.specs.Pieces.{pieceOf, pieceText}
+use Rattle.write_pieces.specs.Pieces.{piece_of, piece_text}
 use Rattle.write_pieces.specs.declared.Moment.{Moment}
-use Rattle.write_text.specs.Text.{literalText, nodeText}
+use Rattle.write_text.specs.Text.{literal_text, node_text}
 
 module _ (t : List ℕ) (m : Moment) (n : Node) where
-  pub action-text : n.kind ≡ action → nodeText t m n ≡ pieceText (pieceOf n.pattern) (case_of n.pattern) m
-  unfolding nodeText
+  pub action-text : n.kind ≡ action → node_text t m n ≡ piece_text (piece_of n.pattern) (case_of n.pattern) m
+  unfolding node_text
   action-text e = rw (eq-eqb n.kind action e)
 
-  pub literal-text : (n.kind ≡ action → ⊥) → nodeText t m n ≡ literalText t n
-  unfolding nodeText
+  pub literal-text : (n.kind ≡ action → ⊥) → node_text t m n ≡ literal_text t n
+  unfolding node_text
   literal-text e = rw (ne_eqb n.kind action e)
 
   -- r is the length of a text of the piece p
-  pub action-size : n.kind ≡ action → (p : ℕ) → p ≡ pieceOf n.pattern → (r : ℕ) → r ≡ length (pieceText p (case_of n.pattern) m)
-      → r ≡ length (nodeText t m n)
+  pub action-size : n.kind ≡ action → (p : ℕ) → p ≡ piece_of n.pattern → (r : ℕ) → r ≡ length (piece_text p (case_of n.pattern) m)
+      → r ≡ length (node_text t m n)
   action-size e p is r size = rw (action-text e, ← is) size
 
 module _ (t : List ℕ) (n : Node) where
-  pub literal-size : length (literalText t n) ≡ n.len - (n.len - (length t - n.start))
+  pub literal-size : length (literal_text t n) ≡ n.len - (n.len - (length t - n.start))
   literal-size = length-take n.len (drop n.start t) ∙ rw (length-drop n.start t) (omega arith)
 
 -- as many bytes as were taken
@@ -42,18 +42,18 @@ taken-again (suc k) [] = refl
 taken-again (suc k) (x ∷ l) = ap (λ (r : List ℕ). x ∷ r) (taken-again k l)
 
 -- a literal by the part of the template that it is
-pub literal-part : (t : List ℕ) (n : Node) (len : ℕ) → len ≡ length (literalText t n) → take (n.start + len - n.start) (drop n.start t) ≡ literalText t n
+pub literal-part : (t : List ℕ) (n : Node) (len : ℕ) → len ≡ length (literal_text t n) → take (n.start + len - n.start) (drop n.start t) ≡ literal_text t n
 literal-part t n len e =
     let same : n.start + len - n.start ≡ len = omega arith in
     rw (same, e) (taken-again n.len (drop n.start t))
 
 -- it ends within the template, unless there is nothing of it
-pub literal-end : (t : List ℕ) (n : Node) (len : ℕ) → len ≡ length (literalText t n) → (len ≡ 0 → ⊥) → n.start + len ≤ length t
+pub literal-end : (t : List ℕ) (n : Node) (len : ℕ) → len ≡ length (literal_text t n) → (len ≡ 0 → ⊥) → n.start + len ≤ length t
 literal-end t n len e some = omega (arith, literal-size t n, e, some)
 
 -- a literal of length 0
-pub no-literal : (t : List ℕ) (n : Node) (len : ℕ) → len ≡ length (literalText t n) → len ≡ 0 → literalText t n ≡ []
-no-literal t n len e z = empty (literalText t n) (sym e ∙ z)
+pub no-literal : (t : List ℕ) (n : Node) (len : ℕ) → len ≡ length (literal_text t n) → len ≡ 0 → literal_text t n ≡ []
+no-literal t n len e z = empty (literal_text t n) (sym e ∙ z)
   where
     empty : (l : List ℕ) → length l ≡ 0 → l ≡ []
     empty [] h = refl

@@ -10,43 +10,43 @@ use lib.ListN.{take, drop}
 use lib.Seq.{drop-drop, take-add}
 use Rattle.base_notation.specs.Choice.{if◌then◌else◌}
 use Rattle.template_nodes.specs.Joined.{longer}
-use Rattle.template_nodes.specs.Template.{action, nodesBy, nodesOf}
+use Rattle.template_nodes.specs.Template.{action, nodes_by, nodes_of}
 use Rattle.template_nodes.specs.declared.Node.{Node}
 use Rattle.template_nodes.proofs.Joined.{Kept, in-both-modes}
 use Rattle.write_pieces.specs.declared.Moment.{Moment}
 use Rattle.write_text.specs.Full.{pieces}
-use Rattle.write_text.specs.Text.{literalText, nodeText, nodesText, text_of}
-use Rattle.write_text.specs.Writer.{firstUnwritten, is_written}
+use Rattle.write_text.specs.Text.{literal_text, node_text, nodes_text, text_of}
+use Rattle.write_text.specs.Writer.{first_unwritten, is_written}
 
 module _ (t : List ℕ) (m : Moment) where
   -- a letter with its mark has the bytes of both
   joined-text : (a b : Node) → eqb a.kind action ≡ false → eqb b.kind action ≡ false → b.start ≡ a.start + a.len
-      → nodeText t m (longer a b.len) ≡ nodeText t m a ++ nodeText t m b
-  unfolding nodeText
+      → node_text t m (longer a b.len) ≡ node_text t m a ++ node_text t m b
+  unfolding node_text
   joined-text a b p q e = rw (p, q, take-add a.len b.len (drop a.start t), drop-drop a.len a.start t, e)
 
-  text-kept : Kept (nodesText t m)
-  unfolding nodesText nodeText
+  text-kept : Kept (nodes_text t m)
+  unfolding nodes_text node_text
   text-kept = record {
     mode = λ n ns. refl;
-    after = λ n ns ms e. ap (λ (text : List ℕ). nodeText t m n ++ text) e;
-    join = λ a b ns p q e. rw (joined-text a b p q e) (append_assoc (nodeText t m a) (nodeText t m b) (nodesText t m ns));
+    after = λ n ns ms e. ap (λ (text : List ℕ). node_text t m n ++ text) e;
+    join = λ a b ns p q e. rw (joined-text a b p q e) (append_assoc (node_text t m a) (node_text t m b) (nodes_text t m ns));
   }
 
-  pub text_in-both : (accents : Bool) → nodesText t m (nodesBy accents t) ≡ text_of t m
+  pub text_in-both : (accents : Bool) → nodes_text t m (nodes_by accents t) ≡ text_of t m
   unfolding text_of
-  text_in-both accents = in-both-modes (nodesText t m) text-kept accents t
+  text_in-both accents = in-both-modes (nodes_text t m) text-kept accents t
 
-unwritten-kept : Kept firstUnwritten
-unfolding firstUnwritten
+unwritten-kept : Kept first_unwritten
+unfolding first_unwritten
 unwritten-kept = record { mode = λ n ns. refl; after = λ n ns ms e. rw e; join = λ a b ns p q e. rw (p, q) }
 
-pub unwritten-in-both : (accents : Bool) (t : List ℕ) → firstUnwritten (nodesBy accents t) ≡ firstUnwritten (nodesOf t)
-unwritten-in-both = in-both-modes firstUnwritten unwritten-kept
+pub unwritten-in-both : (accents : Bool) (t : List ℕ) → first_unwritten (nodes_by accents t) ≡ first_unwritten (nodes_of t)
+unwritten-in-both = in-both-modes first_unwritten unwritten-kept
 
 pieces_kept : Kept pieces
 unfolding pieces
 pieces_kept = record { mode = λ n ns. refl; after = λ n ns ms e. rw e; join = λ a b ns p q e. rw (p, q) }
 
-pub pieces-in-both : (accents : Bool) (t : List ℕ) → pieces (nodesBy accents t) ≡ pieces (nodesOf t)
+pub pieces-in-both : (accents : Bool) (t : List ℕ) → pieces (nodes_by accents t) ≡ pieces (nodes_of t)
 pieces-in-both = in-both-modes pieces pieces_kept

@@ -10,15 +10,15 @@ use borrow.Author.Tests.{ltb-false}
 use lib.Dec.{ltb}
 use lib.ListN.{length}
 use Rattle.base_notation.proofs.Cases.{by-if}
-use Rattle.base_settings.specs.Limits.{templateLimit}
+use Rattle.base_settings.specs.Limits.{template_limit}
 use Rattle.base_settings.specs.declared.Settings.{Settings}
-use Rattle.base_chars.specs.Utf8.{wellFormed}
-use Rattle.write_pieces.specs.Moment.{isMoment}
+use Rattle.base_chars.specs.Utf8.{well_formed}
+use Rattle.write_pieces.specs.Moment.{is_moment}
 use Rattle.write_pieces.specs.declared.Moment.{Moment}
-use Rattle.template_nodes.specs.Bytes.{nodesIn}
-use Rattle.template_nodes.specs.Template.{nodesOf}
+use Rattle.template_nodes.specs.Bytes.{nodes_in}
+use Rattle.template_nodes.specs.Template.{nodes_of}
 use Rattle.write_text.specs.Text.{text_of}
-use Rattle.write_text.specs.Writer.{allWritten, firstUnwritten, nodesLimit, textIn, written_by, writtenIn, writtenTo}
+use Rattle.write_text.specs.Writer.{all_written, first_unwritten, nodes_limit, text_in, written_by, written_in, written_to}
 use Rattle.write_text.specs.declared.Unwritten.{Unwritten}
 use Rattle.write_text.specs.declared.Written.{Written}
 use Rattle.write_text.specs.declared.Written.TheVariants.{Length, Refused}
@@ -35,20 +35,20 @@ module _ (room : ℕ) where
   by-measured : (u : ℕ) (m : Moment) (text : List ℕ) → Measured room text (written_by u m text room)
   by-measured u m text =
       let M = Measured room text in
-      by-if M (ltb u allWritten) _ _ (λ e. refused text _)
-      (λ e. by-if M (not (isMoment m)) _ _ (λ e. refused text _)
+      by-if M (ltb u all_written) _ _ (λ e. refused text _)
+      (λ e. by-if M (not (is_moment m)) _ _ (λ e. refused text _)
       (λ e. by-if M (ltb room (length text)) _ _ (λ e. refused text _)
       (λ e n q. let same : length text ≡ n = cc in (sym same, omega (arith, ltb-false room (length text) e)))))
 
-  pub to-measured : (set : Settings) (t : List ℕ) (m : Moment) → Measured room (text_of t m) (writtenTo set t m room)
-  unfolding writtenTo
+  pub to-measured : (set : Settings) (t : List ℕ) (m : Moment) → Measured room (text_of t m) (written_to set t m room)
+  unfolding written_to
   to-measured set t m =
       let text = text_of t m in
-      by-if (Measured room text) (ltb (templateLimit set) (length t)) _ _ (λ e. refused text _)
-      (λ e. by-if (Measured room text) (not (wellFormed t)) _ _ (λ e. refused text _) (λ e. by-measured (firstUnwritten (nodesOf t)) m text))
+      by-if (Measured room text) (ltb (template_limit set) (length t)) _ _ (λ e. refused text _)
+      (λ e. by-if (Measured room text) (not (well_formed t)) _ _ (λ e. refused text _) (λ e. by-measured (first_unwritten (nodes_of t)) m text))
 
-  pub in-measured : (set : Settings) (c t : List ℕ) (m : Moment) → Measured room (textIn c t m) (writtenIn set c t m room)
-  unfolding writtenIn
+  pub in-measured : (set : Settings) (c t : List ℕ) (m : Moment) → Measured room (text_in c t m) (written_in set c t m room)
+  unfolding written_in
   in-measured set c t m =
-      let text = textIn c t m in
-      by-if (Measured room text) (ltb (nodesLimit set) (length c)) _ _ (λ e. refused text _) (λ e. by-measured (firstUnwritten (nodesIn c)) m text)
+      let text = text_in c t m in
+      by-if (Measured room text) (ltb (nodes_limit set) (length c)) _ _ (λ e. refused text _) (λ e. by-measured (first_unwritten (nodes_in c)) m text)

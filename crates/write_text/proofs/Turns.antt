@@ -14,22 +14,22 @@ use native.Mathlib.Numerals.{add-one}
 use native.Mathlib.Omega.{arith}
 use lib.ListN.{length, drop, get_or, drop_of_length-le, length-append}
 use lib.Seq.{drop-cons, sets}
-use Rattle.template_nodes.specs.Bytes.{nodesIn}
-use Rattle.template_nodes.specs.Template.{endNode}
+use Rattle.template_nodes.specs.Bytes.{nodes_in}
+use Rattle.template_nodes.specs.Template.{end_node}
 use Rattle.template_nodes.specs.declared.Node.{Node}
 use Rattle.template_nodes.proofs.Encoding.{nodes-length}
 use Rattle.write_pieces.specs.Output.{Put}
-use Rattle.write_text.specs.Text.{nodeText, nodesText}
-use Rattle.write_text.specs.Writer.{allWritten, firstUnwritten, is_written, named}
+use Rattle.write_text.specs.Text.{node_text, nodes_text}
+use Rattle.write_text.specs.Writer.{all_written, first_unwritten, is_written, named}
 use Rattle.write_pieces.specs.declared.Moment.{Moment}
 use Rattle.write_pieces.proofs.Puts.{put-after}
 
 -- as many nodes as the loops over their bytes count
 module _ (c : List ℕ) (i : ℕ) where
-  pub node-left : i < length c / 6 → i < length (nodesIn c)
+  pub node-left : i < length c / 6 → i < length (nodes_in c)
   node-left h = omega (arith, nodes-length c)
 
-  pub none_left : length c / 6 ≤ i → length (nodesIn c) ≤ i
+  pub none_left : length c / 6 ≤ i → length (nodes_in c) ≤ i
   none_left h = omega (arith, nodes-length c)
 
 module _ (nodes : List Node) (i : ℕ) where
@@ -37,7 +37,7 @@ module _ (nodes : List Node) (i : ℕ) where
   left = drop i nodes
 
   abbrev here : Node
-  here = get_or nodes i endNode
+  here = get_or nodes i end_node
 
   abbrev next : List Node
   next = drop (i + 1) nodes
@@ -45,43 +45,43 @@ module _ (nodes : List Node) (i : ℕ) where
   -- a node is left
   module _ (h : i < length nodes) where
     one : left ≡ here ∷ next
-    one = drop-cons nodes i endNode h ∙ rw (add-one i)
+    one = drop-cons nodes i end_node h ∙ rw (add-one i)
 
-    pub unwritten-here : is_written here ≡ false → firstUnwritten left ≡ named here.pattern
-    unfolding firstUnwritten
+    pub unwritten-here : is_written here ≡ false → first_unwritten left ≡ named here.pattern
+    unfolding first_unwritten
     unwritten-here e = rw (one, e)
 
-    pub unwritten-next : is_written here ≡ true → firstUnwritten left ≡ firstUnwritten next
-    unfolding firstUnwritten
+    pub unwritten-next : is_written here ≡ true → first_unwritten left ≡ first_unwritten next
+    unfolding first_unwritten
     unwritten-next e = rw (one, e)
 
-    text-next : (t : List ℕ) (m : Moment) → nodesText t m left ≡ nodeText t m here ++ nodesText t m next
-    unfolding nodesText
+    text-next : (t : List ℕ) (m : Moment) → nodes_text t m left ≡ node_text t m here ++ nodes_text t m next
+    unfolding nodes_text
     text-next t m = rw one
 
-    pub size-next : (t : List ℕ) (m : Moment) → length (nodesText t m left) ≡ length (nodeText t m here) + length (nodesText t m next)
-    size-next t m = ap length (text-next t m) ∙ length-append (nodeText t m here) (nodesText t m next)
+    pub size-next : (t : List ℕ) (m : Moment) → length (nodes_text t m left) ≡ length (node_text t m here) + length (nodes_text t m next)
+    size-next t m = ap length (text-next t m) ∙ length-append (node_text t m here) (nodes_text t m next)
 
     -- where there is room for what is left, there is room for the node here
-    pub room-here : (t : List ℕ) (m : Moment) (at room : ℕ) → at + length (nodesText t m left) ≤ room → at + length (nodeText t m here) ≤ room
+    pub room-here : (t : List ℕ) (m : Moment) (at room : ℕ) → at + length (nodes_text t m left) ≤ room → at + length (node_text t m here) ≤ room
     room-here t m at room r = omega (arith, size-next t m)
 
     -- and once the node is put, for the rest, and putting that puts all that was left
-    pub put_next : (t : List ℕ) (m : Moment) {out after : List ℕ} {at next-at : ℕ} (room : ℕ) → at + length (nodesText t m left) ≤ room
-        → Put out at (nodeText t m here) after next-at
-        → (next-at + length (nodesText t m next) ≤ room) × (sets after next-at (nodesText t m next) ≡ sets out at (nodesText t m left))
+    pub put_next : (t : List ℕ) (m : Moment) {out after : List ℕ} {at next-at : ℕ} (room : ℕ) → at + length (nodes_text t m left) ≤ room
+        → Put out at (node_text t m here) after next-at
+        → (next-at + length (nodes_text t m next) ≤ room) × (sets after next-at (nodes_text t m next) ≡ sets out at (nodes_text t m left))
     put_next t m {out} {after} {at} room r p =
-        (omega (arith, size-next t m, p.next), rw (p.is, p.next, text-next t m) (put-after out at (nodeText t m here) (nodesText t m next)))
+        (omega (arith, size-next t m, p.next), rw (p.is, p.next, text-next t m) (put-after out at (node_text t m here) (nodes_text t m next)))
 
   -- none is left
   module _ (h : length nodes ≤ i) where
     none : left ≡ []
     none = drop_of_length-le nodes {i = i} h
 
-    pub unwritten-end : firstUnwritten left ≡ allWritten
-    unfolding firstUnwritten
+    pub unwritten-end : first_unwritten left ≡ all_written
+    unfolding first_unwritten
     unwritten-end = rw none
 
-    pub text-end : (t : List ℕ) (m : Moment) → nodesText t m left ≡ []
-    unfolding nodesText
+    pub text-end : (t : List ℕ) (m : Moment) → nodes_text t m left ≡ []
+    unfolding nodes_text
     text-end t m = rw none

@@ -1,13 +1,13 @@
 // Writing a moment by a template.
 ghost use Rattle.std.specs.Prelude.{◌≡◌, true, ◌+◌, ◌≤◌, length};
 ghost use Rattle.std.proofs.lemmas.List.Edits.{sets};
-ghost use Rattle.template_nodes.specs.Bytes.{nodesIn};
-ghost use Rattle.write_pieces.specs.Moment.{isMoment};
+ghost use Rattle.template_nodes.specs.Bytes.{nodes_in};
+ghost use Rattle.write_pieces.specs.Moment.{is_moment};
 ghost use Rattle.write_pieces.specs.Output.{Put};
-ghost use Rattle.write_text.specs.Report.{unwrittenReport};
-ghost use Rattle.write_pieces.specs.Tables.{pieceTable};
-ghost use Rattle.write_text.specs.Text.{literalText, nodeText};
-ghost use Rattle.write_text.specs.Writer.{Wrote, WroteBy, firstUnwritten, is_written, named, nodesLimit, textIn};
+ghost use Rattle.write_text.specs.Report.{unwritten_report};
+ghost use Rattle.write_pieces.specs.Tables.{piece_table};
+ghost use Rattle.write_text.specs.Text.{literal_text, node_text};
+ghost use Rattle.write_text.specs.Writer.{Wrote, WroteBy, first_unwritten, is_written, named, nodes_limit, text_in};
 
 use base_refusals::{NO_PATTERN, Report};
 use base_settings::Settings;
@@ -35,7 +35,7 @@ pub enum Written {
 
 // By which number a refusal is known, with its pattern and figure.
 pub fn report_of(why: Unwritten) -> Report
-    ensures { result ≡ unwrittenReport why }
+    ensures { result ≡ unwritten_report why }
 {
     match why {
         Unwritten::TooLong => base_refusals::alone(1),
@@ -53,7 +53,7 @@ pub fn report_of(why: Unwritten) -> Report
 
 // Whether a node is written: a literal, or a known pattern with its piece's prefix and no suffix.
 fn is_written(table: &[u8; 112], n: Node) -> bool
-    requires { table.now ≡ pieceTable }
+    requires { table.now ≡ piece_table }
     ensures { result ≡ is_written n }
 {
     if n.kind != FN_ACTION {
@@ -81,8 +81,8 @@ fn named(pattern: u8) -> u8
 
 // The first pattern that is not written, of the nodes that the bytes hold.
 fn first_unwritten(table: &[u8; 112], c: &[u8]) -> u8
-    requires { table.now ≡ pieceTable }
-    ensures { result ≡ firstUnwritten (nodesIn c.now) }
+    requires { table.now ≡ piece_table }
+    ensures { result ≡ first_unwritten (nodes_in c.now) }
 {
     let mut i = 0;
     while i < c.len() / NODE {
@@ -97,7 +97,7 @@ fn first_unwritten(table: &[u8; 112], c: &[u8]) -> u8
 
 // The bytes of a literal that the template has.
 fn literal_length(t: &[u8], n: Node) -> usize
-    ensures { (result ≡ length (literalText t.now n)) × (result ≤ 65535) }
+    ensures { (result ≡ length (literal_text t.now n)) × (result ≤ 65535) }
 {
     let start = n.start as usize;
     let len = n.len as usize;
@@ -112,8 +112,8 @@ fn literal_length(t: &[u8], n: Node) -> usize
 
 // The length of a node's text at a moment.
 fn node_length(table: &[u8; 112], t: &[u8], n: Node, m: Moment) -> usize
-    requires { (table.now ≡ pieceTable) × (isMoment m ≡ true) }
-    ensures { (result ≡ length (nodeText t.now m n)) × (result ≤ 65535) }
+    requires { (table.now ≡ piece_table) × (is_moment m ≡ true) }
+    ensures { (result ≡ length (node_text t.now m n)) × (result ≤ 65535) }
 {
     if n.kind == FN_ACTION {
         return write_pieces::piece_length(write_pieces::piece_of(table, n.pattern), m);
@@ -123,8 +123,8 @@ fn node_length(table: &[u8; 112], t: &[u8], n: Node, m: Moment) -> usize
 
 // The length of the text at a moment.
 fn text_length(table: &[u8; 112], c: &[u8], t: &[u8], m: Moment) -> usize
-    requires { (table.now ≡ pieceTable) × (isMoment m ≡ true) × (length c.now ≤ 1536) }
-    ensures { (result ≡ length (textIn c.now t.now m)) × (result ≤ 16776960) }
+    requires { (table.now ≡ piece_table) × (is_moment m ≡ true) × (length c.now ≤ 1536) }
+    ensures { (result ≡ length (text_in c.now t.now m)) × (result ≤ 16776960) }
 {
     let mut total = 0;
     let mut i = 0;
@@ -137,8 +137,8 @@ fn text_length(table: &[u8; 112], c: &[u8], t: &[u8], m: Moment) -> usize
 
 // The text of a node put into the buffer.
 fn put_node(table: &[u8; 112], t: &[u8], n: Node, m: Moment, out: &mut [u8], at: usize) -> usize
-    requires { (table.now ≡ pieceTable) × (isMoment m ≡ true) × (at + length (nodeText t.now m n) ≤ length out.old) }
-    ensures { Put out.old at (nodeText t.now m n) out.new result }
+    requires { (table.now ≡ piece_table) × (is_moment m ≡ true) × (at + length (node_text t.now m n) ≤ length out.old) }
+    ensures { Put out.old at (node_text t.now m n) out.new result }
 {
     if n.kind == FN_ACTION {
         let piece = write_pieces::piece_of(table, n.pattern);
@@ -155,8 +155,8 @@ fn put_node(table: &[u8; 112], t: &[u8], n: Node, m: Moment, out: &mut [u8], at:
 
 // The text of all nodes put into the buffer, from its start on.
 fn put_nodes(table: &[u8; 112], c: &[u8], t: &[u8], m: Moment, out: &mut [u8])
-    requires { (table.now ≡ pieceTable) × (isMoment m ≡ true) × (length (textIn c.now t.now m) ≤ length out.old) }
-    ensures { out.new ≡ sets out.old 0 (textIn c.now t.now m) }
+    requires { (table.now ≡ piece_table) × (is_moment m ≡ true) × (length (text_in c.now t.now m) ≤ length out.old) }
+    ensures { out.new ≡ sets out.old 0 (text_in c.now t.now m) }
 {
     let mut at = 0;
     let mut i = 0;
@@ -169,7 +169,7 @@ fn put_nodes(table: &[u8; 112], c: &[u8], t: &[u8], m: Moment, out: &mut [u8])
 
 // The bytes of the most nodes that a template within its limit has.
 fn nodes_limit(set: Settings) -> usize
-    ensures { result ≡ nodesLimit set }
+    ensures { result ≡ nodes_limit set }
 {
     NODE * base_settings::template_limit(set)
 }

@@ -4,30 +4,30 @@ use Prim.Native.Nat.{ℕ}
 use borrow.Author.Rules.{rules}
 use borrow.Author.Tests.{eq-eqb, ne_eqb}
 use lib.ListN.{get_or-eq_default}
-use Rattle.base_accents.specs.Accents.{markAt}
+use Rattle.base_accents.specs.Accents.{mark_at}
 use Rattle.base_accents.proofs.is_mark.Statement.{statement}
 use Rattle.base_accents.proofs.is_mark.Tie as tie
 
 -- past the end
 returns : tie.Need-returns
-unfolding markAt
+unfolding mark_at
 returns c = rw (get_or-eq_default {A = ℕ} _ 0 c.if1.true)
 
 -- U+0300 to U+033F
 returns-2 : tie.Need-returns-2
-unfolding markAt
+unfolding mark_at
 returns-2 c = rw (eq-eqb _ _ c.before.before.if2.true, ← c.before.byte_at.ensures) c.second-to.ensures
 
 -- U+0340 to U+036F
 returns-3 : tie.Need-returns-3
-unfolding markAt
+unfolding mark_at
 returns-3 c =
     rw (ne_eqb _ _ c.before.before.before.before.if2.false, eq-eqb _ _ c.before.before.if3.true, ← c.before.byte-at2.ensures)
     c.second-to2.ensures
 
 -- another first byte
 returns-4 : tie.Need-returns-4
-unfolding markAt
+unfolding mark_at
 returns-4 c = rw (ne_eqb _ _ c.before.before.if2.false, ne_eqb _ _ c.if3.false)
 
 pub is-mark-spec : {M : Type 1} → statement M

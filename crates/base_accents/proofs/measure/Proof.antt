@@ -1,7 +1,7 @@
 -- `base_accents::measure` meets its contract: without the accents mode a character is a sequence of UTF-8.
 -- Assumes nothing.
 use borrow.Author.Rules.{rules}
-use Rattle.base_accents.specs.Accents.{measureOf}
+use Rattle.base_accents.specs.Accents.{measure_of}
 use Rattle.base_accents.proofs.Measures.{counted}
 use Rattle.base_accents.proofs.measure.Statement.{statement}
 use Rattle.base_accents.proofs.measure.Tie as tie
@@ -12,7 +12,7 @@ returns c = rw c.before.if1.true c.whole.ensures
 
 -- in the other
 returns-2 : tie.Need-returns-2
-unfolding measureOf
+unfolding measure_of
 returns-2 c = counted _ _ _ _ (rw c.before.if1.false c.pg-mblen.ensures.is)
 
 pub measure-spec : {M : Type 1} → statement M

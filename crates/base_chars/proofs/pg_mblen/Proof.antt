@@ -1,29 +1,29 @@
 -- `base_chars::pg_mblen` meets its contract: it is the lesser of the length and what is left. Assumes nothing.
 use native.Mathlib.Omega.{arith}
 use borrow.Author.Rules.{rules}
-use Rattle.base_chars.specs.Character.{charLength}
+use Rattle.base_chars.specs.Character.{char_length}
 use Rattle.base_chars.proofs.Characters.{lead-one, measured}
 use Rattle.base_chars.proofs.pg_mblen.Statement.{statement}
 use Rattle.base_chars.proofs.pg_mblen.Tie as tie
 
 -- past the end
 returns : tie.Need-returns
-unfolding charLength
+unfolding char_length
 returns c = measured _ _ _ (omega arith)
 
 -- one byte
 returns-2 : tie.Need-returns-2
-unfolding charLength
+unfolding char_length
 returns-2 c = measured _ _ _ (omega (arith, lead-one _ c.if2.true, c.before.before.if1.false))
 
 -- the character is within the text
 returns-3 : tie.Need-returns-3
-unfolding charLength
+unfolding char_length
 returns-3 c = measured _ _ _ (omega arith)
 
 -- it is cut where the text ends
 returns-4 : tie.Need-returns-4
-unfolding charLength
+unfolding char_length
 returns-4 c = measured _ _ _ (omega arith)
 
 pub pg-mblen-spec : {M : Type 1} → statement M

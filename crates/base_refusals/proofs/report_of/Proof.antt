@@ -3,7 +3,7 @@ use borrow.Author.Rules.{rules}
 use mir.Facts.{to_z-of_z, sfits_widen}
 use mir.Syntax.{w32, w64}
 use mir.Val.{SFits}
-use Rattle.base_refusals.specs.Report.{reportOf}
+use Rattle.base_refusals.specs.Report.{report_of}
 use Rattle.base_refusals.proofs.report_of.Statement.{statement}
 use Rattle.base_refusals.proofs.report_of.Tie as tie
 
@@ -17,11 +17,11 @@ hour-fits c = simp (to_z-of_z (hour-is c)) (sfits_widen tt (hour-is c))
 
 -- an hour outside 1 to 12: the figure is the hour
 hour : tie.Need-returns-13
-unfolding reportOf
+unfolding report_of
 hour c = simp (to_z-of_z (hour-is c), to_z-of_z (sfits_widen {w = w32} {w' = w64} tt (hour-is c))) (rw c.before.why11.given.1)
 
 pub report-of-spec : {M : Type 1} → statement M
-unfolding reportOf
+unfolding report_of
 report-of-spec =
     tie.close
     (tie.spec

@@ -8,8 +8,8 @@ use native.Mathlib.Omega.{arith}
 use borrow.Author.Rules.{rules}
 use borrow.Author.Tests.{not-true, not-false}
 use lib.ListN.{length}
-use Rattle.base_notation.specs.Text.{byteAt}
-use Rattle.base_chars.specs.Class.{isDigit}
+use Rattle.base_notation.specs.Text.{byte_at}
+use Rattle.base_chars.specs.Class.{is_digit}
 use Rattle.base_chars.proofs.Classes.{digit-bounds}
 use Rattle.base_strtol.proofs.Digits.{Reading, begun, stopped, ended, full, more, limits}
 use Rattle.base_strtol.proofs.digits_at.Statement.{statement}
@@ -26,7 +26,7 @@ module _ (here : tie.At-loop invariant-loop decreases-loop) where
   text = here.before.before.before.args.s.now
 
   abbrev byte : ℕ
-  byte = byteAt text here.loop.i
+  byte = byte_at text here.loop.i
 
   abbrev most : ℕ
   most = here.before.limit-of.result
@@ -39,7 +39,7 @@ module _ (c : tie.Else1 invariant-loop decreases-loop) where
   abbrev at-loop : tie.At-loop invariant-loop decreases-loop
   at-loop = c.before.before.before.before
 
-  digit : isDigit (byte at-loop) ≡ true
+  digit : is_digit (byte at-loop) ≡ true
   digit = sym c.before.is-digit-c.ensures ∙ not-false _ c.if1.false
 
 -- the byte is no digit

@@ -8,8 +8,8 @@ use native.Mathlib.Omega.{arith}
 use borrow.Author.Rules.{rules}
 use borrow.Author.Tests.{not-true, not-false}
 use lib.ListN.{length}
-use Rattle.base_notation.specs.Text.{byteAt}
-use Rattle.base_chars.specs.Class.{isDigit}
+use Rattle.base_notation.specs.Text.{byte_at}
+use Rattle.base_chars.specs.Class.{is_digit}
 use Rattle.base_chars.proofs.Classes.{digit-bounds}
 use Rattle.base_strtol.specs.Strtol.{limit}
 use Rattle.base_strtol.proofs.Digits.{Reading, begun, stopped, ended, more}
@@ -31,7 +31,7 @@ module _ (c : tie.Else1 invariant-loop decreases-loop) where
   abbrev text : List ℕ
   text = at-loop.before.before.args.s.now
 
-  digit : isDigit (byteAt text at-loop.loop.i) ≡ true
+  digit : is_digit (byte_at text at-loop.loop.i) ≡ true
   digit = sym c.before.is-digit-c.ensures ∙ not-false _ c.if1.false
 
 -- the byte is no digit

@@ -4,7 +4,7 @@ use Prim.Native.Nat.{◌+◌, ◌-◌}
 use native.Mathlib.Omega.{arith}
 use borrow.Author.Rules.{rules}
 use lib.ListN.{length, drop}
-use Rattle.base_chars.specs.Class.{isSpace}
+use Rattle.base_chars.specs.Class.{is_space}
 use Rattle.base_strtol.specs.Runs.{spaces}
 use Rattle.base_strtol.proofs.Leading.{leading-on, leading-stop, leading_end}
 use Rattle.base_strtol.proofs.past_spaces.Statement.{statement}
@@ -21,21 +21,21 @@ loop-again : tie.Need-loop-preserved invariant-loop decreases-loop
 loop-again c =
     let at-loop = c.before.before.before.before in
     let s = at-loop.before.before.args.s.now in
-    omega (arith, leading-on isSpace s at-loop.loop.i (omega arith) (sym c.before.is-space-c.ensures ∙ c.if1.true))
+    omega (arith, leading-on is_space s at-loop.loop.i (omega arith) (sym c.before.is-space-c.ensures ∙ c.if1.true))
 
 -- no space
 returns : tie.Need-returns invariant-loop decreases-loop
 returns c =
     let at-loop = c.before.before.before.before in
     let s = at-loop.before.before.args.s.now in
-    omega (arith, leading-stop isSpace s at-loop.loop.i (omega arith) (sym c.before.is-space-c.ensures ∙ c.if1.false))
+    omega (arith, leading-stop is_space s at-loop.loop.i (omega arith) (sym c.before.is-space-c.ensures ∙ c.if1.false))
 
 -- the end of the text
 returns-2 : tie.Need-returns-2 invariant-loop decreases-loop
 returns-2 c =
     let at-loop = c.before in
     let s = at-loop.before.before.args.s.now in
-    omega (arith, leading_end isSpace s at-loop.loop.i (omega arith))
+    omega (arith, leading_end is_space s at-loop.loop.i (omega arith))
 
 pub past-spaces-spec : {M : Type 1} → statement M
 past-spaces-spec =

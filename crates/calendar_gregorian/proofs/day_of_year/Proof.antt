@@ -6,7 +6,7 @@ use lib.IntN.{ℤ, ◌+ℤ◌}
 use mir.Facts.{to_z-of_z}
 use mir.Syntax.{w32, w64}
 use mir.Val.{SFits, to_z, of_z}
-use Rattle.calendar_gregorian.specs.Civil.{dayOfYearℤ}
+use Rattle.calendar_gregorian.specs.Civil.{day_of_year_ℤ}
 use Rattle.calendar_gregorian.proofs.DaysFrom.{day-of-year-fits}
 use Rattle.calendar_gregorian.proofs.Signed.{wide, wide_fits}
 use Rattle.calendar_gregorian.proofs.day_of_year.Statement.{statement}
@@ -15,8 +15,8 @@ use Rattle.calendar_gregorian.proofs.day_of_year.Tie as tie
 -- the code's sum is the day of the year
 sum : (c : tie.After-days-before)
     → to_z w64 (of_z w64 (to_z w32 (of_z w32 c.days-before.result))) +ℤ to_z w64 (of_z w64 (to_z w32 (of_z w32 c.before.before.args.day)))
-    ≡ dayOfYearℤ c.before.before.args.year c.before.before.args.month c.before.before.args.day
-unfolding dayOfYearℤ
+    ≡ day_of_year_ℤ c.before.before.args.year c.before.before.args.month c.before.before.args.day
+unfolding day_of_year_ℤ
 sum c =
     let args_fit = c.before.before.ranges in
     rw (
@@ -29,7 +29,7 @@ sum c =
     )
 
 -- and it fits 64 bits
-fits : (c : tie.After-days-before) → SFits w64 (dayOfYearℤ c.before.before.args.year c.before.before.args.month c.before.before.args.day)
+fits : (c : tie.After-days-before) → SFits w64 (day_of_year_ℤ c.before.before.args.year c.before.before.args.month c.before.before.args.day)
 fits c = let at-start = c.before.before in day-of-year-fits at-start.args.year at-start.args.month at-start.ranges.day
 
 returns : tie.Need-returns

@@ -3,7 +3,7 @@
 use mathlib.Core.Path.{◌∙◌, ap, sym}
 use native.Mathlib.Omega.{arith}
 use borrow.Author.Rules.{rules}
-use Rattle.calendar_gregorian.specs.Gregorian.{beforeYear}
+use Rattle.calendar_gregorian.specs.Gregorian.{before_year}
 use Rattle.calendar_gregorian.proofs.Closed.{closed}
 use Rattle.calendar_gregorian.proofs.Shift.{shift_fits, shifted}
 use Rattle.calendar_gregorian.proofs.Signed.{wide_fits}
@@ -15,7 +15,7 @@ cast-y-2 : tie.Need-overflow-cast-y-2
 cast-y-2 c = let year = shifted c.ranges.year in (year.sign, omega arith)
 
 returns : tie.Need-returns
-returns c = sym (ap beforeYear (shifted c.ranges.year).is ∙ closed _)
+returns c = sym (ap before_year (shifted c.ranges.year).is ∙ closed _)
 
 pub days-before-year-spec : {M : Type 1} → statement M
 days-before-year-spec =

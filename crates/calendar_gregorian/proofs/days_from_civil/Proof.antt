@@ -8,24 +8,24 @@ use lib.IntN.{ℤ, pos, ◌+ℤ◌, ◌-ℤ◌}
 use mir.Facts.{to_z-of_z}
 use mir.Syntax.{w64}
 use mir.Val.{SFits, to_z, of_z}
-use Rattle.calendar_gregorian.specs.Civil.{daysFromCivil}
-use Rattle.calendar_gregorian.proofs.DaysFrom.{sinceStart, to1970, since-start-le, start_back, less-fits, from_start, days-from-mag}
+use Rattle.calendar_gregorian.specs.Civil.{days_from_civil}
+use Rattle.calendar_gregorian.proofs.DaysFrom.{since_start, to1970, since-start-le, start_back, less-fits, from_start, days-from-mag}
 use Rattle.calendar_gregorian.proofs.days_from_civil.Statement.{statement}
 use Rattle.calendar_gregorian.proofs.days_from_civil.Tie as tie
 
 -- the days before the year, from that start
-start : (c : tie.After-days-before-year) → c.days-before-year.result ≡ sinceStart c.before.args.year
+start : (c : tie.After-days-before-year) → c.days-before-year.result ≡ since_start c.before.args.year
 start c = rw (to_z-of_z c.before.ranges.year) at c.days-before-year.ensures
 
 -- less the days to 1970, and 1
 less : (c : tie.After-days-before-year) {n : ℕ} → n ≡ to1970
-    → to_z w64 c.days-before-year.result -ℤ pos n ≡ pos (sinceStart c.before.args.year) -ℤ pos to1970
+    → to_z w64 c.days-before-year.result -ℤ pos n ≡ pos (since_start c.before.args.year) -ℤ pos to1970
 less c e = rw (start c, start_back c.before.ranges.year, e)
 
 -- the code's sum is the days since 1970-01-01
 days : (c : tie.After-day-of-year) {n : ℕ} → n ≡ to1970
     → to_z w64 (of_z w64 (to_z w64 c.before.days-before-year.result -ℤ pos n)) +ℤ to_z w64 (of_z w64 c.day-of-year.result)
-    ≡ daysFromCivil c.before.before.args.year c.before.before.args.month c.before.before.args.day
+    ≡ days_from_civil c.before.before.args.year c.before.before.args.month c.before.before.args.day
 days c e =
     let at-start = c.before.before in
     rw (
@@ -40,7 +40,7 @@ days c e =
     (from_start at-start.args.year at-start.args.month at-start.args.day at-start.ranges.year)
 
 -- and it fits 64 bits
-fits : (c : tie.After-day-of-year) → SFits w64 (daysFromCivil c.before.before.args.year c.before.before.args.month c.before.before.args.day)
+fits : (c : tie.After-day-of-year) → SFits w64 (days_from_civil c.before.before.args.year c.before.before.args.month c.before.before.args.day)
 fits c = let at-start = c.before.before in omega (arith, days-from-mag at-start.ranges.year at-start.args.month at-start.ranges.day)
 
 returns : tie.Need-returns

@@ -14,7 +14,7 @@ use mir.Syntax.{w32}
 use mir.Val.{SFits, to_z, of_z}
 use types.Run.{OneOf}
 use Rattle.base_notation.proofs.Table.{entry}
-use Rattle.calendar_gregorian.specs.Civil.{lengthsIn, length_of, monthOf}
+use Rattle.calendar_gregorian.specs.Civil.{lengths_in, length_of, month_of}
 use Rattle.calendar_gregorian.proofs.Months.{from, not-above, no_length, past-length}
 use Rattle.calendar_gregorian.proofs.month_length.Statement.{statement}
 use Rattle.calendar_gregorian.proofs.month_length.Tie as tie
@@ -27,20 +27,20 @@ is-month n f l e = sym (to_z-of_z f) ∙ ap (to_z w32) e ∙ to_z_pos w32 l
 abbrev Thirty : ℕ → Type 0
 Thirty = OneOf (4 ∷ 6 ∷ 9 ∷ 11 ∷ [])
 
-thirty : (inLeap : Bool) {z : ℤ} → SFits w32 z → Thirty (of_z w32 z) → 30 ≡ length_of inLeap z
-thirty inLeap f (inl e) = rw (is-month 4 f (lit< tt) e)
-thirty inLeap f (inr (inl e)) = rw (is-month 6 f (lit< tt) e)
-thirty inLeap f (inr (inr (inl e))) = rw (is-month 9 f (lit< tt) e)
-thirty inLeap f (inr (inr (inr e))) = rw (is-month 11 f (lit< tt) e)
+thirty : (in_leap : Bool) {z : ℤ} → SFits w32 z → Thirty (of_z w32 z) → 30 ≡ length_of in_leap z
+thirty in_leap f (inl e) = rw (is-month 4 f (lit< tt) e)
+thirty in_leap f (inr (inl e)) = rw (is-month 6 f (lit< tt) e)
+thirty in_leap f (inr (inr (inl e))) = rw (is-month 9 f (lit< tt) e)
+thirty in_leap f (inr (inr (inr e))) = rw (is-month 11 f (lit< tt) e)
 
 -- the others but February have 31, by one test that computes over the lengths
 abbrev others : ℕ → ℕ → Bool
 others i x = eqb (suc i) 2 || eqb (suc i) 4 || eqb (suc i) 6 || eqb (suc i) 9 || eqb (suc i) 11 || eqb x 31
 
-long : (inLeap : Bool) (z : ℤ) → 1 ≤ monthOf z → monthOf z ≤ 12 → (of_z w32 z ≡ 2 → ⊥) → (Thirty (of_z w32 z) → ⊥) → 31 ≡ length_of inLeap z
-long inLeap (pos zero) h l p q = absurd (omega arith)
-long inLeap (pos (suc i)) h l p q =
-    let tested = entry others 0 (lengthsIn inLeap) refl i (omega arith) in
+long : (in_leap : Bool) (z : ℤ) → 1 ≤ month_of z → month_of z ≤ 12 → (of_z w32 z ≡ 2 → ⊥) → (Thirty (of_z w32 z) → ⊥) → 31 ≡ length_of in_leap z
+long in_leap (pos zero) h l p q = absurd (omega arith)
+long in_leap (pos (suc i)) h l p q =
+    let tested = entry others 0 (lengths_in in_leap) refl i (omega arith) in
     sym (eqb-true _ 31 (simp (
       ne_eqb (suc i) 2 p,
       ne_eqb (suc i) 4 (λ e. q (inl e)),
@@ -48,7 +48,7 @@ long inLeap (pos (suc i)) h l p q =
       ne_eqb (suc i) 9 (λ e. q (inr (inr (inl e)))),
       ne_eqb (suc i) 11 (λ e. q (inr (inr (inr e)))),
     ) at tested))
-long inLeap (negsuc m) h l p q = absurd (omega arith)
+long in_leap (negsuc m) h l p q = absurd (omega arith)
 
 -- below 1: no month
 returns : tie.Need-returns

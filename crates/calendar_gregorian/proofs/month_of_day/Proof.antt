@@ -9,7 +9,7 @@ use lib.IntN.{pos}
 use mir.Facts.{to_z-of_z, to_z_pos}
 use mir.Syntax.{w32}
 use mir.Val.{to_z}
-use Rattle.calendar_gregorian.specs.Civil.{monthOfDay}
+use Rattle.calendar_gregorian.specs.Civil.{month_of_day}
 use Rattle.calendar_gregorian.proofs.Ends.{ended, starts, ends, stops, goes_on}
 use Rattle.calendar_gregorian.proofs.Lengths.{Passed, add_read, row_lt}
 use Rattle.calendar_gregorian.proofs.month_of_day.Statement.{statement}
@@ -18,7 +18,7 @@ use Rattle.calendar_gregorian.proofs.month_of_day.Tie as tie
 abbrev invariant-loop : tie.invariant-loop
 invariant-loop leap day row end₀ i₀ end i =
     (i ≤ 12) × Passed leap i end
-    × (suc (ended leap i (to_z w32 day)) ≡ monthOfDay leap (to_z w32 day))
+    × (suc (ended leap i (to_z w32 day)) ≡ month_of_day leap (to_z w32 day))
 
 abbrev decreases-loop : tie.decreases-loop
 decreases-loop leap day row end₀ i₀ end i = 12 - i

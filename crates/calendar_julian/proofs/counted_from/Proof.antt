@@ -1,13 +1,13 @@
 -- `calendar_julian::counted_from` meets its contract: the code's test is the definition's. Assumes nothing.
 use Rattle.std.proofs.Common.{to_z-of_z, rules}
 use Rattle.base_wrapping.proofs.Fits.{wrap-back, returned}
-use Rattle.calendar_julian.specs.Week.{countedFrom}
+use Rattle.calendar_julian.specs.Week.{counted_from}
 use Rattle.calendar_julian.proofs.counted_from.Statement.{statement}
 use Rattle.calendar_julian.proofs.counted_from.Tie as tie
 
 -- before week 1: the year before
 returns : tie.Need-returns
-unfolding countedFrom
+unfolding counted_from
 returns c =
     let after-week-one = c.before.before in
     let args_fit = after-week-one.before.ranges in
@@ -21,7 +21,7 @@ returns c =
 
 -- in week 1 or later: the year itself
 returns-2 : tie.Need-returns-2
-unfolding countedFrom
+unfolding counted_from
 returns-2 c =
     let after-week-one = c.before in
     let args_fit = after-week-one.before.ranges in

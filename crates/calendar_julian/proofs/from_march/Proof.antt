@@ -2,7 +2,7 @@
 -- a quotient fits as its dividend does. Assumes nothing.
 use Rattle.std.proofs.Common.{lit<, to_z-of_z, rules}
 use Rattle.base_wrapping.proofs.Fits.{quot_fits, wrap-fits, wrap-back, quot-back}
-use Rattle.calendar_julian.specs.ToDay.{fromMarch}
+use Rattle.calendar_julian.specs.ToDay.{from_march}
 use Rattle.calendar_julian.proofs.from_march.Statement.{statement}
 use Rattle.calendar_julian.proofs.from_march.Tie as tie
 
@@ -28,7 +28,7 @@ div-wrapping-add-3 : tie.Need-nonzero-div-wrapping-add-3
 div-wrapping-add-3 c = (lit< tt, simp (c.wrapping-mul2.ensures, wrap-back) (quot_fits _ 256 (wrap-fits _)))
 
 returns : tie.Need-returns
-unfolding fromMarch
+unfolding from_march
 returns c =
     let after-months = c.before in
     let after-month-mul = after-months.before in

@@ -3,13 +3,13 @@
 use Rattle.std.proofs.Common.{◌≡◌, ℤ, pos, ◌∙◌, to_z-of_z, w32, SFits, rules}
 use Rattle.base_wrapping.specs.Wrap.{◌⊕◌}
 use Rattle.base_wrapping.proofs.Fits.{read, wrap-back, returned}
-use Rattle.calendar_julian.specs.ToDay.{fromMarch, date2j}
+use Rattle.calendar_julian.specs.ToDay.{from_march, date2j}
 use Rattle.calendar_julian.proofs.pg_date2j.Statement.{statement}
 use Rattle.calendar_julian.proofs.pg_date2j.Tie as tie
 
 -- either arm, with what it adds to the year and the month
 shifted : {y m d s t z : ℤ} (i k : ℤ) → SFits w32 y → SFits w32 m → SFits w32 d → s ≡ read y ⊕ i → t ≡ read m ⊕ k
-    → z ≡ fromMarch (read s) (read t) (read d) → z ≡ fromMarch (y ⊕ i) (m ⊕ k) d
+    → z ≡ from_march (read s) (read t) (read d) → z ≡ from_march (y ⊕ i) (m ⊕ k) d
 shifted i k f g h p q e = e ∙ simp (p, q, wrap-back, to_z-of_z f, to_z-of_z g, to_z-of_z h)
 
 -- from March on

@@ -1,14 +1,14 @@
 -- `calendar_julian::pg_j2date` meets its contract: each step is the definition's, and no field leaves 32 bits, since
 -- the year is below 2 ^ 24 and the day from March, plus 123, below 489. Assumes nothing.
 use Rattle.std.proofs.Common.{◌<◌, ◌∙◌, arith, to_z-of_z, rules}
-use Rattle.calendar_julian.specs.ToDate.{shifted, dayOfFour, j2date}
+use Rattle.calendar_julian.specs.ToDate.{shifted, day_of_four, j2date}
 use Rattle.calendar_julian.proofs.Fields.{march-lt, year-is, year-fits, fields}
 use Rattle.calendar_julian.proofs.pg_j2date.Statement.{statement}
 use Rattle.calendar_julian.proofs.pg_j2date.Tie as tie
 
 -- the day from March 1, plus 123
 day-lt : (c : tie.After-day-from-march) → c.day-from-march.result < 489
-day-lt c = rw c.day-from-march.ensures (march-lt (dayOfFour c.before.with-skipped.result))
+day-lt c = rw c.day-from-march.ensures (march-lt (day_of_four c.before.with-skipped.result))
 
 -- the year less 4800 fits
 sub-t12 : tie.Need-overflow-sub-t12

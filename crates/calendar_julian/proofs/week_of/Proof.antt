@@ -1,7 +1,7 @@
 -- `calendar_julian::week_of` meets its contract: a seventh of an i32 leaves room for 1 more. Assumes nothing.
 use Rattle.std.proofs.Common.{lit<, to_z-of_z, rules}
 use Rattle.base_wrapping.proofs.Fits.{wrap-back, wrap-fits, quot_fits, quot-back, returned}
-use Rattle.calendar_julian.specs.Week.{weekOf}
+use Rattle.calendar_julian.specs.Week.{week_of}
 use Rattle.calendar_julian.proofs.Sevens.{week-fits}
 use Rattle.calendar_julian.proofs.week_of.Statement.{statement}
 use Rattle.calendar_julian.proofs.week_of.Tie as tie
@@ -13,7 +13,7 @@ add-result : tie.Need-overflow-add-result
 add-result c = simp (c.wrapping-sub.ensures, wrap-back, quot-back) (week-fits _)
 
 returns : tie.Need-returns
-unfolding weekOf
+unfolding week_of
 returns c =
     let args_fit = c.before.before.ranges in
     simp (

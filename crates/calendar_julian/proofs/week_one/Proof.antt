@@ -1,12 +1,12 @@
 -- `calendar_julian::week_one` meets its contract: each call's result is read as its contract gives it. Assumes nothing.
 use Rattle.std.proofs.Common.{to_z-of_z, rules}
 use Rattle.base_wrapping.proofs.Fits.{wrap-back, returned}
-use Rattle.calendar_julian.specs.Week.{weekOne}
+use Rattle.calendar_julian.specs.Week.{week_one}
 use Rattle.calendar_julian.proofs.week_one.Statement.{statement}
 use Rattle.calendar_julian.proofs.week_one.Tie as tie
 
 returns : tie.Need-returns
-unfolding weekOne
+unfolding week_one
 returns c =
     let after-weekday = c.before in
     let after-sub = after-weekday.before in

@@ -1,28 +1,28 @@
 -- `calendar_julian::week_year` meets its contract: the code's two tests are the definition's. Assumes nothing.
 use Rattle.std.proofs.Common.{◌≡◌, to_z-of_z, rules}
 use Rattle.base_wrapping.proofs.Fits.{read, returned}
-use Rattle.calendar_julian.specs.Week.{weekOne, weekOf, weekYear}
+use Rattle.calendar_julian.specs.Week.{week_one, week_of, week_year}
 use Rattle.calendar_julian.proofs.week_year.Statement.{statement}
 use Rattle.calendar_julian.proofs.week_year.Tie as tie
 
 -- what the first test compares: the week
-week : (c : tie.After-week-of) → read c.week-of.result ≡ weekOf c.before.args.day c.before.args.from
+week : (c : tie.After-week-of) → read c.week-of.result ≡ week_of c.before.args.day c.before.args.from
 week c =
     let args_fit = c.before.ranges in
     simp (to_z-of_z args_fit.day, to_z-of_z args_fit.from) at (returned c.week-of.type-inv c.week-of.ensures)
 
 -- and the second: the Monday of week 1 of the next year
-monday : (c : tie.After-week-one) → read c.week-one.result ≡ weekOne c.before.before.before.args.next
+monday : (c : tie.After-week-one) → read c.week-one.result ≡ week_one c.before.before.before.args.next
 monday c = simp (to_z-of_z c.before.before.before.ranges.next) at (returned c.week-one.type-inv c.week-one.ensures)
 
 -- before week 52
 returns : tie.Need-returns
-unfolding weekYear
+unfolding week_year
 returns c = simp (simp (week c.before) at c.if1.true, to_z-of_z c.before.before.ranges.from)
 
 -- week 52 or later, but before week 1 of the next year
 returns-2 : tie.Need-returns-2
-unfolding weekYear
+unfolding week_year
 returns-2 c =
     let late = c.before.before in
     let args_fit = late.before.before.ranges in
@@ -34,7 +34,7 @@ returns-2 c =
 
 -- in week 1 of the next year or later
 returns-3 : tie.Need-returns-3
-unfolding weekYear
+unfolding week_year
 returns-3 c =
     let late = c.before.before in
     let args_fit = late.before.before.ranges in

@@ -1,12 +1,12 @@
 -- `calendar_julian::with_skipped` meets its contract: only the last sum can leave 32 bits, and it wraps.
 -- Assumes nothing.
 use Rattle.std.proofs.Common.{rules}
-use Rattle.calendar_julian.specs.ToDate.{withSkipped}
+use Rattle.calendar_julian.specs.ToDate.{with_skipped}
 use Rattle.calendar_julian.proofs.with_skipped.Statement.{statement}
 use Rattle.calendar_julian.proofs.with_skipped.Tie as tie
 
 returns : tie.Need-returns
-unfolding withSkipped
+unfolding with_skipped
 returns c = c.wrapping-add-u32.ensures
 
 pub with-skipped-spec : {M : Type 1} → statement M

@@ -3,7 +3,7 @@ use mathlib.Core.Path.{◌≡◌}
 use Prim.Native.Nat.{◌-◌}
 use native.Mathlib.Omega.{arith}
 use borrow.Author.Rules.{rules}
-use Rattle.line_answers.specs.Lines.{answerLine, counted}
+use Rattle.line_answers.specs.Lines.{answer_line, counted}
 use Rattle.line_answers.proofs.Cuts.{counted-within}
 use Rattle.line_answers.proofs.answer.Statement.{statement}
 use Rattle.line_answers.proofs.answer.Tie as tie
@@ -16,7 +16,7 @@ part-answer-whole-end c =
 
 -- the answer to the bytes that count
 returns : tie.Need-returns
-unfolding answerLine
+unfolding answer_line
 returns c =
     let after-answer = c.before.before in
     let after-count = after-answer.before.before.before in

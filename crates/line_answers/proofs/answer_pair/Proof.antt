@@ -1,26 +1,26 @@
 -- `line_answers::answer_pair` meets its contract: in each mode that mode's answer is put. Assumes nothing.
 use borrow.Author.Rules.{rules}
-use Rattle.line_answers.specs.Lines.{pairAnswer}
+use Rattle.line_answers.specs.Lines.{pair_answer}
 use Rattle.line_answers.proofs.answer_pair.Statement.{statement}
 use Rattle.line_answers.proofs.answer_pair.Tie as tie
 
 -- the parts
 returns : tie.Need-returns
-unfolding pairAnswer
+unfolding pair_answer
 returns c =
     let after-answer = c.before.before in
     rw after-answer.before.before.enum_told.given.1 after-answer.parts.ensures
 
 -- the instant
 returns-2 : tie.Need-returns-2
-unfolding pairAnswer
+unfolding pair_answer
 returns-2 c =
     let after-answer = c.before.before in
     rw after-answer.before.before.enum-told2.given.1 after-answer.instant.ensures
 
 -- the day
 returns-3 : tie.Need-returns-3
-unfolding pairAnswer
+unfolding pair_answer
 returns-3 c =
     let after-answer = c.before.before in
     rw after-answer.before.before.enum-told3.given.1 after-answer.day.ensures

@@ -1,12 +1,12 @@
 -- `line_answers::answer_too_long` meets its contract: it puts the report of that refusal. Assumes nothing.
 use borrow.Author.Rules.{rules}
-use Rattle.line_answers.specs.Lines.{tooLongAnswer}
+use Rattle.line_answers.specs.Lines.{too_long_answer}
 use Rattle.line_answers.proofs.answer_too_long.Statement.{statement}
 use Rattle.line_answers.proofs.answer_too_long.Tie as tie
 
 -- the report
 returns : tie.Need-returns
-unfolding tooLongAnswer
+unfolding too_long_answer
 returns c =
     let after-put = c.before.before in
     rw after-put.before.before.report-of.ensures at after-put.put-report.ensures

@@ -6,13 +6,13 @@ use native.Mathlib.Omega.{arith}
 use borrow.Author.Rules.{rules}
 use borrow.Author.Tests.{eq-eqb, ne_eqb}
 use lib.ListN.{length}
-use Rattle.base_notation.specs.Text.{byteAt}
-use Rattle.line_answers.specs.Lines.{withoutReturn}
+use Rattle.base_notation.specs.Text.{byte_at}
+use Rattle.line_answers.specs.Lines.{without_return}
 use Rattle.line_answers.proofs.without_return.Statement.{statement}
 use Rattle.line_answers.proofs.without_return.Tie as tie
 
-empty : (line : List ℕ) → length line ≡ 0 → 0 ≡ withoutReturn line
-unfolding withoutReturn
+empty : (line : List ℕ) → length line ≡ 0 → 0 ≡ without_return line
+unfolding without_return
 empty [] h = refl
 empty (b ∷ line) h = absurd (omega arith)
 
@@ -20,12 +20,12 @@ empty (b ∷ line) h = absurd (omega arith)
 returns : tie.Need-returns
 returns c = empty c.before.args.line.now c.if1.true
 
-left-off : (line : List ℕ) → byteAt line (length line - 1) ≡ 13 → length line - 1 ≡ withoutReturn line
-unfolding withoutReturn
+left-off : (line : List ℕ) → byte_at line (length line - 1) ≡ 13 → length line - 1 ≡ without_return line
+unfolding without_return
 left-off line e = rw (eq-eqb _ _ e)
 
-kept : (line : List ℕ) → (byteAt line (length line - 1) ≡ 13 → ⊥) → length line ≡ withoutReturn line
-unfolding withoutReturn
+kept : (line : List ℕ) → (byte_at line (length line - 1) ≡ 13 → ⊥) → length line ≡ without_return line
+unfolding without_return
 kept line n = rw (ne_eqb _ _ n)
 
 -- a carriage return at the end

@@ -5,14 +5,14 @@ use borrow.Author.Rules.{rules}
 use mir.Facts.{to_z-of_z}
 use mir.Syntax.{w64}
 use mir.Val.{SFits}
-use Rattle.line_questions.specs.Items.{placeOf}
-use Rattle.line_questions.proofs.Places.{no_place, next_place}
+use Rattle.line_questions.specs.Items.{place_of}
+use Rattle.line_questions.proofs.Places.{no_place_lem, next_place}
 use Rattle.line_questions.proofs.read_place.Statement.{statement}
 use Rattle.line_questions.proofs.read_place.Tie as tie
 
 -- no item is left
 returns : tie.Need-returns
-returns c = c.no_place.ensures ∙ sym (no_place _ _ c.before.if1.true)
+returns c = c.no_place.ensures ∙ sym (no_place_lem _ _ c.before.if1.true)
 
 -- a number
 returns-2 : tie.Need-returns-2
@@ -26,7 +26,7 @@ returns-2 c =
 
 -- no number
 returns-3 : tie.Need-returns-3
-unfolding placeOf
+unfolding place_of
 returns-3 c =
     let after-number = c.before.before.before in
     let after-find = after-number.before.before in

@@ -2,13 +2,13 @@
 -- Assumes nothing.
 use mathlib.Core.Path.{◌∙◌, ap}
 use borrow.Author.Rules.{rules}
-use Rattle.moment_instants.specs.ByTemplate.{instantBy, timestampOf}
+use Rattle.moment_instants.specs.ByTemplate.{instant_by, timestamp_of}
 use Rattle.moment_instants.proofs.to_timestamp_text.Statement.{statement}
 use Rattle.moment_instants.proofs.to_timestamp_text.Tie as tie
 
 returns : tie.Need-returns
-unfolding timestampOf
-returns c = c.instant-from.ensures ∙ ap instantBy c.before.to-timestamp-parts.ensures
+unfolding timestamp_of
+returns c = c.instant-from.ensures ∙ ap instant_by c.before.to-timestamp-parts.ensures
 
 pub to-timestamp-text-spec : {M : Type 1} → statement M
 to-timestamp-text-spec = tie.close (tie.spec (λ c κs. search rules) (λ c κs. search rules) returns)

@@ -5,9 +5,9 @@ use mathlib.Core.Bool.{Bool, true, ◌&&◌}
 use borrow.Author.Rules.{rules}
 use mir.Facts.{to_z-of_z}
 use Rattle.base_wrapping.proofs.Fits.{returned}
-use Rattle.moment_date.specs.Dates.{dateInRange, noSuchDay}
-use Rattle.moment_parts.specs.Parts.{checkedMoment}
-use Rattle.moment_time.specs.Time.{minuteOf, second_of, timeInRange}
+use Rattle.moment_date.specs.Dates.{date_in_range, no_such_day}
+use Rattle.moment_parts.specs.Parts.{checked_moment}
+use Rattle.moment_time.specs.Time.{minute_of, second_of, time_in_range}
 use Rattle.moment_sums.proofs.Known.{known}
 use Rattle.moment_date.proofs.Held.{fitting}
 use Rattle.moment_sums.proofs.Tests.{failed, passed}
@@ -21,7 +21,7 @@ dated c = c.before.before.before
 -- the test of the time, as the definition has it
 time : (c : tie.After-time-in-range) {b : Bool} → c.time-in-range.result ≡ b
     → let at-start = (dated c.before.before).before.before.before.before.before in
-    timeInRange at-start.args.hour (minuteOf at-start.args.t2) (second_of at-start.args.t2) at-start.args.micros ≡ b
+    time_in_range at-start.args.hour (minute_of at-start.args.t2) (second_of at-start.args.t2) at-start.args.micros ≡ b
 time c e =
     let after-second = (dated c.before.before).before.before in
     let after-minute = after-second.before in
@@ -35,12 +35,12 @@ time c e =
     ∙ e
 
 -- the date is in range
-date : (c : tie.Else1) → dateInRange c.before.before.before.before.before.args.r ≡ true
+date : (c : tie.Else1) → date_in_range c.before.before.before.before.before.args.r ≡ true
 date c = sym c.before.date-in-range.ensures ∙ passed _ c.if1.false
 
 -- the test of the strict switch
 never : (c : tie.After-no-such-day) {b : Bool} → c.no-such-day.result ≡ b
-    → let args = (dated c).before.before.before.before.before.args in (args.strict && noSuchDay args.r.set args.r.month args.r.day) ≡ b
+    → let args = (dated c).before.before.before.before.before.args in (args.strict && no_such_day args.r.set args.r.month args.r.day) ≡ b
 never c e =
     let at-start = (dated c).before.before.before.before.before in
     let date-fits = fitting at-start.args.r _ at-start.good.1.1.0 in
@@ -48,17 +48,17 @@ never c e =
 
 -- the date is out of range
 returns : tie.Need-returns
-unfolding checkedMoment
+unfolding checked_moment
 returns c = simp (sym c.before.date-in-range.ensures ∙ failed _ c.if1.true)
 
 -- the month never has the day
 returns-2 : tie.Need-returns-2
-unfolding checkedMoment
+unfolding checked_moment
 returns-2 c = simp (date (dated c.before), never c.before c.if2.true)
 
 -- the time is out of range
 returns-3 : tie.Need-returns-3
-unfolding checkedMoment
+unfolding checked_moment
 returns-3 c =
     let after-strict-test = c.before.before in
     simp (
@@ -69,7 +69,7 @@ returns-3 c =
 
 -- a moment with its offset
 returns-4 : tie.Need-returns-4
-unfolding checkedMoment
+unfolding checked_moment
 returns-4 c =
     let at_offset = c.before.before in
     let after-offset-of = at_offset.before.before in
@@ -97,7 +97,7 @@ returns-4 c =
 
 -- the offset is out of range
 returns-5 : tie.Need-returns-5
-unfolding checkedMoment
+unfolding checked_moment
 returns-5 c =
     let at-refusal = c.before in
     let after-offset-of = at-refusal.before.before in

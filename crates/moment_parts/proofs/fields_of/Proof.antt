@@ -8,12 +8,12 @@ use borrow.Author.Rules.{rules}
 use borrow.Author.Tests.{not-true, not-false}
 use lib.ListN.{length}
 use lib.Seq.{length-take-le}
-use Rattle.base_settings.specs.Limits.{templateLimit, inputLimit}
+use Rattle.base_settings.specs.Limits.{template_limit, input_limit}
 use Rattle.base_settings.proofs.Most.{template-most, input-most}
 use Rattle.template_nodes.specs.declared.Node.{Node}
 use Rattle.template_nodes.proofs.Encoding.{parsed-nodes, parsed-room}
 use Rattle.template_nodes.proofs.Nodes.{small-nodes}
-use Rattle.moment_parts.specs.Parts.{answerBy}
+use Rattle.moment_parts.specs.Parts.{answer_by}
 use Rattle.moment_parts.proofs.Limits.{long-template, long-input, bad-text, read_by}
 use Rattle.moment_parts.proofs.fields_of.Statement.{statement}
 use Rattle.moment_parts.proofs.fields_of.Tie as tie
@@ -23,10 +23,10 @@ abbrev start : tie.Else1 → tie.Start
 start c = c.before.before.before.before
 
 -- the template is within its limit, and so is the input
-short : (c : tie.Else1) → length (start c).args.t.now ≤ templateLimit (start c).args.set
+short : (c : tie.Else1) → length (start c).args.t.now ≤ template_limit (start c).args.set
 short c = omega arith
 
-small : (c : tie.Else2) → length (start c.before.before).args.s.now ≤ inputLimit (start c.before.before).args.set
+small : (c : tie.Else2) → length (start c.before.before).args.s.now ≤ input_limit (start c.before.before).args.set
 small c = omega arith
 
 -- the template is over its limit
@@ -68,7 +68,7 @@ returns-4 c =
     let within-limits = after-utf8-test.before.before in
     let args = (start within-limits.before.before).args in
     c.fields_within.ensures _
-    ∙ ap (λ (ns : List Node). answerBy args.set.strict ns args.t.now args.s.now) (parsed-nodes after-parse.parse-format.ensures (small-nodes args.set.accents args.t.now))
+    ∙ ap (λ (ns : List Node). answer_by args.set.strict ns args.t.now args.s.now) (parsed-nodes after-parse.parse-format.ensures (small-nodes args.set.accents args.t.now))
     ∙ read_by _ _ _ (short within-limits.before.before) (small within-limits)
     (sym after-utf8-test.before.are-utf8.ensures ∙ not-false _ after-utf8-test.if3.false)
 

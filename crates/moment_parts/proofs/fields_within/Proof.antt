@@ -5,7 +5,7 @@ use mathlib.Core.Bool.{Bool}
 use mathlib.Core.List.{List}
 use borrow.Author.Rules.{rules}
 use lib.IntN.{ℤ}
-use Rattle.moment_parts.specs.Parts.{thenFields}
+use Rattle.moment_parts.specs.Parts.{then_fields}
 use Rattle.read_fields.specs.Fields.{fields_of}
 use Rattle.read_fields.specs.declared.Outcome.{Outcome}
 use Rattle.read_fields.specs.declared.Reading.{Reading}
@@ -17,13 +17,13 @@ use Rattle.moment_parts.proofs.fields_within.Tie as tie
 
 -- the answer by the verdict: only what was read needs its fields
 by-verdict : (strict : Bool) (r : Reading) {o : Outcome} {values : List ℤ} → Went r o values → (v : Verdict) → o.verdict ≡ v
-    → thenFields strict v (fields_of values) ≡ thenFields strict v r.fields
-by-verdict strict r went Read e = ap (thenFields strict Read) (went.fields e)
+    → then_fields strict v (fields_of values) ≡ then_fields strict v r.fields
+by-verdict strict r went Read e = ap (then_fields strict Read) (went.fields e)
 by-verdict strict r went (Refused why) e = refl
 
 same_answer : (strict : Bool) (r : Reading) {o : Outcome} {values : List ℤ} → Went r o values
-    → thenFields strict o.verdict (fields_of values) ≡ thenFields strict r.verdict r.fields
-same_answer strict r {o} went = by-verdict strict r went o.verdict refl ∙ ap (λ (v : Verdict). thenFields strict v r.fields) went.verdict
+    → then_fields strict o.verdict (fields_of values) ≡ then_fields strict r.verdict r.fields
+same_answer strict r {o} went = by-verdict strict r went o.verdict refl ∙ ap (λ (v : Verdict). then_fields strict v r.fields) went.verdict
 
 returns : tie.Need-returns
 returns c = λ strict. same_answer strict _ c.dch-from-char.ensures

@@ -2,9 +2,9 @@
 -- Assumes nothing.
 use mathlib.Core.Path.{◌≡◌, ◌∙◌, sym}
 use borrow.Author.Rules.{rules}
-use Rattle.moment_date.specs.Dates.{datedOf}
-use Rattle.moment_parts.specs.Parts.{momentOf}
-use Rattle.moment_time.specs.Time.{clockHour, microsOf}
+use Rattle.moment_date.specs.Dates.{dated_of}
+use Rattle.moment_parts.specs.Parts.{moment_of}
+use Rattle.moment_time.specs.Time.{clock_hour, micros_of}
 use Rattle.moment_date.specs.declared.Dated.{Dated}
 use Rattle.moment_sums.specs.declared.Value.{Value}
 use Rattle.moment_sums.proofs.Fits.{back}
@@ -12,19 +12,19 @@ use Rattle.moment_parts.proofs.moment_of.Statement.{statement}
 use Rattle.moment_parts.proofs.moment_of.Tie as tie
 
 -- the hour, the date and the fraction, as the definition has them
-hour : (c : tie.After-clock-hour) {v : Value} → c.clock-hour.result ≡ v → clockHour c.before.args.f ≡ v
+hour : (c : tie.After-clock-hour) {v : Value} → c.clock-hour.result ≡ v → clock_hour c.before.args.f ≡ v
 hour c e = sym c.clock-hour.ensures ∙ e
 
-date : (c : tie.After-dated-of) {v : Dated} → c.dated-of.result ≡ v → datedOf c.before.before.before.before.before.args.f ≡ v
+date : (c : tie.After-dated-of) {v : Dated} → c.dated-of.result ≡ v → dated_of c.before.before.before.before.before.args.f ≡ v
 date c e = sym c.dated-of.ensures ∙ e
 
 micros : (c : tie.After-micros-of) {v : Value} → c.micros-of.result ≡ v
-    → microsOf c.before.before.before.before.before.before.before.before.before.args.f ≡ v
+    → micros_of c.before.before.before.before.before.before.before.before.before.args.f ≡ v
 micros c e = sym c.micros-of.ensures ∙ e
 
 -- all three are found: the moment is checked
 returns : tie.Need-returns
-unfolding momentOf
+unfolding moment_of
 returns c =
     let micros-known = c.before in
     let at-micros = micros-known.before in
@@ -44,7 +44,7 @@ returns c =
 
 -- the fraction is refused
 returns-2 : tie.Need-returns-2
-unfolding momentOf
+unfolding moment_of
 returns-2 c =
     let at-refusal = c.before in
     let after-micros-of = at-refusal.before.before in
@@ -59,7 +59,7 @@ returns-2 c =
 
 -- the date is refused
 returns-3 : tie.Need-returns-3
-unfolding momentOf
+unfolding moment_of
 returns-3 c =
     let at-refusal = c.before in
     let after-dated-of = at-refusal.before.before in
@@ -68,7 +68,7 @@ returns-3 c =
 
 -- the hour is refused
 returns-4 : tie.Need-returns-4
-unfolding momentOf
+unfolding moment_of
 returns-4 c = let at-refusal = c.before in simp (hour at-refusal.before.before at-refusal.why3.given.1)
 
 pub moment-of-spec : {M : Type 1} → statement M

@@ -1,16 +1,16 @@
 -- `moment_parts::report_of` meets its contract: each arm is its refusal's line of the table. Assumes nothing.
 use borrow.Author.Rules.{rules}
-use Rattle.moment_parts.specs.Report.{unreadReport}
+use Rattle.moment_parts.specs.Report.{unread_report}
 use Rattle.moment_parts.proofs.report_of.Statement.{statement}
 use Rattle.moment_parts.proofs.report_of.Tie as tie
 
 -- a refusal whatever the strict switch, and that of the switch
 by : tie.Need-returns
-unfolding unreadReport
+unfolding unread_report
 by c = rw c.before.before.why.given.1 c.report-of.ensures
 
 no-such-day : tie.Need-returns-2
-unfolding unreadReport
+unfolding unread_report
 no-such-day c = rw c.before.enum_told.given.1 c.alone.ensures
 
 pub report-of-spec : {M : Type 1} → statement M

@@ -4,7 +4,7 @@ use borrow.Author.Rules.{rules}
 use lib.Dec.{lit<}
 use Rattle.base_wrapping.proofs.Fits.{returned}
 use Rattle.read_fields.specs.Fields.{clock}
-use Rattle.moment_time.specs.Time.{clockHour}
+use Rattle.moment_time.specs.Time.{clock_hour}
 use Rattle.moment_sums.proofs.Known.{Known, known}
 use Rattle.moment_sums.proofs.Tests.{equal, unequal}
 use Rattle.moment_time.proofs.clock_hour.Statement.{statement}
@@ -15,7 +15,7 @@ has c = known c.args.t1 _ c.well-formed.0
 
 -- the 12-hour clock
 returns : tie.Need-returns
-unfolding clockHour
+unfolding clock_hour
 returns c =
     let on-twelve = c.before.before in
     let after-hour = on-twelve.before in
@@ -29,7 +29,7 @@ returns c =
 
 -- the 24-hour clock, or none
 returns-2 : tie.Need-returns-2
-unfolding clockHour
+unfolding clock_hour
 returns-2 c =
     let after-hour = c.before in
     let fields = has after-hour.before.before in

@@ -9,7 +9,7 @@ use mir.Facts.{to_z-of_z}
 use mir.Syntax.{w32}
 use mir.Val.{SFits}
 use native.Mathlib.Omega.{arith}
-use Rattle.moment_time.specs.Time.{hourOfTwelve}
+use Rattle.moment_time.specs.Time.{hour_of_twelve}
 use Rattle.moment_sums.proofs.Tests.{equal, unequal, absent, present}
 use Rattle.moment_sums.proofs.Within.{within}
 use Rattle.moment_time.proofs.hour_of_twelve.Statement.{statement}
@@ -27,21 +27,21 @@ pm-fits c = let in-range = within c.before.before.args.hour (low c) (high c) in 
 
 -- below 1
 returns : tie.Need-returns
-unfolding hourOfTwelve
+unfolding hour_of_twelve
 returns c =
     let hour-back = to_z-of_z c.before.ranges.hour in
     simp (hour-back, simp hour-back at c.if1.true)
 
 -- above 12
 returns-2 : tie.Need-returns-2
-unfolding hourOfTwelve
+unfolding hour_of_twelve
 returns-2 c =
     let hour-back = to_z-of_z c.before.before.ranges.hour in
     simp (hour-back, simp hour-back at c.before.if1.false, simp hour-back at c.if2.true)
 
 -- 1 to 11 PM
 returns-3 : tie.Need-returns-3
-unfolding hourOfTwelve
+unfolding hour_of_twelve
 returns-3 c =
     let in-clock = c.before.before in
     let fits = in-clock.before.before.ranges in
@@ -57,7 +57,7 @@ returns-3 c =
 
 -- 12 PM
 returns-4 : tie.Need-returns-4
-unfolding hourOfTwelve
+unfolding hour_of_twelve
 returns-4 c =
     let in-clock = c.before.before in
     let fits = in-clock.before.before.ranges in
@@ -72,7 +72,7 @@ returns-4 c =
 
 -- 12 AM
 returns-5 : tie.Need-returns-5
-unfolding hourOfTwelve
+unfolding hour_of_twelve
 returns-5 c =
     let in-clock = c.before.before in
     let fits = in-clock.before.before.ranges in
@@ -85,7 +85,7 @@ returns-5 c =
 
 -- 1 to 11 AM
 returns-6 : tie.Need-returns-6
-unfolding hourOfTwelve
+unfolding hour_of_twelve
 returns-6 c =
     let in-clock = c.before.before in
     let fits = in-clock.before.before.ranges in

@@ -5,7 +5,7 @@ use borrow.Author.Rules.{rules}
 use Rattle.read_fields.specs.Fields.{get, ms}
 use Rattle.base_wrapping.proofs.Fits.{wrap-back}
 use Rattle.moment_sums.specs.Checked.{◌times◌}
-use Rattle.moment_time.specs.Time.{microsOf}
+use Rattle.moment_time.specs.Time.{micros_of}
 use Rattle.moment_sums.specs.declared.Value.{Value}
 use Rattle.moment_sums.specs.declared.Value.TheVariants.{Is}
 use Rattle.moment_sums.proofs.Fits.{back}
@@ -21,7 +21,7 @@ product c e =
 
 -- the product fits
 returns : tie.Need-returns
-unfolding microsOf
+unfolding micros_of
 returns c =
     let at-whole = c.before in
     let matched = at-whole.before in
@@ -37,7 +37,7 @@ returns c =
 
 -- it was refused
 returns-2 : tie.Need-returns-2
-unfolding microsOf
+unfolding micros_of
 returns-2 c = let matched = c.before in rw (product matched.before.before matched.why.given.1)
 
 pub micros-of-spec : {M : Type 1} → statement M

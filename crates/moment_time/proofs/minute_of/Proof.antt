@@ -2,7 +2,7 @@
 use borrow.Author.Rules.{rules}
 use Rattle.base_wrapping.proofs.Fits.{returned}
 use Rattle.moment_sums.proofs.Known.{Known, known}
-use Rattle.moment_time.specs.Time.{minuteOf}
+use Rattle.moment_time.specs.Time.{minute_of}
 use Rattle.moment_time.proofs.SecondOfDay.{by-hour, by-minute, in-hour-back, minutes-back}
 use Rattle.moment_time.proofs.minute_of.Statement.{statement}
 use Rattle.moment_time.proofs.minute_of.Tie as tie
@@ -11,7 +11,7 @@ has : (c : tie.Start) → Known c.args.t1
 has c = known c.args.t1 _ c.well-formed.0
 
 returns : tie.Need-returns
-unfolding minuteOf
+unfolding minute_of
 returns c =
     let fields = has c.before.before.before in
     simp (returned c.field-or.type-inv c.field-or.ensures, fields.back, in-hour-back fields, minutes-back fields)

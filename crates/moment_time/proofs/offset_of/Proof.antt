@@ -10,7 +10,7 @@ use Rattle.base_notation.proofs.Cases.{both}
 use Rattle.read_fields.specs.Fields.{get, is_zero, tzsign, tzh, tzm}
 use Rattle.base_wrapping.proofs.Fits.{read}
 use Rattle.moment_sums.specs.Within.{Within, below}
-use Rattle.moment_time.specs.Time.{eastOf, offset_of, offsetInRange, checkedOffset}
+use Rattle.moment_time.specs.Time.{east_of, offset_of, offset_in_range, checked_offset}
 use Rattle.moment_sums.proofs.Known.{Known, known}
 use Rattle.moment_time.proofs.Offsets.{minutes as joined, hours-fit, minutes-fit, seconds-fit, neg-minutes-fit, neg-seconds-fit, neg-seconds-is}
 use Rattle.moment_sums.proofs.Tests.{absent, present, failed, passed}
@@ -46,12 +46,12 @@ sign_set c = present ((has (start c)).fits tzsign) c.before.before.before.before
 
 -- no offset was read
 returns : tie.Need-returns
-unfolding checkedOffset offsetInRange offset_of
+unfolding checked_offset offset_in_range offset_of
 returns c = simp (absent ((has c.before.before).fits tzsign) c.if1.true)
 
 -- its hours or minutes are out of range
 returns-2 : tie.Need-returns-2
-unfolding checkedOffset offsetInRange
+unfolding checked_offset offset_in_range
 returns-2 c =
     let after-sign = c.before.before.before.before in
     let fields = has after-sign.before.before in
@@ -73,7 +73,7 @@ module _ (c : tie.Else2) where
 
 -- the sign is minus
 returns-3 : tie.Need-returns-3
-unfolding checkedOffset offsetInRange offset_of eastOf
+unfolding checked_offset offset_in_range offset_of east_of
 returns-3 c =
     let in-range = c.before in
     let Fields-back = (has (start in-range)).back in
@@ -93,7 +93,7 @@ returns-3 c =
 
 -- the sign is plus
 returns-4 : tie.Need-returns-4
-unfolding checkedOffset offsetInRange offset_of eastOf
+unfolding checked_offset offset_in_range offset_of east_of
 returns-4 c =
     let in-range = c.before in
     let Fields-back = (has (start in-range)).back in

@@ -4,7 +4,7 @@ use mathlib.Core.Bool.{true}
 use borrow.Author.Rules.{rules}
 use mir.Facts.{to_z-of_z}
 use Rattle.moment_sums.specs.Within.{below}
-use Rattle.moment_time.specs.Time.{timeInRange}
+use Rattle.moment_time.specs.Time.{time_in_range}
 use Rattle.moment_sums.proofs.Tests.{failed, passed}
 use Rattle.moment_time.proofs.time_in_range.Statement.{statement}
 use Rattle.moment_time.proofs.time_in_range.Tie as tie
@@ -25,12 +25,12 @@ second c =
 
 -- the hour is out of range
 returns : tie.Need-returns
-unfolding timeInRange
+unfolding time_in_range
 returns c = rw (simp (to_z-of_z c.before.before.ranges.hour) at (sym c.before.below.ensures ∙ failed _ c.if1.true))
 
 -- the minute is
 returns-2 : tie.Need-returns-2
-unfolding timeInRange
+unfolding time_in_range
 returns-2 c =
     let after-hour = c.before.before in
     let fits = after-hour.before.before.ranges in
@@ -38,7 +38,7 @@ returns-2 c =
 
 -- the second is
 returns-3 : tie.Need-returns-3
-unfolding timeInRange
+unfolding time_in_range
 returns-3 c =
     let after-minute = c.before.before in
     let after-hour = after-minute.before.before in
@@ -51,7 +51,7 @@ returns-3 c =
 
 -- the test of the fraction
 returns-4 : tie.Need-returns-4
-unfolding timeInRange
+unfolding time_in_range
 returns-4 c =
     let after-second = c.before in
     let after-minute = after-second.before.before in

@@ -3,13 +3,13 @@
 use borrow.Author.Rules.{rules}
 use mir.Facts.{to_z-of_z}
 use Rattle.base_wrapping.proofs.Fits.{wrap-back}
-use Rattle.moment_year.specs.Year.{firstOfCentury}
+use Rattle.moment_year.specs.Year.{first_of_century}
 use Rattle.moment_year.proofs.first_of_century.Statement.{statement}
 use Rattle.moment_year.proofs.first_of_century.Tie as tie
 
 -- before Christ
 returns : tie.Need-returns
-unfolding firstOfCentury
+unfolding first_of_century
 returns c =
     let after-mul = c.before in
     let before-christ = after-mul.before in
@@ -23,7 +23,7 @@ returns c =
 
 -- after Christ
 returns-2 : tie.Need-returns-2
-unfolding firstOfCentury
+unfolding first_of_century
 returns-2 c =
     let after-mul = c.before in
     let after-sub = after-mul.before in

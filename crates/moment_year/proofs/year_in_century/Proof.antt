@@ -11,7 +11,7 @@ use mir.Syntax.{w32}
 use mir.Val.{SFits}
 use Rattle.read_fields.specs.Fields.{is_zero}
 use Rattle.base_wrapping.proofs.Fits.{wrap-back, quot_fits}
-use Rattle.moment_year.specs.Year.{yearInCentury}
+use Rattle.moment_year.specs.Year.{year_in_century}
 use Rattle.moment_sums.proofs.Fits.{rem-fits, neg-rem-fits, wrap-twice}
 use Rattle.moment_sums.proofs.Tests.{absent, present}
 use Rattle.moment_year.proofs.year_in_century.Statement.{statement}
@@ -30,7 +30,7 @@ some c = present (digits c.before) (simp (to_z-of_z c.before.ranges.year) at c.i
 
 -- the last two digits are 00, before Christ
 returns : tie.Need-returns
-unfolding yearInCentury
+unfolding year_in_century
 returns c =
     let after-mul = c.before in
     let before-christ = after-mul.before in
@@ -47,7 +47,7 @@ returns c =
 
 -- they are 00, after Christ
 returns-2 : tie.Need-returns-2
-unfolding yearInCentury
+unfolding year_in_century
 returns-2 c =
     let after-christ = c.before in
     let no-digits = after-christ.before in
@@ -64,7 +64,7 @@ returns-2 c =
 
 -- they are not, before Christ
 returns-3 : tie.Need-returns-3
-unfolding yearInCentury
+unfolding year_in_century
 returns-3 c =
     let after-digits = c.before in
     let after-mul = after-digits.before in
@@ -90,7 +90,7 @@ returns-3 c =
 
 -- they are not, after Christ
 returns-4 : tie.Need-returns-4
-unfolding yearInCentury
+unfolding year_in_century
 returns-4 c =
     let after-mul = c.before in
     let after-sub = after-mul.before in

@@ -2,7 +2,7 @@
 use borrow.Author.Rules.{rules}
 use Rattle.read_fields.specs.Fields.{year, cc}
 use Rattle.base_wrapping.proofs.Fits.{returned}
-use Rattle.moment_year.specs.Year.{yearOf}
+use Rattle.moment_year.specs.Year.{year_of}
 use Rattle.moment_sums.proofs.Known.{Known, known}
 use Rattle.moment_sums.proofs.Tests.{absent, present}
 use Rattle.moment_year.proofs.year_of.Statement.{statement}
@@ -13,14 +13,14 @@ has c = let at-start = c.before.before.before in known at-start.args.t1 _ at-sta
 
 -- neither year nor century
 returns : tie.Need-returns
-unfolding yearOf
+unfolding year_of
 returns c =
     let fields = has c.before.before in
     simp (absent (fields.fits year) c.before.if1.true, absent (fields.fits cc) c.if2.true)
 
 -- a century alone
 returns-2 : tie.Need-returns-2
-unfolding yearOf
+unfolding year_of
 returns-2 c =
     let after-sign = c.before in
     let at-century = after-sign.before in
@@ -35,7 +35,7 @@ returns-2 c =
 
 -- a year alone
 returns-3 : tie.Need-returns-3
-unfolding yearOf
+unfolding year_of
 returns-3 c =
     let after-sign = c.before in
     let at-century = after-sign.before in
@@ -50,7 +50,7 @@ returns-3 c =
 
 -- both, the year with fewer than three digits
 returns-4 : tie.Need-returns-4
-unfolding yearOf
+unfolding year_of
 returns-4 c =
     let after-sign = c.before in
     let at-digits = after-sign.before in
@@ -67,7 +67,7 @@ returns-4 c =
 
 -- both, the year with three digits or more: the century does not count
 returns-5 : tie.Need-returns-5
-unfolding yearOf
+unfolding year_of
 returns-5 c =
     let after-sign = c.before in
     let at-digits = after-sign.before in

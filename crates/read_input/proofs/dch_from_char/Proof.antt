@@ -6,7 +6,7 @@ use Prim.Native.Nat.{ℕ, ◌-◌, ◌/◌, ◌<◌}
 use native.Mathlib.Omega.{arith}
 use borrow.Author.Rules.{rules}
 use lib.ListN.{length}
-use Rattle.template_nodes.specs.Bytes.{nodesIn}
+use Rattle.template_nodes.specs.Bytes.{nodes_in}
 use Rattle.template_nodes.specs.declared.Node.{Node}
 use Rattle.template_nodes.proofs.Encoding.{nodes-length}
 use Rattle.read_fields.specs.Fields.{fields_of}
@@ -18,7 +18,7 @@ use Rattle.read_input.proofs.dch_from_char.Statement.{statement}
 use Rattle.read_input.proofs.dch_from_char.Tie as tie
 
 abbrev invariant-loop : tie.invariant-loop
-invariant-loop c t s f₀ p₀ i₀ f p i = Turned t s (nodesIn c) (read_all t s (nodesIn c)) i (fields_of f) p
+invariant-loop c t s f₀ p₀ i₀ f p i = Turned t s (nodes_in c) (read_all t s (nodes_in c)) i (fields_of f) p
 
 abbrev decreases-loop : tie.decreases-loop
 decreases-loop c t s f₀ p₀ i₀ f p i = length c / 6 - i
@@ -40,7 +40,7 @@ module _ (c : tie.After-lane invariant-loop decreases-loop) where
   start = at-loop.before.before.before.before
 
   abbrev nodes : List Node
-  nodes = nodesIn start.args.c.now
+  nodes = nodes_in start.args.c.now
 
   abbrev next : ℕ
   next = c.lane.result.next

@@ -12,7 +12,7 @@ use lib.ListN.{length, take, drop}
 use mir.Facts.{to_z-of_z}
 use mir.Syntax.{w64}
 use mir.Val.{SFits}
-use Rattle.base_chars.specs.Class.{isSpace}
+use Rattle.base_chars.specs.Class.{is_space}
 use Rattle.base_strtol.specs.Strtol.{strtol}
 use Rattle.base_strtol.proofs.Leading.{leading-place}
 use Rattle.read_integers.proofs.Numbers.{short, narrow, whole, part_end}
@@ -21,7 +21,7 @@ use Rattle.read_integers.proofs.fixed.Tie as tie
 
 -- the spaces end within the input
 within : (c : tie.After-past-spaces) → c.past-spaces.result ≤ length c.before.before.args.s.now
-within c = let args = c.before.before.args in omega (arith, leading-place isSpace args.s.now args.at, c.past-spaces.ensures)
+within c = let args = c.before.before.args in omega (arith, leading-place is_space args.s.now args.at, c.past-spaces.ensures)
 
 -- strtol reads the part of the width
 part : (c : tie.After-c-strtol)

@@ -2,19 +2,19 @@
 use native.Mathlib.Omega.{arith}
 use borrow.Author.Rules.{rules}
 use borrow.Author.Tests.{ne_eqb}
-use Rattle.base_accents.specs.Accents.{measureOf}
-use Rattle.read_integers.specs.Suffix.{pastOrdinal}
+use Rattle.base_accents.specs.Accents.{measure_of}
+use Rattle.read_integers.specs.Suffix.{past_ordinal}
 use Rattle.read_integers.proofs.skip_th.Statement.{statement}
 use Rattle.read_integers.proofs.skip_th.Tie as tie
 
 -- no ordinal suffix
 returns : tie.Need-returns
-unfolding pastOrdinal
+unfolding past_ordinal
 returns c = record { is = rw c.if1.true; from = omega arith; within = omega arith }
 
 -- past two characters in the accents mode
 returns-2 : tie.Need-returns-2
-unfolding pastOrdinal
+unfolding past_ordinal
 returns-2 c =
     let first = c.before.whole.ensures in
     let second = c.whole2.ensures in
@@ -27,7 +27,7 @@ returns-2 c =
 
 -- and in the other
 returns-3 : tie.Need-returns-3
-unfolding pastOrdinal measureOf
+unfolding past_ordinal measure_of
 returns-3 c =
     let first = c.before.pg-mblen.ensures in
     let second = c.pg-mblen2.ensures in

@@ -2,14 +2,14 @@
 use mathlib.Core.Path.{ap}
 use Prim.Native.Nat.{ℕ, ◌+◌}
 use borrow.Author.Rules.{rules}
-use Rattle.read_fields.specs.Fields.{atPlace}
+use Rattle.read_fields.specs.Fields.{at_place}
 use Rattle.read_literals.proofs.char_passed.Statement.{statement}
 use Rattle.read_literals.proofs.char_passed.Tie as tie
 
 returns : tie.Need-returns
 returns c =
     let p = c.before.before.args.p in
-    ap (λ (n : ℕ). atPlace p (p.at + n)) c.measure.ensures.is
+    ap (λ (n : ℕ). at_place p (p.at + n)) c.measure.ensures.is
 
 pub char-passed-spec : {M : Type 1} → statement M
 char-passed-spec = tie.close (tie.spec (λ c κs. search rules) (λ c. search rules) returns)

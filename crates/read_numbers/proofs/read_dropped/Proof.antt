@@ -1,19 +1,19 @@
 -- `read_numbers::read_dropped` meets its contract: nothing is put, so it holds of any fields. Assumes nothing.
 use borrow.Author.Rules.{rules}
-use Rattle.read_numbers.specs.Numbers.{droppedNumber}
+use Rattle.read_numbers.specs.Numbers.{dropped_number}
 use Rattle.read_numbers.proofs.read_dropped.Statement.{statement}
 use Rattle.read_numbers.proofs.read_dropped.Tie as tie
 
 -- no number was read
 returns : tie.Need-returns
-unfolding droppedNumber
+unfolding dropped_number
 returns c values =
     let at-refused = c.before.before in
     rw (← at-refused.before.before.parse-int-len.ensures.is, at-refused.why.given.1, c.refuse.ensures)
 
 -- a number, and past its ordinal suffix
 returns-2 : tie.Need-returns-2
-unfolding droppedNumber
+unfolding dropped_number
 returns-2 c values =
     let after-place = c.before in
     let at_read = after-place.before.before.before in

@@ -7,7 +7,7 @@ use mir.Facts.{to_z-of_z}
 use mir.Syntax.{w32}
 use mir.Val.{SFits}
 use Rattle.read_fields.proofs.Held.{answered}
-use Rattle.read_numbers.specs.Numbers.{storedNumber}
+use Rattle.read_numbers.specs.Numbers.{stored_number}
 use Rattle.read_numbers.proofs.stored_number.Statement.{statement}
 use Rattle.read_numbers.proofs.stored_number.Tie as tie
 
@@ -22,7 +22,7 @@ moved_on c =
 
 -- the field was set to another value
 returns : tie.Need-returns
-unfolding storedNumber
+unfolding stored_number
 returns c =
     let after_test_lem = c.before.before in
     let at_read = after_test_lem.before.before in
@@ -35,12 +35,12 @@ returns c =
 
 -- no number was read
 returns-2 : tie.Need-returns-2
-unfolding storedNumber
+unfolding stored_number
 returns-2 c = rw (c.before.before.number.given.1, c.refuse.ensures)
 
 -- the number goes into its field
 returns-3 : tie.Need-returns-3
-unfolding storedNumber
+unfolding stored_number
 returns-3 c =
     let after-place = c.before in
     let after-put = after-place.before.before in

@@ -6,16 +6,16 @@ use native.Mathlib.Omega.{arith}
 use borrow.Author.Rules.{rules}
 use borrow.Author.Tests.{ne_eqb}
 use lib.ListN.{length}
-use Rattle.base_notation.specs.Text.{byteAt}
+use Rattle.base_notation.specs.Text.{byte_at}
 use Rattle.base_notation.proofs.Bytes.{byte-within}
-use Rattle.read_offsets.specs.Offsets.{colonMinutes}
+use Rattle.read_offsets.specs.Offsets.{colon_minutes}
 use Rattle.read_offsets.proofs.colon_minutes.Statement.{statement}
 use Rattle.read_offsets.proofs.colon_minutes.Tie as tie
 
 -- a colon is at the place, and so within the input
 colon : (c : tie.Else2) →
     let args = c.before.before.before.before.args in
-    byteAt args.s.now args.p.at ≡ 58
+    byte_at args.s.now args.p.at ≡ 58
 colon c = sym c.before.byte_at.ensures ∙ c.if2.false
 
 inside : (c : tie.Else2) →
@@ -27,19 +27,19 @@ inside c =
 
 -- hours alone
 returns : tie.Need-returns
-unfolding colonMinutes
+unfolding colon_minutes
 returns c = rw (c.before.if1.true, c.read.ensures)
 
 -- no colon after them
 returns-2 : tie.Need-returns-2
-unfolding colonMinutes
+unfolding colon_minutes
 returns-2 c =
     let at_byte = c.before.before in
     rw (ne_eqb _ _ at_byte.before.if1.false, ne_eqb _ _ (λ e. c.before.if2.true (at_byte.byte_at.ensures ∙ e)), c.read2.ensures)
 
 -- the minutes after a colon
 returns-3 : tie.Need-returns-3
-unfolding colonMinutes
+unfolding colon_minutes
 returns-3 c =
     let after-number = c.before.before in
     let at-colon = after-number.before in

@@ -5,16 +5,16 @@ use Prim.Native.Nat.{◌<◌}
 use native.Mathlib.Omega.{arith}
 use borrow.Author.Rules.{rules}
 use lib.ListN.{length}
-use Rattle.base_notation.specs.Text.{byteAt}
+use Rattle.base_notation.specs.Text.{byte_at}
 use Rattle.base_notation.proofs.Bytes.{byte-within}
-use Rattle.read_offsets.specs.Offsets.{isSign}
+use Rattle.read_offsets.specs.Offsets.{is_sign}
 use Rattle.read_offsets.proofs.past_sign.Statement.{statement}
 use Rattle.read_offsets.proofs.past_sign.Tie as tie
 
 -- the test whether a sign is at the place
 tested : (c : tie.After-is-sign) →
     let args = c.before.before.before.args in
-    c.is-sign.result ≡ isSign (byteAt args.s.now args.at)
+    c.is-sign.result ≡ is_sign (byte_at args.s.now args.at)
 tested c = rw c.before.byte_at.ensures at c.is-sign.ensures
 
 -- a sign is within the input

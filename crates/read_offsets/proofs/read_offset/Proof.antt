@@ -4,12 +4,12 @@ use mathlib.Core.Path.{◌≡◌, ◌∙◌, sym}
 use mathlib.Core.Bool.{◌&&◌}
 use borrow.Author.Rules.{rules}
 use lib.Dec.{eqb}
-use Rattle.base_notation.specs.Text.{byteAt}
-use Rattle.base_chars.specs.Class.{isLetter}
+use Rattle.base_notation.specs.Text.{byte_at}
+use Rattle.base_chars.specs.Class.{is_letter}
 use Rattle.base_wrapping.proofs.Fits.{returned}
-use Rattle.read_fields.specs.Fields.{fields_of, put, readInto, tzh, tzsign}
-use Rattle.read_fields.specs.Tasks.{noLetter}
-use Rattle.read_offsets.specs.Offsets.{readOffset, thenMinutes, signOf, storedOffset, pastSign}
+use Rattle.read_fields.specs.Fields.{fields_of, put, read_into, tzh, tzsign}
+use Rattle.read_fields.specs.Tasks.{no_letter}
+use Rattle.read_offsets.specs.Offsets.{read_offset, then_minutes, sign_of, stored_offset, past_sign}
 use Rattle.read_integers.specs.Number.{number_at}
 use Rattle.read_offsets.proofs.read_offset.Statement.{statement}
 use Rattle.read_offsets.proofs.read_offset.Tie as tie
@@ -17,20 +17,20 @@ use Rattle.read_offsets.proofs.read_offset.Tie as tie
 -- the test whether a letter is refused
 tested : (c : tie.After-is-zone-letter) →
     let args = c.before.before.before.args in
-    c.is-zone-letter.result ≡ (eqb args.task.rule noLetter && isLetter (byteAt args.s.now args.p.at))
+    c.is-zone-letter.result ≡ (eqb args.task.rule no_letter && is_letter (byte_at args.s.now args.p.at))
 tested c = rw c.before.byte_at.ensures at c.is-zone-letter.ensures
 
 -- a letter
 returns : tie.Need-returns
-unfolding readOffset
+unfolding read_offset
 returns c = rw (sym (tested c.before.before) ∙ c.before.if1.true, c.refuse.ensures)
 
 -- the hours: a sign that is stored, and a number
 hours : (c : tie.After-stored-offset) →
     let args = c.before.before.before.before.before.before.before.before.before.before.before.args in
-    readInto c.stored-offset.result c.stored-offset.new.1.1.1.0
-    ≡ storedOffset args.n tzh (number_at args.s.now (pastSign args.s.now args.p.at) 2 args.n.pattern args.free)
-    (put (fields_of args.f.now) tzsign (signOf args.s.now args.p)) args.p
+    read_into c.stored-offset.result c.stored-offset.new.1.1.1.0
+    ≡ stored_offset args.n tzh (number_at args.s.now (past_sign args.s.now args.p.at) 2 args.n.pattern args.free)
+    (put (fields_of args.f.now) tzsign (sign_of args.s.now args.p)) args.p
 hours c =
     let after-number = c.before.before in
     let after-sign = after-number.before in
@@ -45,7 +45,7 @@ no-letter c = c.before.before.before.before.before.before.before
 
 -- the hours were refused
 returns-2 : tie.Need-returns-2
-unfolding readOffset thenMinutes
+unfolding read_offset then_minutes
 returns-2 c =
     let after-hours = c.before.before in
     let at_test = no-letter after-hours in
@@ -53,7 +53,7 @@ returns-2 c =
 
 -- the hours were read: the minutes after them
 returns-3 : tie.Need-returns-3
-unfolding readOffset thenMinutes
+unfolding read_offset then_minutes
 returns-3 c =
     let at-verdict = c.before.before.before in
     let after-hours = at-verdict.before.before in

@@ -6,15 +6,15 @@ use native.Mathlib.Omega.{arith}
 use borrow.Author.Rules.{rules}
 use borrow.Author.Tests.{ne_eqb, lt-ltb}
 use lib.Dec.{ltb}
-use Rattle.base_notation.specs.Text.{byteAt}
-use Rattle.read_offsets.specs.Offsets.{isSign, signOf}
+use Rattle.base_notation.specs.Text.{byte_at}
+use Rattle.read_offsets.specs.Offsets.{is_sign, sign_of}
 use Rattle.read_offsets.proofs.sign_of.Statement.{statement}
 use Rattle.read_offsets.proofs.sign_of.Tie as tie
 
 -- the test whether a sign is at the place
 tested : (c : tie.After-is-sign) →
     let args = c.before.before.before.args in
-    c.is-sign.result ≡ isSign (byteAt args.s.now args.p.at)
+    c.is-sign.result ≡ is_sign (byte_at args.s.now args.p.at)
 tested c = rw c.before.byte_at.ensures at c.is-sign.ensures
 
 positive : (n : ℕ) → (n ≡ 0 → ⊥) → ltb 0 n ≡ true
@@ -22,35 +22,35 @@ positive n h = lt-ltb 0 n (omega arith)
 
 -- a minus at the place
 returns : tie.Need-returns
-unfolding signOf
+unfolding sign_of
 returns c =
     let at_byte = c.before.before.before in
     rw (sym at_byte.byte_at.ensures ∙ c.if2.true)
 
 -- a plus or a space at the place
 returns-2 : tie.Need-returns-2
-unfolding signOf
+unfolding sign_of
 returns-2 c =
     let after_test_lem = c.before.before in
     rw (sym (tested after_test_lem) ∙ c.before.if1.true, ne_eqb _ _ (λ e. c.if2.false (after_test_lem.before.byte_at.ensures ∙ e)))
 
 -- no sign, and no space was skipped: plus
 returns-3 : tie.Need-returns-3
-unfolding signOf
+unfolding sign_of
 returns-3 c =
     let no_sign = c.before.before in
     rw (sym (tested no_sign.before) ∙ no_sign.if1.false, c.if3.true)
 
 -- no sign, at the start of the input: plus
 returns-4 : tie.Need-returns-4
-unfolding signOf
+unfolding sign_of
 returns-4 c =
     let no_sign = c.before.before.before in
     rw (sym (tested no_sign.before) ∙ no_sign.if1.false, positive _ c.before.if3.false, c.if4.true)
 
 -- a minus one byte back
 returns-5 : tie.Need-returns-5
-unfolding signOf
+unfolding sign_of
 returns-5 c =
     let not_first = c.before.before in
     let no_sign = not_first.before.before.before in
@@ -63,7 +63,7 @@ returns-5 c =
 
 -- no minus there either: plus
 returns-6 : tie.Need-returns-6
-unfolding signOf
+unfolding sign_of
 returns-6 c =
     let not_first = c.before.before in
     let no_sign = not_first.before.before.before in

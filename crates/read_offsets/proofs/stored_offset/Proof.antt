@@ -4,7 +4,7 @@ use mir.Facts.{to_z-of_z}
 use mir.Syntax.{w32}
 use mir.Val.{SFits}
 use Rattle.read_fields.proofs.Held.{answered}
-use Rattle.read_offsets.specs.Offsets.{storedOffset}
+use Rattle.read_offsets.specs.Offsets.{stored_offset}
 use Rattle.read_offsets.proofs.stored_offset.Statement.{statement}
 use Rattle.read_offsets.proofs.stored_offset.Tie as tie
 
@@ -14,7 +14,7 @@ value-fits c = search rules
 
 -- the field was set to another value
 returns : tie.Need-returns
-unfolding storedOffset
+unfolding stored_offset
 returns c =
     let after_test_lem = c.before.before in
     let at_read = after_test_lem.before.before in
@@ -27,12 +27,12 @@ returns c =
 
 -- no number was read
 returns-2 : tie.Need-returns-2
-unfolding storedOffset
+unfolding stored_offset
 returns-2 c = rw (c.before.before.number.given.1, c.refuse.ensures)
 
 -- the number goes into its field
 returns-3 : tie.Need-returns-3
-unfolding storedOffset
+unfolding stored_offset
 returns-3 c =
     let after-put = c.before.before in
     let not-other = after-put.before.before in

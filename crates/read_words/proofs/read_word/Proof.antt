@@ -6,7 +6,7 @@ use native.Mathlib.Omega.{arith}
 use borrow.Author.Rules.{rules}
 use Rattle.read_words.specs.Spelling.{Inside}
 use Rattle.read_words.specs.declared.spelling.Word.TheVariants.{At}
-use Rattle.read_words.specs.Words.{storedWord}
+use Rattle.read_words.specs.Words.{stored_word}
 use Rattle.read_words.proofs.read_word.Statement.{statement}
 use Rattle.read_words.proofs.read_word.Tie as tie
 
@@ -18,14 +18,14 @@ inside c = rw c.before.index.given.1 at c.before.before.before.seq-search-ascii.
 
 -- no word of the list is there
 returns : tie.Need-returns
-unfolding storedWord
+unfolding stored_word
 returns c =
     let after-search = c.before.before.before in
     rw (← after-search.before.list_of.ensures, ← after-search.seq-search-ascii.ensures.is, c.before.enum_told.given.1, c.refuse.ensures)
 
 -- a word, whose number is stored
 returns-2 : tie.Need-returns-2
-unfolding storedWord
+unfolding stored_word
 returns-2 c =
     let after-meant = c.before.before in
     let at-word = after-meant.before.before in

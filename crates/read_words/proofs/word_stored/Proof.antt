@@ -12,9 +12,9 @@ use mir.Syntax.{w32}
 use mir.Val.{SFits}
 use Rattle.read_integers.specs.Setting.{conflicts}
 use Rattle.template_nodes.specs.declared.Node.{Node}
-use Rattle.read_fields.specs.Fields.{atPlace, fields_of, get, put, read, readInto, went}
+use Rattle.read_fields.specs.Fields.{at_place, fields_of, get, put, read, read_into, went}
 use Rattle.read_fields.proofs.Held.{answered}
-use Rattle.read_words.specs.Words.{keptWord, notedWord, wordStored}
+use Rattle.read_words.specs.Words.{kept_word, noted_word, word_stored}
 use Rattle.read_fields.specs.declared.Fields.{Fields}
 use Rattle.read_fields.specs.declared.Outcome.{Outcome}
 use Rattle.read_fields.specs.declared.Place.{Place}
@@ -25,9 +25,9 @@ use Rattle.read_words.proofs.word_stored.Tie as tie
 
 -- a field that holds no other value, and what is put: the reading is the definition's
 stored : (n : Node) (task : Task) (z next : ℕ) (f : Fields) (p : Place) → conflicts (get f task.field) (pos z) ≡ false → {o : Outcome} {values : List ℤ}
-    → o ≡ went Read (atPlace p next) → fields_of values ≡ notedWord task.rule (put f task.field (pos (keptWord task.rule z)))
-    → readInto o values ≡ wordStored n task z next f p
-stored n task z next f p free o fields = rw (free, o) (ap (λ (g : Fields). read g (atPlace p next)) fields)
+    → o ≡ went Read (at_place p next) → fields_of values ≡ noted_word task.rule (put f task.field (pos (kept_word task.rule z)))
+    → read_into o values ≡ word_stored n task z next f p
+stored n task z next f p free o fields = rw (free, o) (ap (λ (g : Fields). read g (at_place p next)) fields)
 
 -- the number is at most 12
 number_fits : (c : tie.Start) → SFits w32 (pos c.args.z)
@@ -58,7 +58,7 @@ returns-2 c =
     stored args.n args.task args.z args.next (fields_of args.f.now) args.p
     (answered args.f.now args.task.field (number_fits at-start) after_test_lem.holds-other.ensures not-other.if1.false)
     (c.read.ensures ∙ ap (went Read) c.before.at_place.ensures)
-    (after-noted.noted-word.ensures ∙ ap (notedWord args.task.rule) set)
+    (after-noted.noted-word.ensures ∙ ap (noted_word args.task.rule) set)
 
 pub word-stored-spec : {M : Type 1} → statement M
 word-stored-spec =

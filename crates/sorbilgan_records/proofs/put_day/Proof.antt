@@ -5,7 +5,7 @@ use borrow.Author.Rules.{rules}
 use mir.Syntax.{w32}
 use mir.Val.{SFits}
 use Rattle.calendar_gregorian.proofs.Signed.{wide, wide_fits}
-use Rattle.sorbilgan_records.specs.Records.{dayRecord}
+use Rattle.sorbilgan_records.specs.Records.{day_record}
 use Rattle.sorbilgan_records.proofs.Values.{value-recorded}
 use Rattle.sorbilgan_records.proofs.put_day.Statement.{statement}
 use Rattle.sorbilgan_records.proofs.put_day.Tie as tie
@@ -15,18 +15,18 @@ days-fit c = search rules
 
 -- a day
 returns : tie.Need-returns
-unfolding dayRecord
+unfolding day_record
 returns c =
     let after-alone = c.before.before in
     let at-days = after-alone.before in
-    value-recorded after-alone.alone.ensures (wide (days-fit at-days)) (ap dayRecord at-days.before.day.given.1) c.put-value.ensures
+    value-recorded after-alone.alone.ensures (wide (days-fit at-days)) (ap day_record at-days.before.day.given.1) c.put-value.ensures
 
 -- a refusal
 returns-2 : tie.Need-returns-2
-unfolding dayRecord
+unfolding day_record
 returns-2 c =
     let after-report = c.before.before in
-    value-recorded after-report.report-of.ensures refl (ap dayRecord after-report.before.before.day2.given.1) c.put-value2.ensures
+    value-recorded after-report.report-of.ensures refl (ap day_record after-report.before.before.day2.given.1) c.put-value2.ensures
 
 pub put-day-spec : {M : Type 1} → statement M
 put-day-spec =

@@ -2,15 +2,15 @@
 -- others are answered first. Assumes nothing.
 use mathlib.Core.Path.{◌∙◌, sym}
 use borrow.Author.Rules.{rules}
-use Rattle.moment_parts.specs.Plain.{plainParts}
+use Rattle.moment_parts.specs.Plain.{plain_parts}
 use Rattle.moment_parts.proofs.PlainMoment.{plain-moment}
-use Rattle.sorbilgan_records.specs.Records.{partsRecord}
+use Rattle.sorbilgan_records.specs.Records.{parts_record}
 use Rattle.sorbilgan_records.proofs.put_fields.Statement.{statement}
 use Rattle.sorbilgan_records.proofs.put_fields.Tie as tie
 
 -- plain fields in range
 returns : tie.Need-returns
-unfolding partsRecord plainParts
+unfolding parts_record plain_parts
 returns c =
     let after-parts = c.before.before in
     let plain = after-parts.before in

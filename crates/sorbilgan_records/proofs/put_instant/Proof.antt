@@ -5,7 +5,7 @@ use borrow.Author.Rules.{rules}
 use mir.Facts.{to_z-of_z}
 use mir.Syntax.{w64}
 use mir.Val.{SFits}
-use Rattle.sorbilgan_records.specs.Records.{instantRecord}
+use Rattle.sorbilgan_records.specs.Records.{instant_record}
 use Rattle.sorbilgan_records.proofs.Values.{value-recorded}
 use Rattle.sorbilgan_records.proofs.put_instant.Statement.{statement}
 use Rattle.sorbilgan_records.proofs.put_instant.Tie as tie
@@ -15,18 +15,18 @@ micros-fit c = search rules
 
 -- an instant
 returns : tie.Need-returns
-unfolding instantRecord
+unfolding instant_record
 returns c =
     let after-alone = c.before.before in
     let at-micros = after-alone.before in
-    value-recorded after-alone.alone.ensures (to_z-of_z (micros-fit at-micros)) (ap instantRecord at-micros.before.instant.given.1) c.put-value.ensures
+    value-recorded after-alone.alone.ensures (to_z-of_z (micros-fit at-micros)) (ap instant_record at-micros.before.instant.given.1) c.put-value.ensures
 
 -- a refusal
 returns-2 : tie.Need-returns-2
-unfolding instantRecord
+unfolding instant_record
 returns-2 c =
     let after-report = c.before.before in
-    value-recorded after-report.report-of.ensures refl (ap instantRecord after-report.before.before.instant2.given.1) c.put-value2.ensures
+    value-recorded after-report.report-of.ensures refl (ap instant_record after-report.before.before.instant2.given.1) c.put-value2.ensures
 
 pub put-instant-spec : {M : Type 1} → statement M
 put-instant-spec =

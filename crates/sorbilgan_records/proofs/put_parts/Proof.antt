@@ -4,7 +4,7 @@ use borrow.Author.Rules.{rules}
 use mir.Syntax.{w32}
 use mir.Val.{SFits}
 use Rattle.calendar_gregorian.proofs.Signed.{wide, wide_fits}
-use Rattle.sorbilgan_records.specs.Records.{partsRecord}
+use Rattle.sorbilgan_records.specs.Records.{parts_record}
 use Rattle.sorbilgan_records.proofs.put_parts.Statement.{statement}
 use Rattle.sorbilgan_records.proofs.put_parts.Tie as tie
 
@@ -13,7 +13,7 @@ offset-fits c = search rules
 
 -- a moment without an offset
 returns : tie.Need-returns
-unfolding partsRecord
+unfolding parts_record
 returns c =
     let at-absent = c.before.before in
     let at-moment = at-absent.before.before.before in
@@ -21,7 +21,7 @@ returns c =
 
 -- a moment with an offset, an i32 that keeps its value as an i64
 returns-2 : tie.Need-returns-2
-unfolding partsRecord
+unfolding parts_record
 returns-2 c =
     let at_offset = c.before.before in
     let at-moment = at_offset.before.before.before.before in
@@ -30,7 +30,7 @@ returns-2 c =
 
 -- a refusal
 returns-3 : tie.Need-returns-3
-unfolding partsRecord
+unfolding parts_record
 returns-3 c =
     let after-report = c.before.before in
     rw after-report.before.before.answer2.given.1 (rw after-report.report-of.ensures at c.put-refusal.ensures)

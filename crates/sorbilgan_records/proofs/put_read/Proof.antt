@@ -1,6 +1,6 @@
 -- `sorbilgan_records::put_read` meets its contract: in each case the callee stores that case's record. Assumes nothing.
 use borrow.Author.Rules.{rules}
-use Rattle.sorbilgan_records.specs.Records.{partsRecord}
+use Rattle.sorbilgan_records.specs.Records.{parts_record}
 use Rattle.sorbilgan_records.proofs.put_read.Statement.{statement}
 use Rattle.sorbilgan_records.proofs.put_read.Tie as tie
 
@@ -10,7 +10,7 @@ returns c = rw c.before.before.enum_told.given.1 c.put-fields.ensures
 
 -- a refusal
 returns-2 : tie.Need-returns-2
-unfolding partsRecord
+unfolding parts_record
 returns-2 c =
     let after-report = c.before.before in
     rw after-report.before.before.verdict.given.1 (rw after-report.report-of.ensures at c.put-refusal.ensures)

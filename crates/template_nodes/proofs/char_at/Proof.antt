@@ -3,7 +3,7 @@ use mathlib.Core.Path.{ap}
 use Prim.Native.Nat.{ℕ, ◌+◌}
 use native.Mathlib.Omega.{arith}
 use borrow.Author.Rules.{rules}
-use Rattle.template_nodes.specs.Template.{inMode, literal, make}
+use Rattle.template_nodes.specs.Template.{in_mode, literal, make}
 use Rattle.template_nodes.proofs.char_at.Statement.{statement}
 use Rattle.template_nodes.proofs.char_at.Tie as tie
 
@@ -12,7 +12,7 @@ returns c =
     let args = c.before.before.args in
     let measured = c.measure-usual.ensures in
     record {
-      is = ap (λ (n : ℕ). make (inMode args.accents (literal args.kind args.at n)) (args.at + n) args.quoted) measured.is;
+      is = ap (λ (n : ℕ). make (in_mode args.accents (literal args.kind args.at n)) (args.at + n) args.quoted) measured.is;
       on = omega (arith, measured.some);
     }
 

@@ -5,20 +5,20 @@ use mathlib.Core.Bool.{and-false}
 use native.Mathlib.Omega.{arith}
 use borrow.Author.Rules.{rules}
 use borrow.Author.Tests.{eq-eqb, ne_eqb, lt-ltb, le-ltb}
-use Rattle.template_nodes.specs.Template.{charPlace}
+use Rattle.template_nodes.specs.Template.{char_place}
 use Rattle.base_notation.proofs.Bytes.{byte-within}
 use Rattle.template_nodes.proofs.char_place.Statement.{statement}
 use Rattle.template_nodes.proofs.char_place.Tie as tie
 
 -- no backslash
 returns : tie.Need-returns
-unfolding charPlace
+unfolding char_place
 returns c =
     record { is = simp (ne_eqb _ _ c.if1.true); from = omega arith; near = omega arith; within = search rules }
 
 -- in quotes, a backslash and a character after it
 returns-2 : tie.Need-returns-2
-unfolding charPlace
+unfolding char_place
 returns-2 c =
     let at-backslash = c.before.before in
     record {
@@ -30,7 +30,7 @@ returns-2 c =
 
 -- in quotes, a backslash as the last byte
 returns-3 : tie.Need-returns-3
-unfolding charPlace
+unfolding char_place
 returns-3 c =
     let at-backslash = c.before.before in
     record {
@@ -42,7 +42,7 @@ returns-3 c =
 
 -- outside quotes, a backslash before a quote
 returns-4 : tie.Need-returns-4
-unfolding charPlace
+unfolding char_place
 returns-4 c =
     let at-backslash = c.before.before.before in
     let args = at-backslash.before.before.before.args in
@@ -56,7 +56,7 @@ returns-4 c =
 
 -- outside quotes, any other backslash
 returns-5 : tie.Need-returns-5
-unfolding charPlace
+unfolding char_place
 returns-5 c =
     let at-backslash = c.before.before.before in
     record {

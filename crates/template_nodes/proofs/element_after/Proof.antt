@@ -4,7 +4,7 @@ use mathlib.Core.Path.{◌≡◌, ◌∙◌, ap, sym}
 use mathlib.Core.Bool.{false≢true}
 use native.Mathlib.Omega.{arith}
 use borrow.Author.Rules.{rules}
-use Rattle.template_patterns.specs.Search.{patternAt}
+use Rattle.template_patterns.specs.Search.{pattern_at}
 use Rattle.template_patterns.specs.declared.Found.TheVariants.{Pattern}
 use Rattle.template_patterns.proofs.Search.{found-range}
 use Rattle.template_nodes.specs.declared.Element.{Element}
@@ -15,7 +15,7 @@ abbrev at-start : tie.After-known-told → tie.Start
 at-start c = c.before.before.before.before.before
 
 -- what the search found
-found : (c : tie.After-known-told) → patternAt (at-start c).args.t.now (at-start c).args.at ≡ Pattern c.before.number.given.0.0 c.before.number.given.0.1.0
+found : (c : tie.After-known-told) → pattern_at (at-start c).args.t.now (at-start c).args.at ≡ Pattern c.before.number.given.0.0 c.before.number.given.0.1.0
 found c = sym c.before.before.before.fmt-index-search.ensures ∙ c.before.number.given.1
 
 -- its number is in the table, and its name has one to five bytes

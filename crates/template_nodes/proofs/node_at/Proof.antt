@@ -5,8 +5,8 @@ use Prim.Native.Nat.{ℕ, ◌+◌, ◌*◌, ◌<◌}
 use native.Mathlib.Omega.{arith}
 use borrow.Author.Rules.{rules}
 use lib.ListN.{get_or, get_or-eq_default}
-use Rattle.template_nodes.specs.Bytes.{nodesIn}
-use Rattle.template_nodes.specs.Template.{endNode}
+use Rattle.template_nodes.specs.Bytes.{nodes_in}
+use Rattle.template_nodes.specs.Template.{end_node}
 use Rattle.template_nodes.proofs.Encoding.{node_in, nodes-length}
 use Rattle.template_nodes.proofs.node_at.Statement.{statement}
 use Rattle.template_nodes.proofs.node_at.Tie as tie
@@ -45,7 +45,7 @@ returns c =
 returns-2 : tie.Need-returns-2
 returns-2 c =
     let bytes = c.before.args.c.now in
-    sym (get_or-eq_default (nodesIn bytes) endNode (omega (arith, nodes-length bytes, c.if1.false)))
+    sym (get_or-eq_default (nodes_in bytes) end_node (omega (arith, nodes-length bytes, c.if1.false)))
 
 pub node_at_spec : {M : Type 1} → statement M
 node_at_spec =

@@ -7,10 +7,10 @@ use native.Mathlib.Omega.{arith}
 use borrow.Author.Rules.{rules}
 use lib.ListN.{length}
 use Rattle.base_notation.proofs.Cases.{both}
-use Rattle.base_notation.specs.Text.{byteAt}
-use Rattle.template_nodes.specs.Template.{character, inMode, isSingle, kind_of, literal, make, skip, stepAt}
+use Rattle.base_notation.specs.Text.{byte_at}
+use Rattle.template_nodes.specs.Template.{character, in_mode, is_single, kind_of, literal, make, skip, step_at}
 use Rattle.template_nodes.specs.declared.Step.{Step}
-use Rattle.template_nodes.proofs.Elements.{found-step, goes_on, patternStep, rest-step}
+use Rattle.template_nodes.proofs.Elements.{found-step, goes_on, pattern_step, rest-step}
 use Rattle.template_nodes.proofs.Singles.{quote-step, single_step}
 use Rattle.template_nodes.proofs.Turns.{Read, begun, in-quotes, kept, passed, plain_step, put_one, turned, ended}
 use Rattle.template_nodes.proofs.parse_format.Statement.{statement}
@@ -42,7 +42,7 @@ loop-again c =
     let turn = at-loop.loop in
     let plain = sym at_test.before.is-quoted-char.ensures ∙ at_test.if1.true in
     let measured = after-length.measure-usual.ensures in
-    let character-of : ℕ → Step = λ n. make (inMode args.accents (literal character turn.at n)) (turn.at + n) true in (
+    let character-of : ℕ → Step = λ n. make (in_mode args.accents (literal character turn.at n)) (turn.at + n) true in (
       omega (arith, measured.some),
       omega arith,
       search rules,
@@ -60,7 +60,7 @@ single-kind-requires c κs =
     let args = at-loop.before.before.before.args in
     let turn = at-loop.loop in
     let told = sym at_test.before.is-single.ensures ∙ at_test.if2.true in
-    (both (not turn.quoted) (isSingle (byteAt args.t.now turn.at)) told).1
+    (both (not turn.quoted) (is_single (byte_at args.t.now turn.at)) told).1
 
 put-literal-requires-2 : tie.Need-put-literal-requires-2 invariant-loop decreases-loop
 put-literal-requires-2 c κs = omega arith
@@ -74,7 +74,7 @@ loop-again-2 c =
     let args = at-loop.before.before.before.args in
     let turn = at-loop.loop in
     let told = sym at_test.before.is-single.ensures ∙ at_test.if2.true in
-    let step = make (inMode args.accents (literal (kind_of (byteAt args.t.now turn.at)) turn.at 1)) (turn.at + 1) turn.quoted in (
+    let step = make (in_mode args.accents (literal (kind_of (byte_at args.t.now turn.at)) turn.at 1)) (turn.at + 1) turn.quoted in (
       omega arith,
       omega arith,
       search rules,
@@ -121,7 +121,7 @@ loop-again-4 c =
       omega (arith, inside),
       search rules,
       rw (put, last)
-          (kept args.accents args.t.now args.out.now turn.n turn.at turn.quoted (patternStep args.accents turn.quoted element.result)
+          (kept args.accents args.t.now args.out.now turn.n turn.at turn.quoted (pattern_step args.accents turn.quoted element.result)
           (found-step args.accents args.t.now turn.at inside turn.quoted element.result element.ensures.is at-found.if4.true) inside
           on turn.invariant.3 (omega (arith, inside)) refl),
     )
@@ -137,7 +137,7 @@ rest-on c =
 
 -- and it is the step of the definitions
 rest-is : (c : tie.After-rest-step invariant-loop decreases-loop) → let at-loop = c.before.before.before.before.before.before.before.before.before.before in let args = at-loop.before.before.before.args in
-    c.rest-step.result ≡ stepAt args.accents args.t.now at-loop.loop.at at-loop.loop.quoted
+    c.rest-step.result ≡ step_at args.accents args.t.now at-loop.loop.at at-loop.loop.quoted
 rest-is c =
     let element = c.before.before.element-at in
     let at-loop = c.before.before.before.before.before.before.before.before.before.before in

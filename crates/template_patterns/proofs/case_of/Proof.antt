@@ -3,7 +3,7 @@
 use mathlib.Core.Path.{◌≡◌, ◌∙◌, sym}
 use mathlib.Core.Bool.{false}
 use borrow.Author.Rules.{rules}
-use Rattle.template_patterns.specs.Cases.{case_of, isSmall}
+use Rattle.template_patterns.specs.Cases.{case_of, is_small}
 use Rattle.template_patterns.specs.Patterns.{name_of}
 use Rattle.template_patterns.proofs.Sets.{smalls, titles}
 use Rattle.template_patterns.proofs.case_of.Statement.{statement}
@@ -15,7 +15,7 @@ unfolding case_of
 returns c = rw (sym (smalls _) ∙ sym c.before.in-set.ensures ∙ c.if1.true)
 
 -- past the first test the name does not begin with a small letter
-not-small : (c : tie.Else1) → isSmall (name_of c.before.before.args.k) 0 ≡ false
+not-small : (c : tie.Else1) → is_small (name_of c.before.before.args.k) 0 ≡ false
 not-small c = sym (smalls _) ∙ sym c.before.in-set.ensures ∙ c.if1.false
 
 -- title case

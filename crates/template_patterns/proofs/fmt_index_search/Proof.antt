@@ -5,9 +5,9 @@ use Prim.Native.Nat.{ℕ, ◌+◌, ◌-◌, ◌*◌, ◌%◌, ◌^◌, ◌<◌, 
 use native.Mathlib.Omega.{arith}
 use borrow.Author.Rules.{rules}
 use lib.ListN.{length, get_or, drop}
-use Rattle.template_patterns.specs.Numbers.{fiveAt, nameNumber}
+use Rattle.template_patterns.specs.Numbers.{five_at, name_number}
 use Rattle.template_patterns.specs.Patterns.{names as table}
-use Rattle.template_patterns.specs.Search.{patternAt, first_at}
+use Rattle.template_patterns.specs.Search.{pattern_at, first_at}
 use Rattle.template_patterns.specs.declared.Found.TheVariants.{Pattern}
 use Rattle.template_patterns.proofs.Keys.{key-begins, key-first, number-parts}
 use Rattle.template_patterns.proofs.Names.{name-length}
@@ -16,7 +16,7 @@ use Rattle.template_patterns.proofs.fmt_index_search.Statement.{statement}
 use Rattle.template_patterns.proofs.fmt_index_search.Tie as tie
 
 abbrev invariant-loop : tie.invariant-loop
-invariant-loop t at k₀ key k = (k₀ ≤ k) × (k ≤ 112) × (patternAt t at ≡ first_at k (drop k table) t at)
+invariant-loop t at k₀ key k = (k₀ ≤ k) × (k ≤ 112) × (pattern_at t at ≡ first_at k (drop k table) t at)
 
 abbrev decreases-loop : tie.decreases-loop
 decreases-loop t at k₀ key k = 112 - k

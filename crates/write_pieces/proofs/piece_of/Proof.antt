@@ -4,14 +4,14 @@ use mathlib.Core.Path.{◌≡◌, sym}
 use native.Mathlib.Omega.{arith}
 use borrow.Author.Rules.{rules}
 use lib.ListN.{get_or}
-use Rattle.write_pieces.specs.Pieces.{pieceOf}
-use Rattle.write_pieces.specs.Tables.{letterOf}
+use Rattle.write_pieces.specs.Pieces.{piece_of}
+use Rattle.write_pieces.specs.Tables.{letter_of}
 use Rattle.write_pieces.proofs.PieceTable.{letter_at, none-past}
 use Rattle.write_pieces.proofs.piece_of.Statement.{statement}
 use Rattle.write_pieces.proofs.piece_of.Tie as tie
 
 -- the entry that is read is the letter of the pattern's piece
-read : (c : tie.Else1) → get_or c.before.args.table.now c.before.args.pattern 0 ≡ letterOf (pieceOf c.before.args.pattern)
+read : (c : tie.Else1) → get_or c.before.args.table.now c.before.args.pattern 0 ≡ letter_of (piece_of c.before.args.pattern)
 read c = rw c.before.requires (letter_at _ (omega arith))
 
 pub piece-of-spec : {M : Type 1} → statement M

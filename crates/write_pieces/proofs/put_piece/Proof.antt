@@ -10,8 +10,8 @@ use lib.ListN.{length}
 use lib.Signed.{lt_z}
 use mir.Syntax.{w32}
 use Rattle.base_wrapping.proofs.Fits.{read}
-use Rattle.write_pieces.specs.Pieces.{pieceText}
-use Rattle.write_pieces.specs.Words.{markerText, monthText}
+use Rattle.write_pieces.specs.Pieces.{piece_text}
+use Rattle.write_pieces.specs.Words.{marker_text, month_text}
 use Rattle.write_pieces.proofs.Lengths.{number_put, marker-put, dotted-put, name-put, short-put, piece-size}
 use Rattle.write_pieces.proofs.Moments.{cast, morning, named-month, numbers}
 use Rattle.write_pieces.proofs.Puts.{put_same}
@@ -20,14 +20,14 @@ use Rattle.write_pieces.proofs.put_piece.Tie as tie
 
 -- what is put for a marker, without and with dots, is the piece's text
 plain-is : (c : tie.Then1) → let args = c.before.before.args in
-    markerText args.case false (lt_z (read args.m.hour) (pos 12)) ≡ pieceText args.piece args.case args.m
+    marker_text args.case false (lt_z (read args.m.hour) (pos 12)) ≡ piece_text args.piece args.case args.m
 plain-is c =
     let at-start = c.before.before in
     let args = at-start.args in
     marker-put args.case args.m args.piece _ (morning args.m at-start.requires.1) c.if1.true
 
 dotted-is : (c : tie.Then2) → let args = c.before.before.before.args in
-    markerText args.case true (lt_z (read args.m.hour) (pos 12)) ≡ pieceText args.piece args.case args.m
+    marker_text args.case true (lt_z (read args.m.hour) (pos 12)) ≡ piece_text args.piece args.case args.m
 dotted-is c =
     let at-start = c.before.before.before in
     let args = at-start.args in
@@ -35,14 +35,14 @@ dotted-is c =
 
 -- and for a name, full and short
 name-is : (c : tie.Then3) → let args = c.before.before.before.before.args in
-    monthText args.case true (nat_abs (read args.m.month)) ≡ pieceText args.piece args.case args.m
+    month_text args.case true (nat_abs (read args.m.month)) ≡ piece_text args.piece args.case args.m
 name-is c =
     let at-start = c.before.before.before.before in
     let args = at-start.args in
     name-put args.case args.m args.piece _ (named-month args.m at-start.requires.1).0 c.if3.true
 
 short-is : (c : tie.Then4) → let args = c.before.before.before.before.before.args in
-    monthText args.case false (nat_abs (read args.m.month)) ≡ pieceText args.piece args.case args.m
+    month_text args.case false (nat_abs (read args.m.month)) ≡ piece_text args.piece args.case args.m
 short-is c =
     let at-start = c.before.before.before.before.before in
     let args = at-start.args in

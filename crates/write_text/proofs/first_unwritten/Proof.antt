@@ -6,15 +6,15 @@ use native.Mathlib.Omega.{arith}
 use borrow.Author.Rules.{rules}
 use borrow.Author.Tests.{not-true, not-false}
 use lib.ListN.{drop, length}
-use Rattle.template_nodes.specs.Bytes.{nodesIn}
+use Rattle.template_nodes.specs.Bytes.{nodes_in}
 use Rattle.template_nodes.specs.declared.Node.{Node}
-use Rattle.write_text.specs.Writer.{firstUnwritten, named}
+use Rattle.write_text.specs.Writer.{first_unwritten, named}
 use Rattle.write_text.proofs.Turns.{node-left, none_left, unwritten-here, unwritten-next, unwritten-end}
 use Rattle.write_text.proofs.first_unwritten.Statement.{statement}
 use Rattle.write_text.proofs.first_unwritten.Tie as tie
 
 abbrev invariant-loop : tie.invariant-loop
-invariant-loop table c i₀ i = (i ≤ length c / 6) × (firstUnwritten (drop i (nodesIn c)) ≡ firstUnwritten (nodesIn c))
+invariant-loop table c i₀ i = (i ≤ length c / 6) × (first_unwritten (drop i (nodes_in c)) ≡ first_unwritten (nodes_in c))
 
 abbrev decreases-loop : tie.decreases-loop
 decreases-loop table c i₀ i = length c / 6 - i
@@ -26,7 +26,7 @@ returns c =
     let after-is-written = at_test.before in
     let after-node = after-is-written.before in
     let at-loop = after-node.before.before in
-    let ns = nodesIn at-loop.before.before.args.c.now in
+    let ns = nodes_in at-loop.before.before.args.c.now in
     let unwritten = rw after-node.Node-at.ensures at (sym after-is-written.is-written.ensures ∙ not-true _ at_test.if1.true) in
     c.named.ensures
     ∙ ap (λ (x : Node). named x.pattern) after-node.Node-at.ensures
@@ -39,7 +39,7 @@ loop-again c =
     let after-is-written = c.before in
     let after-node = after-is-written.before in
     let at-loop = after-node.before.before in
-    let ns = nodesIn at-loop.before.before.args.c.now in
+    let ns = nodes_in at-loop.before.before.args.c.now in
     let written = rw after-node.Node-at.ensures at (sym after-is-written.is-written.ensures ∙ not-false _ c.if1.false) in (
       omega (arith, after-node.before.loop-test.true),
       sym (unwritten-next ns at-loop.loop.i (node-left _ _ after-node.before.loop-test.true) written)
@@ -51,7 +51,7 @@ returns-2 : tie.Need-returns-2 invariant-loop decreases-loop
 returns-2 c =
     let at-loop = c.before in
     let args = at-loop.before.before.args in
-    sym (unwritten-end (nodesIn args.c.now) at-loop.loop.i (none_left _ _ c.loop-test.false)) ∙ at-loop.loop.invariant.1
+    sym (unwritten-end (nodes_in args.c.now) at-loop.loop.i (none_left _ _ c.loop-test.false)) ∙ at-loop.loop.invariant.1
 
 pub first-unwritten-spec : {M : Type 1} → statement M
 first-unwritten-spec =

@@ -7,13 +7,13 @@ use borrow.Author.Tests.{eq-eqb, ne_eqb}
 use lib.Dec.{eqb}
 use Rattle.template_nodes.specs.Template.{action}
 use Rattle.template_nodes.specs.declared.Node.{Node}
-use Rattle.write_pieces.specs.Pieces.{none, pieceOf, prefix_of}
+use Rattle.write_pieces.specs.Pieces.{none, piece_of, prefix_of}
 use Rattle.write_text.specs.Writer.{is_written}
 use Rattle.write_text.proofs.is_written.Statement.{statement}
 use Rattle.write_text.proofs.is_written.Tie as tie
 
 -- a pattern by its piece p
-module _ (n : Node) (a : n.kind ≡ action) (p : ℕ) (e : p ≡ pieceOf n.pattern) where
+module _ (n : Node) (a : n.kind ≡ action) (p : ℕ) (e : p ≡ piece_of n.pattern) where
   unknown : p ≡ none → false ≡ is_written n
   unknown z = rw (eq-eqb n.kind action a, ← e, eq-eqb p none z)
 

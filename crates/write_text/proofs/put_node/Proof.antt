@@ -6,8 +6,8 @@ use Prim.Native.Nat.{◌+◌, ◌-◌}
 use borrow.Author.Rules.{rules}
 use lib.ListN.{take, drop}
 use Rattle.template_patterns.specs.Cases.{case_of}
-use Rattle.write_pieces.specs.Pieces.{pieceOf, pieceText}
-use Rattle.write_text.specs.Text.{nodeText}
+use Rattle.write_pieces.specs.Pieces.{piece_of, piece_text}
+use Rattle.write_text.specs.Text.{node_text}
 use Rattle.write_text.proofs.Lengths.{action-text, literal-end, literal-part, literal-text, no-literal}
 use Rattle.write_pieces.proofs.PieceTable.{piece-range}
 use Rattle.write_pieces.proofs.Puts.{put-nothing}
@@ -16,7 +16,7 @@ use Rattle.write_text.proofs.put_node.Tie as tie
 
 -- the text of a pattern is its piece's, in its case
 piece : (c : tie.Then1) → let args = c.before.before.before.before.args in
-    nodeText args.t.now args.m args.n ≡ pieceText (pieceOf args.n.pattern) (case_of args.n.pattern) args.m
+    node_text args.t.now args.m args.n ≡ piece_text (piece_of args.n.pattern) (case_of args.n.pattern) args.m
 piece c = let args = c.before.before.before.before.args in action-text args.t.now args.m args.n c.if1.true
 
 -- there is room for the piece
@@ -38,7 +38,7 @@ returns c =
 
 -- the text of a literal that the template has nothing of
 nothing : (c : tie.Then2) → let args = c.before.before.before.before.before.before.args in
-    nodeText args.t.now args.m args.n ≡ []
+    node_text args.t.now args.m args.n ≡ []
 nothing c =
     let after-length = c.before in
     let args = after-length.before.before.before.before.before.args in
@@ -47,7 +47,7 @@ nothing c =
 
 -- the text of any other is a part of the template
 part : (c : tie.Else2) → let after-length = c.before in let args = after-length.before.before.before.before.before.args in
-    nodeText args.t.now args.m args.n ≡ take (args.n.start + after-length.literal-length.result - args.n.start) (drop args.n.start args.t.now)
+    node_text args.t.now args.m args.n ≡ take (args.n.start + after-length.literal-length.result - args.n.start) (drop args.n.start args.t.now)
 part c =
     let after-length = c.before in
     let args = after-length.before.before.before.before.before.args in

@@ -6,9 +6,9 @@ use native.Mathlib.Omega.{arith}
 use borrow.Author.Rules.{rules}
 use lib.ListN.{length, drop}
 use lib.Seq.{sets}
-use Rattle.template_nodes.specs.Bytes.{nodesIn}
-use Rattle.write_text.specs.Text.{nodesText}
-use Rattle.write_text.specs.Writer.{textIn}
+use Rattle.template_nodes.specs.Bytes.{nodes_in}
+use Rattle.write_text.specs.Text.{nodes_text}
+use Rattle.write_text.specs.Writer.{text_in}
 use Rattle.write_pieces.proofs.Puts.{put-length}
 use Rattle.write_text.proofs.Turns.{node-left, none_left, put_next, room-here, text-end}
 use Rattle.write_text.proofs.put_nodes.Statement.{statement}
@@ -16,8 +16,8 @@ use Rattle.write_text.proofs.put_nodes.Tie as tie
 
 abbrev invariant-loop : tie.invariant-loop
 invariant-loop table c t m out₀ at₀ i₀ out at i =
-    let left = nodesText t m (drop i (nodesIn c)) in
-    (i ≤ length c / 6) × (length out ≡ length out₀) × (at + length left ≤ length out₀) × (sets out at left ≡ sets out₀ 0 (textIn c t m))
+    let left = nodes_text t m (drop i (nodes_in c)) in
+    (i ≤ length c / 6) × (length out ≡ length out₀) × (at + length left ≤ length out₀) × (sets out at left ≡ sets out₀ 0 (text_in c t m))
 
 abbrev decreases-loop : tie.decreases-loop
 decreases-loop table c t m out₀ at₀ i₀ out at i = length c / 6 - i
@@ -30,7 +30,7 @@ put-node-requires c κs =
     let at-start = at-loop.before.before.before.before in
     let args = at-start.args in
     let left = node-left _ _ after-node.before.loop-test.true in
-    let room = room-here (nodesIn args.c.now) at-loop.loop.i left args.t.now args.m _ _ at-loop.loop.invariant.2 in
+    let room = room-here (nodes_in args.c.now) at-loop.loop.i left args.t.now args.m _ _ at-loop.loop.invariant.2 in
     (at-start.requires.0, at-start.requires.1, rw after-node.Node-at.ensures (omega (arith, room, at-loop.loop.invariant.1)))
 
 -- the node is put
@@ -44,7 +44,7 @@ loop-again c =
     let put = after-put.put-node.ensures in
     let left = node-left _ _ after-node.before.loop-test.true in
     let here = rw after-node.Node-at.ensures at put in
-    let turn = put_next (nodesIn args.c.now) at-loop.loop.i left args.t.now args.m _ at-loop.loop.invariant.2 here in
+    let turn = put_next (nodes_in args.c.now) at-loop.loop.i left args.t.now args.m _ at-loop.loop.invariant.2 here in
     (omega arith, put-length put ∙ at-loop.loop.invariant.1, turn.0, turn.1 ∙ at-loop.loop.invariant.3)
 
 -- all nodes are put
@@ -52,7 +52,7 @@ returns : tie.Need-returns invariant-loop decreases-loop
 returns c =
     let at-loop = c.before in
     let args = at-loop.before.before.before.before.args in
-    rw (text-end (nodesIn args.c.now) at-loop.loop.i (none_left _ _ c.loop-test.false) args.t.now args.m) at at-loop.loop.invariant.3
+    rw (text-end (nodes_in args.c.now) at-loop.loop.i (none_left _ _ c.loop-test.false) args.t.now args.m) at at-loop.loop.invariant.3
 
 pub put-nodes-spec : {M : Type 1} → statement M
 put-nodes-spec =

@@ -4,7 +4,7 @@ use borrow.Author.Rules.{rules}
 use mir.Facts.{to_z_pos}
 use mir.Syntax.{w32, w64}
 use mir.Val.{Fits}
-use Rattle.write_text.specs.Report.{unwrittenReport}
+use Rattle.write_text.specs.Report.{unwritten_report}
 use Rattle.write_text.proofs.report_of.Statement.{statement}
 use Rattle.write_text.proofs.report_of.Tie as tie
 
@@ -13,7 +13,7 @@ small : (c : tie.After-known-told2) → Fits w32 c.before.why2.given.0.0
 small c = search rules
 
 pub report-of-spec : {M : Type 1} → statement M
-unfolding unwrittenReport
+unfolding unwritten_report
 report-of-spec =
     tie.close
     (tie.spec

@@ -5,16 +5,16 @@ use Prim.Native.Nat.{◌+◌, ◌*◌, ◌/◌, ◌-◌, ◌≤◌}
 use native.Mathlib.Omega.{arith}
 use borrow.Author.Rules.{rules}
 use lib.ListN.{drop, length}
-use Rattle.template_nodes.specs.Bytes.{nodesIn}
-use Rattle.write_text.specs.Text.{nodesText}
-use Rattle.write_text.specs.Writer.{textIn}
+use Rattle.template_nodes.specs.Bytes.{nodes_in}
+use Rattle.write_text.specs.Text.{nodes_text}
+use Rattle.write_text.specs.Writer.{text_in}
 use Rattle.write_text.proofs.Turns.{node-left, none_left, size-next, text-end}
 use Rattle.write_text.proofs.text_length.Statement.{statement}
 use Rattle.write_text.proofs.text_length.Tie as tie
 
 abbrev invariant-loop : tie.invariant-loop
 invariant-loop table c t m total₀ i₀ total i =
-    (i ≤ length c / 6) × (total ≤ 65535 * i) × (total + length (nodesText t m (drop i (nodesIn c))) ≡ length (textIn c t m))
+    (i ≤ length c / 6) × (total ≤ 65535 * i) × (total + length (nodes_text t m (drop i (nodes_in c))) ≡ length (text_in c t m))
 
 abbrev decreases-loop : tie.decreases-loop
 decreases-loop table c t m total₀ i₀ total i = length c / 6 - i
@@ -26,7 +26,7 @@ loop-again c =
     let at-loop = after-node.before.before in
     let args = at-loop.before.before.before.args in
     let taken = after-node.before.loop-test.true in
-    let left_is = size-next (nodesIn args.c.now) at-loop.loop.i (node-left _ _ taken) args.t.now args.m in
+    let left_is = size-next (nodes_in args.c.now) at-loop.loop.i (node-left _ _ taken) args.t.now args.m in
     let here-is = rw after-node.Node-at.ensures at c.node-length.ensures.0 in
     (omega (arith, taken), omega (arith, c.node-length.ensures.1), omega (arith, left_is, here-is, at-loop.loop.invariant.2))
 
@@ -36,7 +36,7 @@ returns c =
     let at-loop = c.before in
     let at-start = at-loop.before.before.before in
     let args = at-start.args in
-    let nothing_left = text-end (nodesIn args.c.now) at-loop.loop.i (none_left _ _ c.loop-test.false) args.t.now args.m in
+    let nothing_left = text-end (nodes_in args.c.now) at-loop.loop.i (none_left _ _ c.loop-test.false) args.t.now args.m in
     (omega (arith, ap length nothing_left, at-loop.loop.invariant.2), omega (arith, at-start.requires.2))
 
 pub text-length-spec : {M : Type 1} → statement M

@@ -9,10 +9,10 @@ use borrow.Author.Rules.{rules}
 use borrow.Author.Tests.{not-true, not-false}
 use lib.ListN.{length, take}
 use lib.Seq.{length-take-le}
-use Rattle.base_settings.specs.Limits.{templateLimit}
+use Rattle.base_settings.specs.Limits.{template_limit}
 use Rattle.base_settings.proofs.Most.{template-most}
 use Rattle.template_nodes.specs.Bytes.{Parsed}
-use Rattle.template_nodes.specs.Template.{nodesOf}
+use Rattle.template_nodes.specs.Template.{nodes_of}
 use Rattle.template_nodes.proofs.Encoding.{parsed-nodes, parsed-room}
 use Rattle.template_nodes.proofs.Nodes.{count-within, small-nodes}
 use Rattle.write_text.proofs.Answers.{too_long, not-utf8, by-nodes}
@@ -24,11 +24,11 @@ abbrev start : tie.Else1 → tie.Start
 start c = c.before.before.before.before
 
 -- the template is within its limit
-short : (c : tie.Else1) → length (start c).args.t.now ≤ templateLimit (start c).args.set
+short : (c : tie.Else1) → length (start c).args.t.now ≤ template_limit (start c).args.set
 short c = omega arith
 
 -- the bytes of its nodes are six for each of its own at the most
-few_bytes : {limit : ℕ} (t : List ℕ) {before after : List ℕ} {r : ℕ} → length t ≤ limit → Parsed (nodesOf t) before after r
+few_bytes : {limit : ℕ} (t : List ℕ) {before after : List ℕ} {r : ℕ} → length t ≤ limit → Parsed (nodes_of t) before after r
     → length (take (6 * r) after) ≤ 6 * limit
 few_bytes t {after = after} {r = r} short p =
     omega (arith, length-take-le (6 * r) after (parsed-room p), p.count, count-within false t)

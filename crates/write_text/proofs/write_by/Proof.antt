@@ -7,8 +7,8 @@ use borrow.Author.Rules.{rules}
 use borrow.Author.Tests.{not-true, not-false}
 use lib.ListN.{length}
 use Rattle.base_settings.proofs.Most.{template-most}
-use Rattle.write_pieces.specs.Moment.{isMoment}
-use Rattle.write_text.specs.Writer.{nodesLimit}
+use Rattle.write_pieces.specs.Moment.{is_moment}
+use Rattle.write_text.specs.Writer.{nodes_limit}
 use Rattle.write_text.proofs.Answers.{many, not_written, no-moment, no_room, wrote}
 use Rattle.write_text.proofs.write_by.Statement.{statement}
 use Rattle.write_text.proofs.write_by.Tie as tie
@@ -22,14 +22,14 @@ abbrev start : tie.After-first-unwritten → tie.Start
 start after-search = (within-limit after-search).before.before.before.before.before
 
 -- the nodes are no more than a template has
-few : (c : tie.Else1) → length c.before.before.before.before.before.args.c.now ≤ nodesLimit c.before.before.before.before.before.args.set
+few : (c : tie.Else1) → length c.before.before.before.before.before.args.c.now ≤ nodes_limit c.before.before.before.before.before.args.set
 few c = omega arith
 
 abbrev all-written : tie.After-text-length → tie.Else2
 all-written after-length = after-length.before.before.before.before
 
 -- the numbers are a moment
-moment : (c : tie.Else3) → isMoment (start c.before.before.before).args.m ≡ true
+moment : (c : tie.Else3) → is_moment (start c.before.before.before).args.m ≡ true
 moment c = sym c.before.is-moment.ensures ∙ not-false _ c.if3.false
 
 -- there are too many nodes

@@ -5,15 +5,15 @@ use mir.Syntax.{w32}
 use mir.Val.{SFits}
 use Rattle.calendar_gregorian.proofs.Signed.{wide, wide_fits}
 use Rattle.base_settings.specs.Limits.{pages}
-use Rattle.moment_instants.specs.ByTemplate.{dateOf}
-use Rattle.line_answers.specs.Items.{reportText}
-use Rattle.line_answers.specs.Answers.{dayAnswer}
+use Rattle.moment_instants.specs.ByTemplate.{date_of}
+use Rattle.line_answers.specs.Items.{report_text}
+use Rattle.line_answers.specs.Answers.{day_answer}
 use Rattle.line_answers.proofs.Same.{answered-as}
 use Rattle.line_answers.proofs.answers.day.Statement.{statement}
 use Rattle.line_answers.proofs.answers.day.Tie as tie
 
 -- the answer is that of the exercise pages
-answer-is : (c : tie.After-to-date-text) → c.to-date-text.result ≡ dateOf pages c.before.before.before.before.before.args.t.now c.before.before.before.before.before.args.s.now
+answer-is : (c : tie.After-to-date-text) → c.to-date-text.result ≡ date_of pages c.before.before.before.before.before.args.t.now c.before.before.before.before.before.args.s.now
 answer-is c = rw c.before.pages.ensures at c.to-date-text.ensures
 
 days-fit : (c : tie.After-known-told) → SFits w32 c.before.days.given.0.0
@@ -21,22 +21,22 @@ days-fit c = search rules
 
 -- a day, an i32 that keeps its value as an i64
 returns : tie.Need-returns
-unfolding dayAnswer
+unfolding day_answer
 returns c =
     let after-put = c.before.before in
     let at-known = after-put.before.before in
     let at-days = at-known.before in
-    answered-as (ap dayAnswer (sym at-days.days.given.1 ∙ answer-is at-days.before.before))
+    answered-as (ap day_answer (sym at-days.days.given.1 ∙ answer-is at-days.before.before))
     (simp (wide (days-fit at-known)) at after-put.put-value.ensures)
 
 -- a refusal
 returns-2 : tie.Need-returns-2
-unfolding dayAnswer
+unfolding day_answer
 returns-2 c =
     let after-put = c.before.before in
     let after-report = after-put.before.before in
     let at-refusal = after-report.before.before in
-    answered-as (ap reportText after-report.report-of.ensures ∙ ap dayAnswer (sym at-refusal.why.given.1 ∙ answer-is at-refusal.before.before))
+    answered-as (ap report_text after-report.report-of.ensures ∙ ap day_answer (sym at-refusal.why.given.1 ∙ answer-is at-refusal.before.before))
     after-put.put-report.ensures
 
 pub day-spec : {M : Type 1} → statement M

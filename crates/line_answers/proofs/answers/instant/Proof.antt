@@ -5,35 +5,35 @@ use mir.Facts.{to_z-of_z}
 use mir.Syntax.{w64}
 use mir.Val.{SFits}
 use Rattle.base_settings.specs.Limits.{pages}
-use Rattle.moment_instants.specs.ByTemplate.{timestampOf}
-use Rattle.line_answers.specs.Items.{reportText}
-use Rattle.line_answers.specs.Answers.{instantAnswer}
+use Rattle.moment_instants.specs.ByTemplate.{timestamp_of}
+use Rattle.line_answers.specs.Items.{report_text}
+use Rattle.line_answers.specs.Answers.{instant_answer}
 use Rattle.line_answers.proofs.Same.{answered-as}
 use Rattle.line_answers.proofs.answers.instant.Statement.{statement}
 use Rattle.line_answers.proofs.answers.instant.Tie as tie
 
 -- the answer is that of the exercise pages
-answer-is : (c : tie.After-to-timestamp-text) → c.to-timestamp-text.result ≡ timestampOf pages c.before.before.before.before.before.args.t.now c.before.before.before.before.before.args.s.now
+answer-is : (c : tie.After-to-timestamp-text) → c.to-timestamp-text.result ≡ timestamp_of pages c.before.before.before.before.before.args.t.now c.before.before.before.before.before.args.s.now
 answer-is c = rw c.before.pages.ensures at c.to-timestamp-text.ensures
 
 -- an instant
 returns : tie.Need-returns
-unfolding instantAnswer
+unfolding instant_answer
 returns c =
     let after-put = c.before.before in
     let at-micros = after-put.before.before.before in
     let fits : SFits w64 at-micros.micros.given.0.0 = search rules in
-    answered-as (ap instantAnswer (sym at-micros.micros.given.1 ∙ answer-is at-micros.before.before))
+    answered-as (ap instant_answer (sym at-micros.micros.given.1 ∙ answer-is at-micros.before.before))
     (simp (to_z-of_z fits) at after-put.put-value.ensures)
 
 -- a refusal
 returns-2 : tie.Need-returns-2
-unfolding instantAnswer
+unfolding instant_answer
 returns-2 c =
     let after-put = c.before.before in
     let after-report = after-put.before.before in
     let at-refusal = after-report.before.before in
-    answered-as (ap reportText after-report.report-of.ensures ∙ ap instantAnswer (sym at-refusal.why.given.1 ∙ answer-is at-refusal.before.before))
+    answered-as (ap report_text after-report.report-of.ensures ∙ ap instant_answer (sym at-refusal.why.given.1 ∙ answer-is at-refusal.before.before))
     after-put.put-report.ensures
 
 pub instant-spec : {M : Type 1} → statement M

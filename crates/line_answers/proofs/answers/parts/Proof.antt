@@ -3,8 +3,8 @@ use mathlib.Core.Path.{◌≡◌, ◌∙◌, ap, sym}
 use borrow.Author.Rules.{rules}
 use Rattle.base_settings.specs.Limits.{pages}
 use Rattle.moment_parts.specs.Parts.{parts_of}
-use Rattle.line_answers.specs.Items.{reportText}
-use Rattle.line_answers.specs.Answers.{partsAnswer}
+use Rattle.line_answers.specs.Items.{report_text}
+use Rattle.line_answers.specs.Answers.{parts_answer}
 use Rattle.line_answers.proofs.Same.{answered-as}
 use Rattle.line_answers.proofs.answers.parts.Statement.{statement}
 use Rattle.line_answers.proofs.answers.parts.Tie as tie
@@ -15,20 +15,20 @@ answer-is c = rw c.before.pages.ensures at c.to-timestamp-parts.ensures
 
 -- a moment
 returns : tie.Need-returns
-unfolding partsAnswer
+unfolding parts_answer
 returns c =
     let after-put = c.before.before in
     let at-moment = after-put.before.before.before in
-    answered-as (ap partsAnswer (sym at-moment.p.given.1 ∙ answer-is at-moment.before.before)) after-put.put-moment.ensures
+    answered-as (ap parts_answer (sym at-moment.p.given.1 ∙ answer-is at-moment.before.before)) after-put.put-moment.ensures
 
 -- a refusal
 returns-2 : tie.Need-returns-2
-unfolding partsAnswer
+unfolding parts_answer
 returns-2 c =
     let after-put = c.before.before in
     let after-report = after-put.before.before in
     let at-refusal = after-report.before.before in
-    answered-as (ap reportText after-report.report-of.ensures ∙ ap partsAnswer (sym at-refusal.why.given.1 ∙ answer-is at-refusal.before.before))
+    answered-as (ap report_text after-report.report-of.ensures ∙ ap parts_answer (sym at-refusal.why.given.1 ∙ answer-is at-refusal.before.before))
     after-put.put-report.ensures
 
 pub parts-spec : {M : Type 1} → statement M

@@ -7,7 +7,7 @@ use mir.Facts.{to_z_pos}
 use mir.Syntax.{w8, w64}
 use mir.Val.{Fits, SFits}
 use Rattle.line_buffers.proofs.Puts.{put_then}
-use Rattle.line_answers.specs.Items.{reportText}
+use Rattle.line_answers.specs.Items.{report_text}
 use Rattle.line_answers.proofs.Lengths.{report-short}
 use Rattle.line_answers.proofs.Same.{put_back}
 use Rattle.line_answers.proofs.items.put_report.Statement.{statement}
@@ -24,7 +24,7 @@ ranged c = search rules
 
 -- all four
 returns : tie.Need-returns
-unfolding reportText
+unfolding report_text
 returns c =
     let after-second = c.before.before in
     let after_first = after-second.before.before.before.before.before in

@@ -6,14 +6,14 @@ use lib.ListN.{get_or}
 use mir.Facts.{to_z-of_z}
 use mir.Syntax.{w32}
 use mir.Val.{SFits}
-use Rattle.write_pieces.specs.Moment.{sevenNumbers}
-use Rattle.line_answers.specs.Moments.{momentOf}
+use Rattle.write_pieces.specs.Moment.{seven_numbers}
+use Rattle.line_answers.specs.Moments.{moment_of}
 use Rattle.line_answers.proofs.moments.moment_of.Statement.{statement}
 use Rattle.line_answers.proofs.moments.moment_of.Tie as tie
 
 -- the seven numbers
 returns : tie.Need-returns
-unfolding momentOf
+unfolding moment_of
 returns c =
     let after-seven = c.before.before.before.before.before.before.before.before in
     let seven = after-seven.seven-of.result in
@@ -26,7 +26,7 @@ returns c =
     let micros : SFits w32 (get_or seven 6 (pos 0)) = search rules in
     c.seven-numbers.ensures
     ∙ rw (← after-seven.seven-of.ensures)
-    (λ i. sevenNumbers (to_z-of_z year i) (to_z-of_z month i) (to_z-of_z day i) (to_z-of_z hour i) (to_z-of_z minute i) (to_z-of_z second i) (to_z-of_z micros i))
+    (λ i. seven_numbers (to_z-of_z year i) (to_z-of_z month i) (to_z-of_z day i) (to_z-of_z hour i) (to_z-of_z minute i) (to_z-of_z second i) (to_z-of_z micros i))
 
 pub moment-of-spec : {M : Type 1} → statement M
 moment-of-spec =

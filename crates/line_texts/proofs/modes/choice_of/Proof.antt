@@ -5,7 +5,7 @@ use mathlib.Core.Bool.{false≢true}
 use borrow.Author.Rules.{rules}
 use Rattle.line_answers.specs.declared.Mode.{Mode}
 use Rattle.line_answers.specs.declared.Mode.TheVariants.{Parts, Instant, Date, Write}
-use Rattle.line_texts.specs.Modes.{modeName}
+use Rattle.line_texts.specs.Modes.{mode_name}
 use Rattle.line_texts.proofs.ModeNames.{chosen, another, unknown}
 use Rattle.line_texts.proofs.modes.choice_of.Statement.{statement}
 use Rattle.line_texts.proofs.modes.choice_of.Tie as tie

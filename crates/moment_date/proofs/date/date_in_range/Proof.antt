@@ -4,7 +4,7 @@ use mathlib.Core.Bool.{true, false}
 use borrow.Author.Rules.{rules}
 use lib.IntN.{pos}
 use mir.Facts.{to_z-of_z}
-use Rattle.moment_date.specs.Dates.{monthBit, dayBit, partInRange, dateInRange}
+use Rattle.moment_date.specs.Dates.{month_bit, day_bit, part_in_range, date_in_range}
 use Rattle.moment_date.proofs.Held.{Fitting, fitting}
 use Rattle.moment_sums.proofs.Tests.{failed, passed}
 use Rattle.moment_date.proofs.date.date_in_range.Statement.{statement}
@@ -14,19 +14,19 @@ has : (c : tie.Start) → Fitting c.args.r
 has c = fitting c.args.r _ c.well-formed.0
 
 -- the month passed its test
-month : (c : tie.Else1) → let r = c.before.before.before.args.r in partInRange r.set monthBit r.month (pos 12) ≡ true
+month : (c : tie.Else1) → let r = c.before.before.before.args.r in part_in_range r.set month_bit r.month (pos 12) ≡ true
 month c =
     simp (to_z-of_z (has c.before.before.before).month) at (sym c.before.part-in-range.ensures ∙ passed _ c.if1.false)
 
 -- the month is out of range
 returns : tie.Need-returns
-unfolding dateInRange
+unfolding date_in_range
 returns c =
     rw (simp (to_z-of_z (has c.before.before.before).month) at (sym c.before.part-in-range.ensures ∙ failed _ c.if1.true))
 
 -- the day is
 returns-2 : tie.Need-returns-2
-unfolding dateInRange
+unfolding date_in_range
 returns-2 c =
     let after-month = c.before.before.before in
     let fits = has after-month.before.before.before in
@@ -37,7 +37,7 @@ returns-2 c =
 
 -- both are in range: the test whether the month has the day
 returns-3 : tie.Need-returns-3
-unfolding dateInRange
+unfolding date_in_range
 returns-3 c =
     let after-day = c.before in
     let after-month = after-day.before.before.before in

@@ -1,8 +1,8 @@
 -- `moment_date::date::dated_of` meets its contract: each match finds what the definition has there. Assumes nothing.
 use mathlib.Core.Path.{◌≡◌, ◌∙◌, sym}
 use borrow.Author.Rules.{rules}
-use Rattle.moment_date.specs.Dates.{begun, withJulian, withWeek, withMonthWeek, datedOf}
-use Rattle.moment_year.specs.Year.{yearOf}
+use Rattle.moment_date.specs.Dates.{begun, with_julian, with_week, with_month_week, dated_of}
+use Rattle.moment_year.specs.Year.{year_of}
 use Rattle.moment_date.specs.declared.Dated.{Dated}
 use Rattle.moment_sums.specs.declared.Value.{Value}
 use Rattle.moment_sums.proofs.Fits.{back}
@@ -10,12 +10,12 @@ use Rattle.moment_date.proofs.date.dated_of.Statement.{statement}
 use Rattle.moment_date.proofs.date.dated_of.Tie as tie
 
 -- the year, the date after the week of the year, and the date after the week of the month, as the matches find them
-year : (c : tie.After-year-of) {v : Value} → c.year-of.result ≡ v → yearOf c.before.args.f ≡ v
+year : (c : tie.After-year-of) {v : Value} → c.year-of.result ≡ v → year_of c.before.args.f ≡ v
 year c e = sym c.year-of.ensures ∙ e
 
 week : (c : tie.After-with-week) {v : Dated} → c.with-week.result ≡ v
     → let at-year = c.before.before.before.before in
-    let f = at-year.before.before.before.args.f in withWeek f (withJulian f (begun f at-year.year.given.0.0)) ≡ v
+    let f = at-year.before.before.before.args.f in with_week f (with_julian f (begun f at-year.year.given.0.0)) ≡ v
 week c e =
     let after-julian = c.before in
     let after-begun = after-julian.before in
@@ -26,12 +26,12 @@ week c e =
 month-week : (c : tie.After-with-month-week) {v : Dated} → c.with-month-week.result ≡ v
     → let at-date = c.before.before in
     let at-start = at-date.before.before.before.before.before.before.before.before.before in
-    withMonthWeek at-start.args.f at-date.r.given.0.0 ≡ v
+    with_month_week at-start.args.f at-date.r.given.0.0 ≡ v
 month-week c e = sym c.with-month-week.ensures ∙ e
 
 -- no step before the last was refused
 returns : tie.Need-returns
-unfolding datedOf
+unfolding dated_of
 returns c =
     let after-month = c.before in
     let after-day = after-month.before in
@@ -51,7 +51,7 @@ returns c =
 
 -- the week of the month was refused
 returns-2 : tie.Need-returns-2
-unfolding datedOf
+unfolding dated_of
 returns-2 c =
     let refused = c.before in
     let after-month-week = refused.before.before in
@@ -66,7 +66,7 @@ returns-2 c =
 
 -- the week of the year was refused
 returns-3 : tie.Need-returns-3
-unfolding datedOf
+unfolding dated_of
 returns-3 c =
     let refused = c.before in
     let after-week = refused.before.before in
@@ -75,7 +75,7 @@ returns-3 c =
 
 -- the year was refused
 returns-4 : tie.Need-returns-4
-unfolding datedOf
+unfolding dated_of
 returns-4 c = let refused = c.before in simp (year refused.before.before refused.why3.given.1)
 
 pub dated-of-spec : {M : Type 1} → statement M

@@ -1,12 +1,12 @@
 -- `moment_date::date::first_of_week` meets its contract: its three steps are the definition's. Assumes nothing.
 use borrow.Author.Rules.{rules}
 use mir.Facts.{to_z-of_z}
-use Rattle.moment_date.specs.Dates.{firstOfWeek}
+use Rattle.moment_date.specs.Dates.{first_of_week}
 use Rattle.moment_date.proofs.date.first_of_week.Statement.{statement}
 use Rattle.moment_date.proofs.date.first_of_week.Tie as tie
 
 returns : tie.Need-returns
-unfolding firstOfWeek
+unfolding first_of_week
 returns c =
     let after-mul = c.before in
     let after-add = after-mul.before in

@@ -2,13 +2,13 @@
 use borrow.Author.Rules.{rules}
 use mir.Facts.{to_z-of_z}
 use Rattle.base_wrapping.proofs.Fits.{wrap-back, returned}
-use Rattle.moment_date.specs.Dates.{fromDayOfYear}
+use Rattle.moment_date.specs.Dates.{from_day_of_year}
 use Rattle.moment_date.proofs.Held.{fitting}
 use Rattle.moment_date.proofs.date.from_day_of_year.Statement.{statement}
 use Rattle.moment_date.proofs.date.from_day_of_year.Tie as tie
 
 returns : tie.Need-returns
-unfolding fromDayOfYear
+unfolding from_day_of_year
 returns c =
     let after-day = c.before.before.before.before in
     let after-month = after-day.before.before in

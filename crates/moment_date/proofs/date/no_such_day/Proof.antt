@@ -7,7 +7,7 @@ use borrow.Author.Tests.{eq-eqb, ne_eqb}
 use lib.Dec.{eqb}
 use mir.Facts.{to_z-of_z}
 use Rattle.base_wrapping.proofs.Fits.{returned}
-use Rattle.moment_date.specs.Dates.{noSuchDay}
+use Rattle.moment_date.specs.Dates.{no_such_day}
 use Rattle.moment_sums.proofs.Tests.{failed, passed}
 use Rattle.moment_date.proofs.date.no_such_day.Statement.{statement}
 use Rattle.moment_date.proofs.date.no_such_day.Tie as tie
@@ -18,7 +18,7 @@ returns c = rw (failed c.before.args.strict c.if1.true)
 
 -- other marks than those of month and day
 returns-2 : tie.Need-returns-2
-unfolding noSuchDay
+unfolding no_such_day
 returns-2 c =
     let at-start = c.before.before.args in
     let others : eqb at-start.set 6 ≡ false = ne_eqb _ _ c.if2.true in
@@ -26,7 +26,7 @@ returns-2 c =
 
 -- these two: the test of the day
 returns-3 : tie.Need-returns-3
-unfolding noSuchDay
+unfolding no_such_day
 returns-3 c =
     let two-set = c.before in
     let at-start = two-set.before.before in

@@ -4,7 +4,7 @@ use mathlib.Core.Bool.{true, false}
 use borrow.Author.Rules.{rules}
 use lib.Dec.{lit<}
 use Rattle.read_fields.specs.Fields.{mode}
-use Rattle.moment_date.specs.Dates.{countsDayOfYear, lacksYear, withDayOfYear}
+use Rattle.moment_date.specs.Dates.{counts_day_of_year, lacks_year, with_day_of_year}
 use Rattle.moment_sums.proofs.Known.{Known, known}
 use Rattle.moment_sums.proofs.Tests.{equal, unequal, failed, passed}
 use Rattle.moment_date.proofs.date.with_day_of_year.Statement.{statement}
@@ -14,25 +14,25 @@ has : (c : tie.Start) → Known c.args.t1
 has c = known c.args.t1 _ c.well-formed.0
 
 -- past the first test the day of the year counts, past the second there is a year
-counts : (c : tie.Else1) → countsDayOfYear c.before.before.args.r ≡ true
+counts : (c : tie.Else1) → counts_day_of_year c.before.before.args.r ≡ true
 counts c = sym c.before.counts-day-of-year.ensures ∙ passed _ c.if1.false
 
-has-year : (c : tie.Else2) → let args = c.before.before.before.before.args in lacksYear args.t1 args.r ≡ false
+has-year : (c : tie.Else2) → let args = c.before.before.before.before.args in lacks_year args.t1 args.r ≡ false
 has-year c = sym c.before.lacks-year.ensures ∙ c.if2.false
 
 -- the day of the year does not count
 returns : tie.Need-returns
-unfolding withDayOfYear
+unfolding with_day_of_year
 returns c = simp (sym c.before.counts-day-of-year.ensures ∙ failed _ c.if1.true)
 
 -- there is no year
 returns-2 : tie.Need-returns-2
-unfolding withDayOfYear
+unfolding with_day_of_year
 returns-2 c = simp (counts c.before.before, sym c.before.lacks-year.ensures ∙ c.if2.true)
 
 -- of an ISO year
 returns-3 : tie.Need-returns-3
-unfolding withDayOfYear
+unfolding with_day_of_year
 returns-3 c =
     let at-mode = c.before in
     let after-year = at-mode.before.before in
@@ -46,7 +46,7 @@ returns-3 c =
 
 -- of a Gregorian year
 returns-4 : tie.Need-returns-4
-unfolding withDayOfYear
+unfolding with_day_of_year
 returns-4 c =
     let at-mode = c.before in
     let after-year = at-mode.before.before in

@@ -1,7 +1,7 @@
 -- `moment_date::date::with_julian` meets its contract: its test is the definition's. Assumes nothing.
 use borrow.Author.Rules.{rules}
 use Rattle.read_fields.specs.Fields.{j}
-use Rattle.moment_date.specs.Dates.{withJulian}
+use Rattle.moment_date.specs.Dates.{with_julian}
 use Rattle.moment_sums.proofs.Known.{Known, known}
 use Rattle.moment_sums.proofs.Tests.{absent, present}
 use Rattle.moment_date.proofs.date.with_julian.Statement.{statement}
@@ -12,12 +12,12 @@ has c = known c.args.t1 _ c.well-formed.0
 
 -- no Julian day was read
 returns : tie.Need-returns
-unfolding withJulian
+unfolding with_julian
 returns c = simp (absent ((has c.before.before).fits j) c.if1.true)
 
 -- one was
 returns-2 : tie.Need-returns-2
-unfolding withJulian
+unfolding with_julian
 returns-2 c =
     let fields = has c.before.before.before in
     simp (present (fields.fits j) c.before.if1.false, c.whole.ensures, fields.back)

@@ -4,7 +4,7 @@ use mathlib.Core.Path.{◌≡◌, ◌∙◌, sym}
 use borrow.Author.Rules.{rules}
 use mir.Facts.{to_z-of_z}
 use Rattle.read_fields.specs.Fields.{get, w}
-use Rattle.moment_date.specs.Dates.{firstOfWeek, withMonthWeek}
+use Rattle.moment_date.specs.Dates.{first_of_week, with_month_week}
 use Rattle.moment_sums.specs.declared.Value.{Value}
 use Rattle.moment_sums.proofs.Fits.{back}
 use Rattle.moment_sums.proofs.Known.{Known, known}
@@ -17,17 +17,17 @@ has : (c : tie.Start) → Known c.args.t1
 has c = known c.args.t1 _ c.well-formed.0
 
 -- the first day of the week, as the match found it
-first : (c : tie.After-first-of-week) {v : Value} → c.first-of-week.result ≡ v → firstOfWeek (get c.before.before.before.args.t1 w) ≡ v
+first : (c : tie.After-first-of-week) {v : Value} → c.first-of-week.result ≡ v → first_of_week (get c.before.before.before.args.t1 w) ≡ v
 first c e = sym (simp (has c.before.before.before).back at c.first-of-week.ensures) ∙ e
 
 -- no week was read
 returns : tie.Need-returns
-unfolding withMonthWeek
+unfolding with_month_week
 returns c = simp (absent ((has c.before.before).fits w) c.if1.true)
 
 -- its first day
 returns-2 : tie.Need-returns-2
-unfolding withMonthWeek
+unfolding with_month_week
 returns-2 c =
     let day-known = c.before.before.before.before in
     let at-day = day-known.before in
@@ -47,7 +47,7 @@ returns-2 c =
 
 -- the first day was refused
 returns-3 : tie.Need-returns-3
-unfolding withMonthWeek
+unfolding with_month_week
 returns-3 c =
     let refused = c.before in
     let after_first = refused.before.before in

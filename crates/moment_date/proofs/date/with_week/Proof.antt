@@ -6,7 +6,7 @@ use lib.Dec.{lit<}
 use mir.Facts.{to_z-of_z}
 use Rattle.read_fields.specs.Fields.{get, mode, ww}
 use Rattle.base_wrapping.proofs.Fits.{returned}
-use Rattle.moment_date.specs.Dates.{firstOfWeek, withWeek}
+use Rattle.moment_date.specs.Dates.{first_of_week, with_week}
 use Rattle.moment_sums.specs.declared.Value.{Value}
 use Rattle.moment_sums.proofs.Fits.{back}
 use Rattle.moment_sums.proofs.Known.{Known, known}
@@ -22,17 +22,17 @@ abbrev start : tie.After-first-of-week → tie.Start
 start c = c.before.before.before.before.before
 
 -- the first day of the week, as the match found it
-first : (c : tie.After-first-of-week) {v : Value} → c.first-of-week.result ≡ v → firstOfWeek (get (start c).args.t1 ww) ≡ v
+first : (c : tie.After-first-of-week) {v : Value} → c.first-of-week.result ≡ v → first_of_week (get (start c).args.t1 ww) ≡ v
 first c e = sym (simp (has (start c)).back at c.first-of-week.ensures) ∙ e
 
 -- no week was read
 returns : tie.Need-returns
-unfolding withWeek
+unfolding with_week
 returns c = simp (absent ((has c.before.before).fits ww) c.if1.true)
 
 -- the date of a day of an ISO week
 returns-2 : tie.Need-returns-2
-unfolding withWeek
+unfolding with_week
 returns-2 c =
     let after-day = c.before in
     let after-monday = after-day.before.before in
@@ -52,7 +52,7 @@ returns-2 c =
 
 -- the first day of another week
 returns-3 : tie.Need-returns-3
-unfolding withWeek
+unfolding with_week
 returns-3 c =
     let day-known = c.before.before.before.before in
     let at-day = day-known.before in
@@ -75,7 +75,7 @@ returns-3 c =
 
 -- that day was refused
 returns-4 : tie.Need-returns-4
-unfolding withWeek
+unfolding with_week
 returns-4 c =
     let refused = c.before in
     let after_first = refused.before.before in

@@ -8,7 +8,7 @@ use lib.Signed.{lt_z}
 use mir.Facts.{to_z-of_z}
 use mir.Syntax.{w32, w64}
 use mir.Val.{SFits, to_z, of_z}
-use Rattle.moment_instants.specs.Instant.{dayOf}
+use Rattle.moment_instants.specs.Instant.{day_of}
 use Rattle.moment_instants.proofs.Range.{day-fits}
 use Rattle.moment_instants.proofs.Seconds.{returned, days}
 use Rattle.moment_instants.proofs.epoch.day_of.Statement.{statement}
@@ -34,19 +34,19 @@ module _ (c : tie.Then2) where
 
 -- the day's number
 returns : tie.Need-returns
-unfolding dayOf
+unfolding day_of
 returns c = rw (days-are c.before.before, to_z-of_z (fits c), low c, high c)
 
 -- the day is too late
 returns-2 : tie.Need-returns-2
-unfolding dayOf
+unfolding day_of
 returns-2 c =
     let days-known = days-are c.before.before in
     rw (rw days-known at c.before.if1.true, rw days-known at c.if2.false)
 
 -- the day is too early
 returns-3 : tie.Need-returns-3
-unfolding dayOf
+unfolding day_of
 returns-3 c = rw (rw (days-are c.before) at c.if1.false)
 
 pub day-of-spec : {M : Type 1} → statement M

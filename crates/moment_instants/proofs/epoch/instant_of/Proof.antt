@@ -5,14 +5,14 @@ use borrow.Author.Rules.{rules}
 use mir.Facts.{to_z-of_z}
 use mir.Syntax.{w32, w64}
 use mir.Val.{SFits}
-use Rattle.moment_instants.specs.Instant.{wallOf, lessOffset, instantOf}
+use Rattle.moment_instants.specs.Instant.{wall_of, less_offset, instant_of}
 use Rattle.moment_instants.specs.declared.epoch.Instant.TheVariants.{Micros}
 use Rattle.moment_instants.proofs.epoch.instant_of.Statement.{statement}
 use Rattle.moment_instants.proofs.epoch.instant_of.Tie as tie
 
 -- the wall clock is out of range
 returns : tie.Need-returns
-unfolding instantOf
+unfolding instant_of
 returns c =
     let after-wall = c.before.before in
     let refused = c.enum_told.given.1 in
@@ -22,16 +22,16 @@ returns c =
 wall-fits : (c : tie.After-known-told) → SFits w64 c.before.wall.given.0.0
 wall-fits c = search rules
 
-wall : (c : tie.After-known-told) → wallOf c.before.before.before.before.args.p ≡ Micros c.before.wall.given.0.0
+wall : (c : tie.After-known-told) → wall_of c.before.before.before.before.args.p ≡ Micros c.before.wall.given.0.0
 wall c = sym c.before.before.before.wall-from-tm.ensures ∙ c.before.wall.given.1
 
 -- the instant less the offset
-less : (c : tie.After-less-offset) → c.less-offset.result ≡ lessOffset c.before.before.before.before.before.args.p.offset c.before.before.wall.given.0.0
+less : (c : tie.After-less-offset) → c.less-offset.result ≡ less_offset c.before.before.before.before.before.args.p.offset c.before.before.wall.given.0.0
 less c = simp (to_z-of_z (wall-fits c.before)) at c.less-offset.ensures
 
 -- out of range once the offset is subtracted
 returns-2 : tie.Need-returns-2
-unfolding instantOf
+unfolding instant_of
 returns-2 c =
     let after-less-offset = c.before.before in
     let refused = c.enum-told2.given.1 in
@@ -46,7 +46,7 @@ precision-fits c = search rules
 
 -- rounded to the precision
 returns-3 : tie.Need-returns-3
-unfolding instantOf
+unfolding instant_of
 returns-3 c =
     let at-precision = c.before in
     let at_exact = at-precision.before.before in

@@ -7,7 +7,7 @@ use mir.Facts.{to_z-of_z}
 use mir.Syntax.{w32, w64}
 use mir.Val.{SFits}
 use Rattle.calendar_gregorian.proofs.Signed.{wide, wide_fits}
-use Rattle.moment_instants.specs.Instant.{within, lessOffset}
+use Rattle.moment_instants.specs.Instant.{within, less_offset}
 use Rattle.moment_instants.proofs.Seconds.{offset-fits, less-fits}
 use Rattle.moment_instants.proofs.epoch.less_offset.Statement.{statement}
 use Rattle.moment_instants.proofs.epoch.less_offset.Tie as tie
@@ -18,14 +18,14 @@ east c = search rules
 
 -- no offset: nothing is added
 returns : tie.Need-returns
-unfolding lessOffset
+unfolding less_offset
 returns c =
     let at-start = c.before.before.before in
     rw c.before.enum_told.given.1 (simp (to_z-of_z at-start.ranges.wall, +ℤ_idr) at c.added.ensures)
 
 -- an offset: its negative is added
 returns-2 : tie.Need-returns-2
-unfolding lessOffset
+unfolding less_offset
 returns-2 c =
     let at_offset = c.before in
     let at-start = at_offset.before.before.before in

@@ -1,21 +1,21 @@
 -- `moment_instants::epoch::report_of` meets its contract: each arm is its refusal's line of the table.
 -- Assumes nothing.
 use borrow.Author.Rules.{rules}
-use Rattle.moment_instants.specs.Report.{undatedReport}
+use Rattle.moment_instants.specs.Report.{undated_report}
 use Rattle.moment_instants.proofs.epoch.report_of.Statement.{statement}
 use Rattle.moment_instants.proofs.epoch.report_of.Tie as tie
 
 -- the refusal of the input, an instant out of range, a day out of range
 unread : tie.Need-returns
-unfolding undatedReport
+unfolding undated_report
 unread c = rw c.before.before.why.given.1 c.report-of.ensures
 
 instant : tie.Need-returns-2
-unfolding undatedReport
+unfolding undated_report
 instant c = rw c.before.enum_told.given.1 c.alone.ensures
 
 date : tie.Need-returns-3
-unfolding undatedReport
+unfolding undated_report
 date c = rw c.before.enum-told2.given.1 c.alone2.ensures
 
 pub report-of-spec : {M : Type 1} → statement M

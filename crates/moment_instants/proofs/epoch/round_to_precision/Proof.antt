@@ -11,7 +11,7 @@ use lib.Signed.{lt_z, mag}
 use mir.Facts.{to_z-of_z, to_z_pos}
 use mir.Syntax.{w32, w64}
 use mir.Val.{SFits, to_z, of_z}
-use Rattle.moment_instants.specs.Instant.{epoch2000, away, roundedTo}
+use Rattle.moment_instants.specs.Instant.{epoch2000, away, rounded_to}
 use Rattle.moment_instants.proofs.Rounding.{Digits, digits, half_le, limit-fits, early, counted}
 use Rattle.moment_instants.proofs.Seconds.{returned}
 use Rattle.moment_instants.proofs.epoch.round_to_precision.Statement.{statement}
@@ -19,14 +19,14 @@ use Rattle.moment_instants.proofs.epoch.round_to_precision.Tie as tie
 
 -- no digits are asked for: as it is
 returns : tie.Need-returns
-unfolding roundedTo
+unfolding rounded_to
 returns c =
     let at-start = c.before in
     rw (to_z-of_z at-start.ranges.t, rw (to_z-of_z at-start.ranges.precision) at c.if1.true)
 
 -- more than five digits: as it is
 returns-2 : tie.Need-returns-2
-unfolding roundedTo
+unfolding rounded_to
 returns-2 c =
     let at-start = c.before.before in
     rw (to_z-of_z at-start.ranges.t, rw (to_z-of_z at-start.ranges.precision) at c.if2.true, or-true (lt_z at-start.args.precision (pos 1)))
@@ -56,7 +56,7 @@ limit c = limit-fits (scale c.before / 2) (small c.before).1
 
 -- the count from 2000 with its half does not fit
 returns-3 : tie.Need-returns-3
-unfolding roundedTo
+unfolding rounded_to
 returns-3 c =
     let after-scale = c.before in
     let at-start = after-scale.before.before.before in
@@ -89,7 +89,7 @@ rounded-is c =
 
 -- rounded, and counted from 1970 again
 returns-4 : tie.Need-returns-4
-unfolding roundedTo
+unfolding rounded_to
 returns-4 c =
     let after-limit = c.before.before in
     let at-digits = after-limit.before.before in

@@ -5,7 +5,7 @@ use borrow.Author.Rules.{rules}
 use mir.Facts.{to_z-of_z}
 use mir.Syntax.{w64}
 use mir.Val.{to_z, of_z}
-use Rattle.moment_instants.specs.Instant.{secondsOf}
+use Rattle.moment_instants.specs.Instant.{seconds_of}
 use Rattle.moment_instants.proofs.Seconds.{returned, Ranged, days, clock, days-fit, seconds-fit}
 use Rattle.moment_instants.proofs.epoch.seconds_of.Statement.{statement}
 use Rattle.moment_instants.proofs.epoch.seconds_of.Tie as tie
@@ -32,7 +32,7 @@ add-result c =
     rw (days-are c, to_z-of_z (days-fit parts-fit), clock-is c.before) (seconds-fit parts-fit)
 
 returns : tie.Need-returns
-unfolding secondsOf
+unfolding seconds_of
 returns c =
     let parts-fit = ranged c.before.before in
     rw (days-are c, to_z-of_z (days-fit parts-fit), clock-is c.before, to_z-of_z (seconds-fit parts-fit))

@@ -10,30 +10,30 @@ use mir.Facts.{to_z-of_z}
 use mir.Syntax.{w32, w64}
 use mir.Val.{SFits, to_z, of_z}
 use Rattle.calendar_gregorian.proofs.Signed.{wide, wide_fits}
-use Rattle.moment_instants.specs.Instant.{secondsOf, wallOf}
+use Rattle.moment_instants.specs.Instant.{seconds_of, wall_of}
 use Rattle.moment_instants.proofs.Seconds.{returned, too_few, too_many, micros-fit}
 use Rattle.moment_instants.proofs.epoch.wall_from_tm.Statement.{statement}
 use Rattle.moment_instants.proofs.epoch.wall_from_tm.Tie as tie
 
 -- what the call gives is the seconds of the parts
-seconds : (c : tie.After-seconds-of) → to_z w64 (of_z w64 c.seconds-of.result) ≡ secondsOf c.before.args.p
+seconds : (c : tie.After-seconds-of) → to_z w64 (of_z w64 c.seconds-of.result) ≡ seconds_of c.before.args.p
 seconds c = returned c.seconds-of.type-inv c.seconds-of.ensures
 
 -- too early
 returns : tie.Need-returns
-unfolding wallOf
-returns c = rw (too_few (secondsOf c.before.before.args.p) (rw (seconds c.before) at c.if1.true))
+unfolding wall_of
+returns c = rw (too_few (seconds_of c.before.before.args.p) (rw (seconds c.before) at c.if1.true))
 
 -- too late
 returns-2 : tie.Need-returns-2
-unfolding wallOf
-returns-2 c = rw (too_many (secondsOf c.before.before.before.args.p) (rw (seconds c.before.before) at c.if2.true))
+unfolding wall_of
+returns-2 c = rw (too_many (seconds_of c.before.before.before.args.p) (rw (seconds c.before.before) at c.if2.true))
 
 -- past both tests the microseconds of the seconds fit 64 bits
-whole : (c : tie.Else2) → SFits w64 (secondsOf c.before.before.before.args.p *ℤ pos 1000000)
+whole : (c : tie.Else2) → SFits w64 (seconds_of c.before.before.before.args.p *ℤ pos 1000000)
 whole c =
     let after-seconds = c.before.before in
-    micros-fit (secondsOf after-seconds.before.args.p) (rw (seconds after-seconds) at c.before.if1.false) (rw (seconds after-seconds) at c.if2.false)
+    micros-fit (seconds_of after-seconds.before.args.p) (rw (seconds after-seconds) at c.before.if1.false) (rw (seconds after-seconds) at c.if2.false)
 
 mul-added : tie.Need-overflow-mul-added
 mul-added c = rw (seconds c.before.before) (whole c)
@@ -44,10 +44,10 @@ micros c = search rules
 
 -- the fraction is added
 returns-3 : tie.Need-returns-3
-unfolding wallOf
+unfolding wall_of
 returns-3 c =
     let after-tests = c.before.before.before in
-    rw (lt-ltb (mag (secondsOf after-tests.before.before.before.args.p *ℤ pos 1000000)) (2 ^ 63) (whole after-tests).sfits)
+    rw (lt-ltb (mag (seconds_of after-tests.before.before.before.args.p *ℤ pos 1000000)) (2 ^ 63) (whole after-tests).sfits)
     (simp (seconds after-tests.before.before, to_z-of_z (whole after-tests), wide (micros c.before)) at c.added.ensures)
 
 pub wall-from-tm-spec : {M : Type 1} → statement M

@@ -4,18 +4,18 @@ use borrow.Author.Rules.{rules}
 use mir.Facts.{to_z-of_z}
 use Rattle.base_wrapping.proofs.Fits.{returned}
 use Rattle.moment_sums.proofs.Within.{not-above}
-use Rattle.moment_parts.specs.Plain.{hasDay}
+use Rattle.moment_parts.specs.Plain.{has_day}
 use Rattle.moment_parts.proofs.plain.has_day.Statement.{statement}
 use Rattle.moment_parts.proofs.plain.has_day.Tie as tie
 
 -- below 1
 returns : tie.Need-returns
-unfolding hasDay
+unfolding has_day
 returns c = simp (rw (to_z-of_z c.before.ranges.day) at c.if1.true)
 
 -- the test of the length
 returns-2 : tie.Need-returns-2
-unfolding hasDay
+unfolding has_day
 returns-2 c =
     let after-leap = c.before in
     let at-day = after-leap.before in

@@ -8,13 +8,13 @@ use lib.Signed.{lt_z}
 use Rattle.base_wrapping.proofs.Fits.{read, returned}
 use Rattle.read_fields.specs.Fields.{fields_of, get, dd, mm, year}
 use Rattle.moment_sums.proofs.Tests.{failed, passed}
-use Rattle.moment_parts.specs.Plain.{hasDay, hasPlainMoment, is_plain, orFirst}
+use Rattle.moment_parts.specs.Plain.{has_day, has_plain_moment, is_plain, or_first}
 use Rattle.moment_parts.proofs.plain.has_plain_moment.Statement.{statement}
 use Rattle.moment_parts.proofs.plain.has_plain_moment.Tie as tie
 
 -- the fields are not plain
 returns : tie.Need-returns
-unfolding hasPlainMoment
+unfolding has_plain_moment
 returns c = simp (sym c.before.is-plain.ensures ∙ failed _ c.if1.true)
 
 -- they are
@@ -29,7 +29,7 @@ year-test c e = rw (returned c.get.type-inv c.get.ensures) at e
 -- that of the day
 day-test : (c : tie.After-has-day) {b : Bool} → c.has-day.result ≡ b
     → let f = fields_of c.before.before.before.before.before.before.before.before.before.args.f.now in
-    hasDay (get f year) (orFirst (get f mm)) (orFirst (get f dd)) ≡ b
+    has_day (get f year) (or_first (get f mm)) (or_first (get f dd)) ≡ b
 day-test c e =
     let after-day = c.before in
     let after-month = after-day.before.before in
@@ -45,19 +45,19 @@ day-test c e =
 
 -- the year is not above 0
 returns-2 : tie.Need-returns-2
-unfolding hasPlainMoment
+unfolding has_plain_moment
 returns-2 c = simp (plain c.before.before, year-test c.before c.if2.true)
 
 -- the month does not have the day
 returns-3 : tie.Need-returns-3
-unfolding hasPlainMoment
+unfolding has_plain_moment
 returns-3 c =
     let above = c.before.before.before.before.before.before in
     simp (plain above.before.before, year-test above.before above.if2.false, day-test c.before (failed _ c.if3.true))
 
 -- the test of the time
 returns-4 : tie.Need-returns-4
-unfolding hasPlainMoment
+unfolding has_plain_moment
 returns-4 c =
     let g7 = c.before.get7 in
     let g6 = c.before.before.get6 in

@@ -1,12 +1,12 @@
 -- `moment_parts::plain::plain_marks` meets its contract: its tests are the definition's. Assumes nothing.
 use Rattle.moment_sums.proofs.Tests.{absent, present}
-use Rattle.moment_parts.specs.Plain.{plainMarks}
+use Rattle.moment_parts.specs.Plain.{plain_marks}
 use Rattle.moment_parts.proofs.plain.plain_marks.Statement.{statement}
 use Rattle.moment_parts.proofs.plain.plain_marks.Tie as tie
 
 -- neither month nor day
 returns : tie.Need-returns
-unfolding plainMarks
+unfolding plain_marks
 returns c =
     let at-month = c.before in
     let fits = at-month.before.ranges in
@@ -14,7 +14,7 @@ returns c =
 
 -- a day alone
 returns-2 : tie.Need-returns-2
-unfolding plainMarks
+unfolding plain_marks
 returns-2 c =
     let at-month = c.before in
     let fits = at-month.before.ranges in
@@ -22,7 +22,7 @@ returns-2 c =
 
 -- a month alone
 returns-3 : tie.Need-returns-3
-unfolding plainMarks
+unfolding plain_marks
 returns-3 c =
     let at-month = c.before in
     let fits = at-month.before.ranges in
@@ -30,7 +30,7 @@ returns-3 c =
 
 -- both
 returns-4 : tie.Need-returns-4
-unfolding plainMarks
+unfolding plain_marks
 returns-4 c =
     let at-month = c.before in
     let fits = at-month.before.ranges in

@@ -1,12 +1,12 @@
 -- `moment_parts::plain::plain_parts` meets its contract: each field has 32 bits, which give it back. Assumes nothing.
 use borrow.Author.Rules.{rules}
 use Rattle.base_wrapping.proofs.Fits.{returned}
-use Rattle.moment_parts.specs.Plain.{plainParts}
+use Rattle.moment_parts.specs.Plain.{plain_parts}
 use Rattle.moment_parts.proofs.plain.plain_parts.Statement.{statement}
 use Rattle.moment_parts.proofs.plain.plain_parts.Tie as tie
 
 returns : tie.Need-returns
-unfolding plainParts
+unfolding plain_parts
 returns c =
     let precision = c.before.get8 in
     let micros = c.before.before.get7 in

@@ -2,12 +2,12 @@
 -- definition's, and the verdict on it says which of the two ways out follows. Assumes nothing.
 use mathlib.Core.Path.{◌≡◌, ◌∙◌, sym}
 use borrow.Author.Rules.{rules}
-use Rattle.read_integers.specs.Suffix.{isFree}
-use Rattle.template_patterns.specs.Patterns.{patternOf}
+use Rattle.read_integers.specs.Suffix.{is_free}
+use Rattle.template_patterns.specs.Patterns.{pattern_of}
 use Rattle.base_wrapping.proofs.Fits.{returned}
-use Rattle.read_fields.specs.Fields.{fields_of, get, mode, readInto}
+use Rattle.read_fields.specs.Fields.{fields_of, get, mode, read_into}
 use Rattle.read_fields.specs.Tasks.{task_of}
-use Rattle.read_input.specs.Reader.{actionRead, mixes, performed, withMode}
+use Rattle.read_input.specs.Reader.{action_read, mixes, performed, with_mode}
 use Rattle.read_input.proofs.Verdicts.{stopped, passed, verdict-refused, verdict-read}
 use Rattle.read_input.proofs.actions.action_read.Statement.{statement}
 use Rattle.read_input.proofs.actions.action_read.Tie as tie
@@ -15,7 +15,7 @@ use Rattle.read_input.proofs.actions.action_read.Tie as tie
 -- the test of the date mode
 tested : (c : tie.After-mixes) →
     let args = c.before.before.before.before.before.before.args in
-    c.mixes.result ≡ mixes (patternOf args.n.pattern).mode (get (fields_of args.f.now) mode)
+    c.mixes.result ≡ mixes (pattern_of args.n.pattern).mode (get (fields_of args.f.now) mode)
 tested c =
     let set_before = c.before.get in
     simp (returned set_before.type-inv set_before.ensures, c.before.before.before.mode-at.ensures) at c.mixes.ensures
@@ -23,9 +23,9 @@ tested c =
 -- what was read
 is : (c : tie.After-performed) →
     let args = c.before.before.before.before.before.before.before.before.before.before.before.before.args in
-    readInto c.performed.result c.performed.new.1.1.1.1.0
-    ≡ performed args.s.now args.n (isFree args.t.now args.n args.next) (task_of args.n.pattern)
-    (withMode (patternOf args.n.pattern).mode (fields_of args.f.now)) args.p
+    read_into c.performed.result c.performed.new.1.1.1.1.0
+    ≡ performed args.s.now args.n (is_free args.t.now args.n args.next) (task_of args.n.pattern)
+    (with_mode (pattern_of args.n.pattern).mode (fields_of args.f.now)) args.p
 is c =
     let after-mode = c.before.before in
     let after_free = after-mode.before.before in
@@ -39,7 +39,7 @@ not-mixed c = c.before.before.before.before.before
 
 -- date modes are mixed
 returns : tie.Need-returns
-unfolding actionRead
+unfolding action_read
 returns c = verdict-refused c.refuse.ensures (rw (sym (tested c.before.before) ∙ c.before.if1.true))
 
 -- what was read is refused

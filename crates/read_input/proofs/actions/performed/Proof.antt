@@ -6,7 +6,7 @@ use Prim.Native.Nat.{ℕ}
 use borrow.Author.Rules.{rules}
 use borrow.Author.Tests.{ne_eqb}
 use Rattle.read_fields.specs.Fields.{fields_of}
-use Rattle.read_numbers.specs.Numbers.{readNumber}
+use Rattle.read_numbers.specs.Numbers.{read_number}
 use Rattle.read_input.specs.Reader.{by_kind, performed}
 use Rattle.read_input.proofs.actions.performed.Statement.{statement}
 use Rattle.read_input.proofs.actions.performed.Tie as tie
@@ -21,7 +21,7 @@ of-kind c k e =
 
 -- a number, or a year with a comma
 of_number : (c : tie.Start) → (c.args.task.kind ≡ 2) ⊎ (c.args.task.kind ≡ 5) →
-    readNumber c.args.s.now c.args.n c.args.free c.args.task (fields_of c.args.f.now) c.args.p
+    read_number c.args.s.now c.args.n c.args.free c.args.task (fields_of c.args.f.now) c.args.p
     ≡ performed c.args.s.now c.args.n c.args.free c.args.task (fields_of c.args.f.now) c.args.p
 of_number c (inl e) = of-kind c 2 e
 of_number c (inr e) = of-kind c 5 e

@@ -8,7 +8,7 @@ use native.Mathlib.Omega.{arith}
 use borrow.Author.Rules.{rules}
 use borrow.Author.Tests.{ne_eqb}
 use lib.ListN.{length}
-use Rattle.template_nodes.specs.Bytes.{nodesIn}
+use Rattle.template_nodes.specs.Bytes.{nodes_in}
 use Rattle.template_nodes.proofs.Encoding.{nodes-length}
 use Rattle.read_fields.specs.declared.Fields.{Fields}
 use Rattle.read_fields.specs.declared.Place.{Place}
@@ -23,8 +23,8 @@ use Rattle.read_input.proofs.lane.chars_passed.Tie as tie
 
 abbrev invariant-loop : tie.invariant-loop
 invariant-loop c s from count at₀ i₀ at i =
-    (from ≤ i) × (i ≤ length (nodesIn c))
-    × ((t : List ℕ) (f : Fields) (whole : Reading) → Turned t s (nodesIn c) whole from f (place at₀ 0 false) → Turned t s (nodesIn c) whole i f (place at 0 false))
+    (from ≤ i) × (i ≤ length (nodes_in c))
+    × ((t : List ℕ) (f : Fields) (whole : Reading) → Turned t s (nodes_in c) whole from f (place at₀ 0 false) → Turned t s (nodes_in c) whole i f (place at 0 false))
 
 abbrev decreases-loop : tie.decreases-loop
 decreases-loop c s from count at₀ i₀ at i = count - i
@@ -34,7 +34,7 @@ loop-holds c = (omega arith, c.before.before.requires.0, λ t f whole turned. tu
 
 -- what the loop has read so far
 ends : (c : tie.At-loop invariant-loop decreases-loop) {r : Passed} → r ≡ passed_at c.loop.i c.loop.at
-    → let args = c.before.before.before.args in CharsRead args.s.now (nodesIn args.c.now) args.from args.place r
+    → let args = c.before.before.before.args in CharsRead args.s.now (nodes_in args.c.now) args.from args.place r
 ends c e =
     let at-start = c.before.before.before in
     let inv = c.loop.invariant in
@@ -48,7 +48,7 @@ loop-again c =
     let here = at-node.before in
     let at-loop = here.before.before in
     let at-start = at-loop.before.before.before in
-    let nodes = nodesIn at-start.args.c.now in
+    let nodes = nodes_in at-start.args.c.now in
     let one_left : at-loop.loop.i < length nodes = omega (arith, here.before.loop-test.true, nodes-length at-start.args.c.now) in
     let later : at-loop.loop.i ≡ 0 → ⊥ = λ z. at-start.requires.1 (omega (arith, at-loop.loop.invariant.0, z)) in (
       omega (arith, at-loop.loop.invariant.0),

@@ -6,17 +6,17 @@ use native.Mathlib.Omega.{arith}
 use borrow.Author.Rules.{rules}
 use lib.Dec.{eqb}
 use lib.ListN.{length, drop}
-use Rattle.template_nodes.specs.Bytes.{nodesIn}
+use Rattle.template_nodes.specs.Bytes.{nodes_in}
 use Rattle.template_nodes.proofs.Encoding.{nodes-length}
 use Rattle.read_fields.specs.Fields.{fields_of}
-use Rattle.read_input.specs.Reader.{readFrom}
+use Rattle.read_input.specs.Reader.{read_from}
 use Rattle.read_input.specs.Turn.{Turned}
 use Rattle.read_input.proofs.lane.lane.Statement.{statement}
 use Rattle.read_input.proofs.lane.lane.Tie as tie
 
 abbrev invariant-loop : tie.invariant-loop
 invariant-loop c t s f₀ from count p₀ i₀ f p i =
-    (from ≤ i) × Turned t s (nodesIn c) (readFrom t s (drop from (nodesIn c)) (eqb from 0) (fields_of f₀) p₀) i (fields_of f) p
+    (from ≤ i) × Turned t s (nodes_in c) (read_from t s (drop from (nodes_in c)) (eqb from 0) (fields_of f₀) p₀) i (fields_of f) p
 
 abbrev decreases-loop : tie.decreases-loop
 decreases-loop c t s f₀ from count p₀ i₀ f p i = count - i
@@ -37,7 +37,7 @@ module _ (c : tie.Else1 invariant-loop decreases-loop) where
   abbrev at-loop : tie.At-loop invariant-loop decreases-loop
   at-loop = c.before.before
 
-  one_left : at-loop.loop.i < length (nodesIn at-loop.before.before.before.before.args.c.now)
+  one_left : at-loop.loop.i < length (nodes_in at-loop.before.before.before.before.args.c.now)
   one_left = omega (arith, c.before.loop-test.true, nodes-length at-loop.before.before.before.before.args.c.now)
 
 node-taken-requires : tie.Need-node-taken-requires invariant-loop decreases-loop

@@ -10,8 +10,8 @@ use lib.ListN.{length}
 use mir.Facts.{to_z-of_z}
 use mir.Syntax.{w64}
 use mir.Val.{SFits}
-use Rattle.base_notation.specs.Text.{byteAt}
-use Rattle.base_chars.specs.Class.{isSpace}
+use Rattle.base_notation.specs.Text.{byte_at}
+use Rattle.base_chars.specs.Class.{is_space}
 use Rattle.base_strtol.specs.Strtol.{strtol}
 use Rattle.base_strtol.specs.declared.Strtol.{Strtol}
 use Rattle.base_strtol.proofs.Leading.{leading-place}
@@ -42,7 +42,7 @@ module _ (c : tie.Else2) where
   first : a ≡ strtol t 0
   first = c.before.before.before.c-strtol.ensures
 
-  comma : byteAt t a.end ≡ code ","
+  comma : byte_at t a.end ≡ code ","
   comma = sym c.before.byte_at.ensures ∙ c.if2.false
 
   within : a.end < length t
@@ -55,7 +55,7 @@ add-past-spaces c = omega (arith, within c)
 within-three-requires : tie.Need-within-three-requires
 within-three-requires c κs =
     let at-comma = c.before in
-    omega (arith, within at-comma, leading-place isSpace (t at-comma) ((a at-comma).end + 1), c.past-spaces.ensures)
+    omega (arith, within at-comma, leading-place is_space (t at-comma) ((a at-comma).end + 1), c.past-spaces.ensures)
 
 -- no second number
 returns-3 : tie.Need-returns-3

@@ -6,7 +6,7 @@ use Prim.Native.Nat.{◌-◌, ◌*◌, ◌<◌, ◌≤◌}
 use native.Mathlib.Omega.{arith}
 use borrow.Author.Rules.{rules}
 use lib.ListN.{length}
-use Rattle.template_patterns.specs.Words.{wordTable}
+use Rattle.template_patterns.specs.Words.{word_table}
 use Rattle.template_patterns.specs.declared.tables.WordList.{WordList}
 use Rattle.read_words.specs.FoldOnce.{word_in}
 use Rattle.read_words.proofs.Letters.{other-first}
@@ -15,7 +15,7 @@ use Rattle.read_words.proofs.spelling.first_word.Statement.{statement}
 use Rattle.read_words.proofs.spelling.first_word.Tie as tie
 
 abbrev invariant-loop : tie.invariant-loop
-invariant-loop table start first k₀ k = (k ≤ 12) × ((list : WordList) → table ≡ wordTable list → word_in list start ≡ from start list k)
+invariant-loop table start first k₀ k = (k ≤ 12) × ((list : WordList) → table ≡ word_table list → word_in list start ≡ from start list k)
 
 abbrev decreases-loop : tie.decreases-loop
 decreases-loop table start first k₀ k = 12 - k

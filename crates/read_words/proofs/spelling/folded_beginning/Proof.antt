@@ -4,13 +4,13 @@ use mathlib.Core.Path.{◌≡◌, ◌∙◌, refl}
 use Prim.Native.Nat.{◌-◌, ◌≤◌}
 use native.Mathlib.Omega.{arith}
 use borrow.Author.Rules.{rules}
-use Rattle.read_words.specs.FoldOnce.{beginning, inNine}
+use Rattle.read_words.specs.FoldOnce.{beginning, in_nine}
 use Rattle.read_words.proofs.Beginning.{put_next, all-put}
 use Rattle.read_words.proofs.spelling.folded_beginning.Statement.{statement}
 use Rattle.read_words.proofs.spelling.folded_beginning.Tie as tie
 
 abbrev invariant-loop : tie.invariant-loop
-invariant-loop s at most n start₀ j₀ start j = (j ≤ n) × (start ≡ inNine (beginning j s at))
+invariant-loop s at most n start₀ j₀ start j = (j ≤ n) × (start ≡ in_nine (beginning j s at))
 
 abbrev decreases-loop : tie.decreases-loop
 decreases-loop s at most n start₀ j₀ start j = 9 - j
@@ -20,7 +20,7 @@ loop-holds c = (search rules, refl)
 
 -- as many bytes are folded as are wanted, or as there are
 ended : (c : tie.At-loop invariant-loop decreases-loop) → c.loop.j ≡ c.before.fitting.result
-    → let args = c.before.before.before.args in c.loop.start ≡ inNine (beginning args.most args.s.now args.at)
+    → let args = c.before.before.before.args in c.loop.start ≡ in_nine (beginning args.most args.s.now args.at)
 ended c e =
     let args = c.before.before.before.args in
     c.loop.invariant.1 ∙ all-put args.s.now args.at _ _ c.loop.j c.before.fitting.ensures e

@@ -1,12 +1,12 @@
 -- `replay::questions::answer` meets its contract: the name is before the first space. Assumes nothing.
 use borrow.Author.Rules.{rules}
-use Rattle.replay.specs.Answers.{answerTo}
+use Rattle.replay.specs.Answers.{answer_to}
 use Rattle.replay.proofs.Texts.{name-end, whole}
 use Rattle.replay.proofs.questions.answer.Statement.{statement}
 use Rattle.replay.proofs.questions.answer.Tie as tie
 
 returns : tie.Need-returns
-unfolding answerTo
+unfolding answer_to
 returns c =
     let after-named = c.before.before in
     let end_is = name-end after-named.before.before.before.find.ensures in

@@ -6,19 +6,19 @@ use lib.IntN.{pos}
 use mir.Syntax.{w64}
 use mir.Facts.{to_z_pos}
 use mir.Val.{to_z}
-use Rattle.replay.specs.Answers.{ofMblen}
+use Rattle.replay.specs.Answers.{of_mblen}
 use Rattle.replay.proofs.Texts.{read_as, part-is, part-fits}
 use Rattle.replay.proofs.questions.of_mblen.Statement.{statement}
 use Rattle.replay.proofs.questions.of_mblen.Tie as tie
 
 -- no place
 returns : tie.Need-returns
-unfolding ofMblen
+unfolding of_mblen
 returns c = rw (← c.before.read-place.ensures, c.if1.true)
 
 -- no text
 returns-2 : tie.Need-returns-2
-unfolding ofMblen
+unfolding of_mblen
 returns-2 c = rw (← c.before.before.before.before.before.read-place.ensures, c.before.before.before.before.if1.false, read_as c.before.before.read-bytes.ensures c.if2.true)
 
 -- the text is within the buffer
@@ -27,7 +27,7 @@ part-pg-mblen-end c = part-fits c.before.before.before.read-bytes.ensures c.befo
 
 -- a length, of at most 4
 returns-3 : tie.Need-returns-3
-unfolding ofMblen
+unfolding of_mblen
 returns-3 c =
     let read = c.before.before.before.before.before.read-bytes.ensures in
     let ok = c.before.before.before.if2.false in

@@ -7,20 +7,20 @@ use lib.ListN.{get_or}
 use mir.Facts.{to_z-of_z}
 use mir.Syntax.{w32}
 use mir.Val.{SFits}
-use Rattle.replay.specs.Answers.{ofNumbers}
+use Rattle.replay.specs.Answers.{of_numbers}
 use Rattle.replay.proofs.questions.of_numbers.Statement.{statement}
 use Rattle.replay.proofs.questions.of_numbers.Tie as tie
 
 -- one number
 returns : tie.Need-returns
-unfolding ofNumbers
+unfolding of_numbers
 returns c =
     let first : SFits w32 (get_or c.before.before.before.before.before.args.n.values 0 (pos 0)) = search rules in
     rw (c.before.before.match.keys1, c.of_one.ensures, to_z-of_z first)
 
 -- two
 returns-2 : tie.Need-returns-2
-unfolding ofNumbers
+unfolding of_numbers
 returns-2 c =
     let values = c.before.before.before.before.before.before.args.n.values in
     let first : SFits w32 (get_or values 0 (pos 0)) = search rules in
@@ -29,7 +29,7 @@ returns-2 c =
 
 -- three
 returns-3 : tie.Need-returns-3
-unfolding ofNumbers
+unfolding of_numbers
 returns-3 c =
     let values = c.before.before.before.before.before.before.before.args.n.values in
     let first : SFits w32 (get_or values 0 (pos 0)) = search rules in
@@ -39,7 +39,7 @@ returns-3 c =
 
 -- any other count
 returns-4 : tie.Need-returns-4
-unfolding ofNumbers
+unfolding of_numbers
 returns-4 c =
     let count = c.before.before.before.args.n.count in
     rw (ne_eqb count 1 (λ e. omega arith), ne_eqb count 2 (λ e. omega arith), ne_eqb count 3 (λ e. omega arith))

@@ -3,14 +3,14 @@ use borrow.Author.Rules.{rules}
 use mir.Facts.{to_z-of_z}
 use mir.Syntax.{w32, w64}
 use Rattle.line_questions.proofs.Same.{same_by}
-use Rattle.replay.specs.Answers.{ofOne}
+use Rattle.replay.specs.Answers.{of_one}
 use Rattle.replay.proofs.Casts.{back}
 use Rattle.replay.proofs.questions.of_one.Statement.{statement}
 use Rattle.replay.proofs.questions.of_one.Tie as tie
 
 -- the date of a day
 returns : tie.Need-returns
-unfolding ofOne
+unfolding of_one
 returns c =
     let first = c.before.before in
     let fits = first.before.before.before.before.ranges in
@@ -19,7 +19,7 @@ returns c =
 
 -- its weekday
 returns-2 : tie.Need-returns-2
-unfolding ofOne
+unfolding of_one
 returns-2 c =
     let second = c.before.before in
     let first = second.before.before.before in
@@ -32,7 +32,7 @@ returns-2 c =
 
 -- a leap year
 returns-3 : tie.Need-returns-3
-unfolding ofOne
+unfolding of_one
 returns-3 c =
     let third = c.before.before in
     let second = third.before.before.before in
@@ -47,7 +47,7 @@ returns-3 c =
 
 -- no such name
 returns-4 : tie.Need-returns-4
-unfolding ofOne
+unfolding of_one
 returns-4 c =
     let second = c.before.before.before in
     let first = second.before.before.before in

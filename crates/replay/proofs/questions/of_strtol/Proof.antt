@@ -7,7 +7,7 @@ use lib.ListN.{length}
 use mir.Syntax.{w64}
 use mir.Facts.{to_z-of_z, to_z_pos}
 use mir.Val.{SFits}
-use Rattle.replay.specs.Answers.{ofStrtol}
+use Rattle.replay.specs.Answers.{of_strtol}
 use Rattle.replay.proofs.Texts.{read_as, part-is, part-fits}
 use Rattle.replay.proofs.Casts.{at_small, back, end-small}
 use Rattle.replay.proofs.questions.of_strtol.Statement.{statement}
@@ -15,12 +15,12 @@ use Rattle.replay.proofs.questions.of_strtol.Tie as tie
 
 -- no place
 returns : tie.Need-returns
-unfolding ofStrtol
+unfolding of_strtol
 returns c = rw (← c.before.read-place.ensures, c.if1.true)
 
 -- no text
 returns-2 : tie.Need-returns-2
-unfolding ofStrtol
+unfolding of_strtol
 returns-2 c = rw (← c.before.before.before.before.before.read-place.ensures, c.before.before.before.before.if1.false, read_as c.before.before.read-bytes.ensures c.if2.true)
 
 -- the text is within the buffer
@@ -42,7 +42,7 @@ cast-t16 c = record { sfits = end-is-small c }
 
 -- a number
 returns-3 : tie.Need-returns-3
-unfolding ofStrtol
+unfolding of_strtol
 returns-3 c =
     let read = c.before.before.before.before.before.before.before.before.read-bytes.ensures in
     let ok = c.before.before.before.before.before.before.if2.false in

@@ -3,14 +3,14 @@ use borrow.Author.Rules.{rules}
 use mir.Facts.{to_z-of_z}
 use mir.Syntax.{w32, w64}
 use Rattle.line_questions.proofs.Same.{same_by}
-use Rattle.replay.specs.Answers.{ofThree}
+use Rattle.replay.specs.Answers.{of_three}
 use Rattle.replay.proofs.Casts.{back}
 use Rattle.replay.proofs.questions.of_three.Statement.{statement}
 use Rattle.replay.proofs.questions.of_three.Tie as tie
 
 -- the Julian day
 returns : tie.Need-returns
-unfolding ofThree
+unfolding of_three
 returns c =
     let first = c.before.before in
     let fits = first.before.before.before.before.ranges in
@@ -19,7 +19,7 @@ returns c =
 
 -- the ISO week
 returns-2 : tie.Need-returns-2
-unfolding ofThree
+unfolding of_three
 returns-2 c =
     let second = c.before.before in
     let first = second.before.before.before in
@@ -32,7 +32,7 @@ returns-2 c =
 
 -- its year
 returns-3 : tie.Need-returns-3
-unfolding ofThree
+unfolding of_three
 returns-3 c =
     let third = c.before.before in
     let second = third.before.before.before in
@@ -47,7 +47,7 @@ returns-3 c =
 
 -- the days since 1970
 returns-4 : tie.Need-returns-4
-unfolding ofThree
+unfolding of_three
 returns-4 c =
     let fourth = c.before in
     let third = fourth.before.before.before in
@@ -64,7 +64,7 @@ returns-4 c =
 
 -- no such name
 returns-5 : tie.Need-returns-5
-unfolding ofThree
+unfolding of_three
 returns-5 c =
     let third = c.before.before.before in
     let second = third.before.before.before in

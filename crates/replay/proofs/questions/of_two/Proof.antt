@@ -3,14 +3,14 @@ use borrow.Author.Rules.{rules}
 use mir.Facts.{to_z-of_z}
 use mir.Syntax.{w32}
 use Rattle.line_questions.proofs.Same.{same_by}
-use Rattle.replay.specs.Answers.{ofTwo}
+use Rattle.replay.specs.Answers.{of_two}
 use Rattle.replay.proofs.Casts.{back}
 use Rattle.replay.proofs.questions.of_two.Statement.{statement}
 use Rattle.replay.proofs.questions.of_two.Tie as tie
 
 -- the Monday of a week
 returns : tie.Need-returns
-unfolding ofTwo
+unfolding of_two
 returns c =
     let first = c.before.before in
     let fits = first.before.before.before.before.ranges in
@@ -19,7 +19,7 @@ returns c =
 
 -- no such name
 returns-2 : tie.Need-returns-2
-unfolding ofTwo
+unfolding of_two
 returns-2 c =
     rw (same_by c.before.same.ensures c.if1.false)
 

@@ -1,7 +1,7 @@
 -- `replay::questions::of_utf8` meets its contract: what is tested is the text that the item is. Assumes nothing.
 use borrow.Author.Rules.{rules}
 use mir.Syntax.{w64}
-use Rattle.replay.specs.Answers.{ofUtf8}
+use Rattle.replay.specs.Answers.{of_utf8}
 use Rattle.replay.proofs.Casts.{back}
 use Rattle.replay.proofs.Texts.{read_as, part-is, part-fits}
 use Rattle.replay.proofs.questions.of_utf8.Statement.{statement}
@@ -9,7 +9,7 @@ use Rattle.replay.proofs.questions.of_utf8.Tie as tie
 
 -- no text
 returns : tie.Need-returns
-unfolding ofUtf8
+unfolding of_utf8
 returns c = rw (read_as c.before.before.read-bytes.ensures c.if1.true)
 
 -- the text is within the buffer
@@ -18,7 +18,7 @@ part-is-utf8-end c = part-fits c.before.before.before.read-bytes.ensures c.befor
 
 -- a text
 returns-2 : tie.Need-returns-2
-unfolding ofUtf8
+unfolding of_utf8
 returns-2 c =
     let read = c.before.before.before.before.before.before.read-bytes.ensures in
     let ok = c.before.before.before.before.if1.false in

@@ -1,13 +1,13 @@
 -- `replay::questions::put_line` meets its contract: what is answered is the line that the item is. Assumes nothing.
 use borrow.Author.Rules.{rules}
-use Rattle.replay.specs.Answers.{lineText}
+use Rattle.replay.specs.Answers.{line_text}
 use Rattle.replay.proofs.Texts.{read_as, part-is, part-fits}
 use Rattle.replay.proofs.questions.put_line.Statement.{statement}
 use Rattle.replay.proofs.questions.put_line.Tie as tie
 
 -- no text
 returns : tie.Need-returns
-unfolding lineText
+unfolding line_text
 returns c = rw (read_as c.before.before.before.before.before.before.read-bytes.ensures c.before.before.before.before.if1.true) c.before.before.unknown.ensures
 
 -- the text is within the buffer
@@ -16,7 +16,7 @@ part-answer-end c = part-fits c.before.before.before.read-bytes.ensures c.before
 
 -- a line
 returns-2 : tie.Need-returns-2
-unfolding lineText
+unfolding line_text
 returns-2 c =
     let read = c.before.before.before.before.before.before.before.before.read-bytes.ensures in
     let ok = c.before.before.before.before.before.before.if1.false in

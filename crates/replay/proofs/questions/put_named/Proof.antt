@@ -1,20 +1,20 @@
 -- `replay::questions::put_named` meets its contract: the tests of the name are the definition's. Assumes nothing.
 use borrow.Author.Rules.{rules}
 use Rattle.line_questions.proofs.Same.{same_by}
-use Rattle.replay.specs.Answers.{namedText}
+use Rattle.replay.specs.Answers.{named_text}
 use Rattle.replay.proofs.questions.put_named.Statement.{statement}
 use Rattle.replay.proofs.questions.put_named.Tie as tie
 
 -- the nodes of a template
 returns : tie.Need-returns
-unfolding namedText
+unfolding named_text
 returns c =
     let at_1 = c.before.before.before.before in
     rw (same_by at_1.before.same.ensures at_1.if1.true) c.before.before.put-template.ensures
 
 -- the parts of a line
 returns-2 : tie.Need-returns-2
-unfolding namedText
+unfolding named_text
 returns-2 c =
     let at-2 = c.before.before.before.before in
     let at_1 = at-2.before.before.before in
@@ -22,7 +22,7 @@ returns-2 c =
 
 -- its instant
 returns-3 : tie.Need-returns-3
-unfolding namedText
+unfolding named_text
 returns-3 c =
     let at-3 = c.before.before.before.before in
     let at-2 = at-3.before.before.before in
@@ -31,7 +31,7 @@ returns-3 c =
 
 -- its day
 returns-4 : tie.Need-returns-4
-unfolding namedText
+unfolding named_text
 returns-4 c =
     let at-4 = c.before.before.before.before in
     let at-3 = at-4.before.before.before in
@@ -41,7 +41,7 @@ returns-4 c =
 
 -- the text of its moment
 returns-5 : tie.Need-returns-5
-unfolding namedText
+unfolding named_text
 returns-5 c =
     let at_5 = c.before.before.before.before in
     let at-4 = at_5.before.before.before in
@@ -52,7 +52,7 @@ returns-5 c =
 
 -- numbers
 returns-6 : tie.Need-returns-6
-unfolding namedText
+unfolding named_text
 returns-6 c =
     let at_5 = c.before.before.before.before.before in
     let at-4 = at_5.before.before.before in

@@ -5,7 +5,7 @@ use mathlib.Core.Path.{◌∙◌}
 use Prim.Native.Nat.{◌-◌}
 use native.Mathlib.Omega.{arith}
 use borrow.Author.Rules.{rules}
-use Rattle.template_nodes.specs.Template.{nodesOf}
+use Rattle.template_nodes.specs.Template.{nodes_of}
 use Rattle.template_nodes.proofs.Nodes.{small-nodes}
 use Rattle.line_buffers.proofs.Puts.{put-size}
 use Rattle.replay.proofs.Nodes.{Listed, begun, ended, more, node-is}
@@ -13,7 +13,7 @@ use Rattle.replay.proofs.questions.put_nodes.Statement.{statement}
 use Rattle.replay.proofs.questions.put_nodes.Tie as tie
 
 abbrev invariant-loop : tie.invariant-loop
-invariant-loop t out₀ at nodes count next₀ i₀ out next i = Listed (nodesOf t) out₀ at i out next
+invariant-loop t out₀ at nodes count next₀ i₀ out next i = Listed (nodes_of t) out₀ at i out next
 
 abbrev decreases-loop : tie.decreases-loop
 decreases-loop t out₀ at nodes count next₀ i₀ out next i = count - i

@@ -3,14 +3,14 @@ use mathlib.Core.Path.{◌≡◌}
 use native.Mathlib.Omega.{arith}
 use borrow.Author.Rules.{rules}
 use lib.ListN.{length, length-take}
-use Rattle.replay.specs.Answers.{templateText}
+use Rattle.replay.specs.Answers.{template_text}
 use Rattle.replay.proofs.Texts.{read_as, part-is, part-fits}
 use Rattle.replay.proofs.questions.put_template.Statement.{statement}
 use Rattle.replay.proofs.questions.put_template.Tie as tie
 
 -- no text
 returns : tie.Need-returns
-unfolding templateText
+unfolding template_text
 returns c = rw (read_as c.before.before.before.before.before.before.read-bytes.ensures c.before.before.before.before.if1.true) c.before.before.unknown.ensures
 
 -- the text is within the buffer
@@ -25,7 +25,7 @@ put-nodes-requires c κs =
 
 -- a template
 returns-2 : tie.Need-returns-2
-unfolding templateText
+unfolding template_text
 returns-2 c =
     let read = c.before.before.before.before.before.before.before.before.read-bytes.ensures in
     let ok = c.before.before.before.before.before.before.if1.false in

@@ -6,19 +6,19 @@ use native.Mathlib.Omega.{arith}
 use borrow.Author.Rules.{rules}
 use borrow.Author.Tests.{not-true, not-false}
 use lib.ListN.{length}
-use Rattle.base_settings.specs.Bits.{settingsOf}
-use Rattle.base_settings.specs.Limits.{templateLimit}
+use Rattle.base_settings.specs.Bits.{settings_of}
+use Rattle.base_settings.specs.Limits.{template_limit}
 use Rattle.base_settings.proofs.Most.{template-most}
 use Rattle.sorbilgan.proofs.Compiling.{long, ill-formed, parsed}
 use Rattle.sorbilgan.proofs.with_settings.sorbilgan_compile_with.Statement.{statement}
 use Rattle.sorbilgan.proofs.with_settings.sorbilgan_compile_with.Tie as tie
 
 -- the limit is that of the settings
-limit : (c : tie.After-template-limit) → c.template-limit.result ≡ templateLimit (settingsOf c.before.before.before.args.settings)
-limit c = c.template-limit.ensures ∙ ap templateLimit c.before.settings-of.ensures
+limit : (c : tie.After-template-limit) → c.template-limit.result ≡ template_limit (settings_of c.before.before.before.args.settings)
+limit c = c.template-limit.ensures ∙ ap template_limit c.before.settings-of.ensures
 
 -- the template is within it
-short : (c : tie.Else1) → length c.before.before.before.before.args.t.now ≤ templateLimit (settingsOf c.before.before.before.before.args.settings)
+short : (c : tie.Else1) → length c.before.before.before.before.args.t.now ≤ template_limit (settings_of c.before.before.before.before.args.settings)
 short c = omega (arith, limit c.before)
 
 -- over the limit: -1
@@ -35,7 +35,7 @@ returns-2 c =
 parse-format-requires : tie.Need-parse-format-requires
 parse-format-requires c κs =
     let within-limit = c.before.before.before in
-    (omega (arith, short within-limit, template-most (settingsOf within-limit.before.before.before.before.args.settings)), omega arith)
+    (omega (arith, short within-limit, template-most (settings_of within-limit.before.before.before.before.args.settings)), omega arith)
 
 -- the bytes of the nodes
 returns-3 : tie.Need-returns-3

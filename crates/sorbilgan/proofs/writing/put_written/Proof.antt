@@ -7,7 +7,7 @@ use borrow.Author.Rules.{rules}
 use mir.Facts.{to_z_pos}
 use mir.Syntax.{w64}
 use Rattle.sorbilgan_records.proofs.Values.{value-recorded}
-use Rattle.sorbilgan.specs.Writing.{writtenRecord}
+use Rattle.sorbilgan.specs.Writing.{written_record}
 use Rattle.sorbilgan.proofs.writing.put_written.Statement.{statement}
 use Rattle.sorbilgan.proofs.writing.put_written.Tie as tie
 
@@ -16,18 +16,18 @@ length-fits c = c.before.before.requires _ c.w.given.1
 
 -- a text was written
 returns : tie.Need-returns
-unfolding writtenRecord
+unfolding written_record
 returns c =
     let after-alone = c.before.before in
     let at_length = after-alone.before.before in
-    value-recorded after-alone.alone.ensures (to_z_pos w64 (length-fits at_length)) (ap writtenRecord at_length.w.given.1) c.put-value.ensures
+    value-recorded after-alone.alone.ensures (to_z_pos w64 (length-fits at_length)) (ap written_record at_length.w.given.1) c.put-value.ensures
 
 -- a refusal
 returns-2 : tie.Need-returns-2
-unfolding writtenRecord
+unfolding written_record
 returns-2 c =
     let after-report = c.before.before in
-    value-recorded after-report.report-of.ensures refl (ap writtenRecord after-report.before.before.w2.given.1) c.put-value2.ensures
+    value-recorded after-report.report-of.ensures refl (ap written_record after-report.before.before.w2.given.1) c.put-value2.ensures
 
 pub put-written-spec : {M : Type 1} → statement M
 put-written-spec =

@@ -9,32 +9,32 @@ use native.Mathlib.Omega.{arith}
 use borrow.Author.Rules.{rules}
 use lib.ListN.{length, drop, get_or, drop_of_length-le}
 use lib.Seq.{drop-cons}
-use Rattle.template_nodes.specs.Bytes.{nodesIn}
-use Rattle.template_nodes.specs.Joined.{hasLoneMark, isMark}
-use Rattle.template_nodes.specs.Template.{endNode}
+use Rattle.template_nodes.specs.Bytes.{nodes_in}
+use Rattle.template_nodes.specs.Joined.{has_lone_mark, is_mark}
+use Rattle.template_nodes.specs.Template.{end_node}
 use Rattle.template_nodes.specs.declared.Node.{Node}
 use Rattle.template_nodes.proofs.Encoding.{nodes-length}
 use Rattle.template_nodes.proofs.marks.has_lone_mark.Statement.{statement}
 use Rattle.template_nodes.proofs.marks.has_lone_mark.Tie as tie
 
 abbrev invariant-loop : tie.invariant-loop
-invariant-loop c t count i₀ i = hasLoneMark t (drop i (nodesIn c)) ≡ hasLoneMark t (nodesIn c)
+invariant-loop c t count i₀ i = has_lone_mark t (drop i (nodes_in c)) ≡ has_lone_mark t (nodes_in c)
 
 abbrev decreases-loop : tie.decreases-loop
 decreases-loop c t count i₀ i = count - i
 
 -- the node at i, and those after it
 module _ (t : List ℕ) (ns : List Node) (i : ℕ) (h : i < length ns) where
-  this-one : isMark t (get_or ns i endNode) ≡ true → hasLoneMark t (drop i ns) ≡ true
-  unfolding hasLoneMark
-  this-one e = rw (drop-cons ns i endNode h, e)
+  this-one : is_mark t (get_or ns i end_node) ≡ true → has_lone_mark t (drop i ns) ≡ true
+  unfolding has_lone_mark
+  this-one e = rw (drop-cons ns i end_node h, e)
 
-  another : isMark t (get_or ns i endNode) ≡ false → hasLoneMark t (drop i ns) ≡ hasLoneMark t (drop (suc i) ns)
-  unfolding hasLoneMark
-  another e = rw (drop-cons ns i endNode h, e)
+  another : is_mark t (get_or ns i end_node) ≡ false → has_lone_mark t (drop i ns) ≡ has_lone_mark t (drop (suc i) ns)
+  unfolding has_lone_mark
+  another e = rw (drop-cons ns i end_node h, e)
 
-none_left : (t : List ℕ) (ns : List Node) (i : ℕ) → length ns ≤ i → hasLoneMark t (drop i ns) ≡ false
-unfolding hasLoneMark
+none_left : (t : List ℕ) (ns : List Node) (i : ℕ) → length ns ≤ i → has_lone_mark t (drop i ns) ≡ false
+unfolding has_lone_mark
 none_left t ns i h = rw (drop_of_length-le ns h)
 
 -- a mark
@@ -42,7 +42,7 @@ returns : tie.Need-returns invariant-loop decreases-loop
 returns c =
     let at-loop = c.before.before.before.before in
     let args = at-loop.before.before.before.args in
-    let ns = nodesIn args.c.now in
+    let ns = nodes_in args.c.now in
     let i = at-loop.loop.i in
     let inside : i < length ns = omega (arith, nodes-length args.c.now) in
     sym (sym at-loop.loop.invariant ∙ this-one args.t.now ns i inside (rw (← c.before.before.Node-at.ensures) (sym c.before.is-lone-mark.ensures ∙ c.if1.true)))
@@ -52,7 +52,7 @@ loop-again : tie.Need-loop-preserved invariant-loop decreases-loop
 loop-again c =
     let at-loop = c.before.before.before.before in
     let args = at-loop.before.before.before.args in
-    let ns = nodesIn args.c.now in
+    let ns = nodes_in args.c.now in
     let i = at-loop.loop.i in
     let inside : i < length ns = omega (arith, nodes-length args.c.now) in
     rw add-one (sym (another args.t.now ns i inside (rw (← c.before.before.Node-at.ensures) (sym c.before.is-lone-mark.ensures ∙ c.if1.false))) ∙ at-loop.loop.invariant)
@@ -62,7 +62,7 @@ returns-2 : tie.Need-returns-2 invariant-loop decreases-loop
 returns-2 c =
     let at-loop = c.before in
     let args = at-loop.before.before.before.args in
-    let ns = nodesIn args.c.now in
+    let ns = nodes_in args.c.now in
     let i = at-loop.loop.i in
     sym (sym at-loop.loop.invariant ∙ none_left args.t.now ns i (omega (arith, nodes-length args.c.now)))
 

@@ -3,17 +3,17 @@
 use mathlib.Core.Path.{◌≡◌, ◌∙◌, refl, sym, ap}
 use Prim.Native.Nat.{ℕ}
 use Rattle.base_notation.proofs.Table.{past_all}
-use Rattle.template_patterns.specs.Numbers.{nameNumber}
+use Rattle.template_patterns.specs.Numbers.{name_number}
 use Rattle.template_patterns.proofs.Keys.{past-numbers}
 use Rattle.template_patterns.proofs.numbers.name_of.Statement.{statement}
 use Rattle.template_patterns.proofs.numbers.name_of.Tie as tie
 
 -- the arm of the pattern i
-arm : (i : ℕ) {k x : ℕ} → k ≡ i → x ≡ nameNumber i → x ≡ nameNumber k
-arm i e is = is ∙ ap nameNumber (sym e)
+arm : (i : ℕ) {k x : ℕ} → k ≡ i → x ≡ name_number i → x ≡ name_number k
+arm i e is = is ∙ ap name_number (sym e)
 
 pub name-of-spec : {M : Type 1} → statement M
-unfolding nameNumber
+unfolding name_number
 name-of-spec =
     tie.close
     (tie.spec

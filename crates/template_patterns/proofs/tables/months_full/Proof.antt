@@ -1,12 +1,12 @@
 -- `template_patterns::tables::months_full` meets its contract: the constant is the table, by computing it.
 -- Assumes nothing.
 use mathlib.Core.Path.{refl}
-use Rattle.template_patterns.specs.Words.{wordTable}
+use Rattle.template_patterns.specs.Words.{word_table}
 use Rattle.template_patterns.proofs.tables.months_full.Statement.{statement}
 use Rattle.template_patterns.proofs.tables.months_full.Tie as tie
 
 returns : tie.Need-returns
-unfolding wordTable
+unfolding word_table
 returns c = refl
 
 pub months-full-spec : {M : Type 1} → statement M

@@ -1,12 +1,12 @@
 -- `template_patterns::tables::words` meets its contract: each constant is its list's table, by computing it.
 -- Assumes nothing.
 use borrow.Author.Rules.{rules}
-use Rattle.template_patterns.specs.Words.{wordTable}
+use Rattle.template_patterns.specs.Words.{word_table}
 use Rattle.template_patterns.proofs.tables.words.Statement.{statement}
 use Rattle.template_patterns.proofs.tables.words.Tie as tie
 
 pub words-spec : {M : Type 1} → statement M
-unfolding wordTable
+unfolding word_table
 words-spec =
     tie.close
     (tie.spec

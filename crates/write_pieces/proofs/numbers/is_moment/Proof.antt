@@ -8,9 +8,9 @@ use mir.Facts.{to_z-of_z}
 use mir.Syntax.{w32}
 use mir.Val.{SFits}
 use Rattle.calendar_gregorian.specs.Civil.{length_of}
-use Rattle.calendar_gregorian.specs.Gregorian.{isLeap}
+use Rattle.calendar_gregorian.specs.Gregorian.{is_leap}
 use Rattle.base_wrapping.proofs.Fits.{read, returned}
-use Rattle.write_pieces.specs.Moment.{isMoment, within}
+use Rattle.write_pieces.specs.Moment.{is_moment, within}
 use Rattle.write_pieces.proofs.numbers.is_moment.Statement.{statement}
 use Rattle.write_pieces.proofs.numbers.is_moment.Tie as tie
 
@@ -49,7 +49,7 @@ back z fits = to_z-of_z fits
 year : (c : tie.After-in-range) → c.in-range.result ≡ within (pos 1) (pos 9999) (start1 c).args.m.year
 year c = simp (back (start1 c).args.m.year (search rules)) at c.in-range.ensures
 
-day : (c : tie.After-in-range2) → c.in-range2.result ≡ within (pos 1) (pos (length_of (isLeap (nat_abs (start2 c).args.m.year)) (start2 c).args.m.month)) (start2 c).args.m.day
+day : (c : tie.After-in-range2) → c.in-range2.result ≡ within (pos 1) (pos (length_of (is_leap (nat_abs (start2 c).args.m.year)) (start2 c).args.m.month)) (start2 c).args.m.day
 day c =
     let m = (start2 c).args.m in
     let at_length = c.before.before in
@@ -71,19 +71,19 @@ micros c = simp (back (start6 c).args.m.micros (search rules)) at c.in-range6.en
 
 -- the year is out of range
 returns : tie.Need-returns
-unfolding isMoment
+unfolding is_moment
 returns c = rw (said (year c.before) c.if1.true)
 
 -- the month does not have the day
 returns-2 : tie.Need-returns-2
-unfolding isMoment
+unfolding is_moment
 returns-2 c =
     let at-year = c.before.before.before.before.before.before.before in
     rw (said (year at-year.before) at-year.if1.false, said (day c.before) c.if2.true)
 
 -- the hour is out of range
 returns-3 : tie.Need-returns-3
-unfolding isMoment
+unfolding is_moment
 returns-3 c =
     let at-day = c.before.before.before in
     let at-year = at-day.before.before.before.before.before.before.before in
@@ -91,7 +91,7 @@ returns-3 c =
 
 -- the minute is out of range
 returns-4 : tie.Need-returns-4
-unfolding isMoment
+unfolding is_moment
 returns-4 c =
     let at-hour = c.before.before.before in
     let at-day = at-hour.before.before.before in
@@ -105,7 +105,7 @@ returns-4 c =
 
 -- the second is out of range
 returns-5 : tie.Need-returns-5
-unfolding isMoment
+unfolding is_moment
 returns-5 c =
     let at-minute = c.before.before.before in
     let at-hour = at-minute.before.before.before in
@@ -121,7 +121,7 @@ returns-5 c =
 
 -- the microsecond decides
 returns-6 : tie.Need-returns-6
-unfolding isMoment
+unfolding is_moment
 returns-6 c =
     let at_second = c.before.before in
     let at-minute = at_second.before.before.before in

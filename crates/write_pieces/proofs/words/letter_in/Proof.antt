@@ -7,16 +7,16 @@ use borrow.Author.Rules.{rules}
 use Rattle.base_chars.specs.Fold.{folded, raised}
 use Rattle.template_patterns.specs.declared.Case.{Case}
 use Rattle.template_patterns.specs.declared.Case.TheVariants.{Title}
-use Rattle.write_pieces.specs.Words.{letterIn}
+use Rattle.write_pieces.specs.Words.{letter_in}
 use Rattle.write_pieces.proofs.words.letter_in.Statement.{statement}
 use Rattle.write_pieces.proofs.words.letter_in.Tie as tie
 
 -- title case, where r is the letter that is returned
 module _ (case : Case) (title : case ≡ Title) (first : Bool) (b r : ℕ) where
-  first-letter : first ≡ true → r ≡ raised b → r ≡ letterIn case first b
+  first-letter : first ≡ true → r ≡ raised b → r ≡ letter_in case first b
   first-letter e is = rw (title, e) is
 
-  other-letter : first ≡ false → r ≡ folded b → r ≡ letterIn case first b
+  other-letter : first ≡ false → r ≡ folded b → r ≡ letter_in case first b
   other-letter e is = rw (title, e) is
 
 -- title case, the first letter

@@ -8,7 +8,7 @@ use native.Mathlib.Omega.{arith}
 use borrow.Author.Rules.{rules}
 use lib.ListN.{length, length-set}
 use Rattle.base_notation.specs.Choice.{if◌then◌else◌}
-use Rattle.write_pieces.specs.Words.{letterIn}
+use Rattle.write_pieces.specs.Words.{letter_in}
 use Rattle.write_pieces.proofs.Markers.{half, marker-size, marker-some, plain-put, dotted-put}
 use Rattle.write_pieces.proofs.words.put_marker.Statement.{statement}
 use Rattle.write_pieces.proofs.words.put_marker.Tie as tie
@@ -21,7 +21,7 @@ chosen c = (elim c.if1.branch [ inl w ↦ rw w.0.taken w.1 | inr w ↦ rw w.0.le
 first : (c : tie.After-letter-in2) → let args = c.before.before.before.before.args in c.letter-in2.result ≡ half args.case args.morning
 first c =
     let args = c.before.before.before.before.args in
-    c.letter-in2.ensures ∙ ap (letterIn args.case true) (chosen c.before.before)
+    c.letter-in2.ensures ∙ ap (letter_in args.case true) (chosen c.before.before)
 
 -- there is room for two bytes
 two : (c : tie.After-letter-in2) → let args = c.before.before.before.before.args in args.at + 1 < length args.out.now

@@ -6,7 +6,7 @@ use Prim.Native.Nat.{ℕ, ◌+◌, ◌-◌, ◌*◌}
 use native.Mathlib.Omega.{arith}
 use borrow.Author.Rules.{rules}
 use lib.ListN.{length, take, drop}
-use Rattle.write_pieces.specs.Words.{inCase, monthText}
+use Rattle.write_pieces.specs.Words.{in_case, month_text}
 use Rattle.write_pieces.proofs.Cased.{cased-size}
 use Rattle.write_pieces.proofs.Months.{name-part}
 use Rattle.write_pieces.proofs.Puts.{put_same}
@@ -21,7 +21,7 @@ part c =
 
 -- in the case it is the name
 named : (c : tie.After-name-length) → let args = c.before.before.before.args in
-    inCase args.case (part c) ≡ monthText args.case args.full args.month
+    in_case args.case (part c) ≡ month_text args.case args.full args.month
 named c =
     let at-start = c.before.before.before in
     let args = at-start.args in

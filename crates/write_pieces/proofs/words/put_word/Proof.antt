@@ -7,7 +7,7 @@ use native.Mathlib.Nat.{add-zero}
 use borrow.Author.Rules.{rules}
 use lib.ListN.{length, drop}
 use lib.Seq.{sets}
-use Rattle.write_pieces.specs.Words.{inCase}
+use Rattle.write_pieces.specs.Words.{in_case}
 use Rattle.write_pieces.proofs.Cased.{cased-size, next-letter}
 use Rattle.write_pieces.proofs.Puts.{no_byte}
 use Rattle.write_pieces.proofs.words.put_word.Statement.{statement}
@@ -15,7 +15,7 @@ use Rattle.write_pieces.proofs.words.put_word.Tie as tie
 
 abbrev invariant-loop : tie.invariant-loop
 invariant-loop word case out₀ at i₀ out i =
-    (i ≤ length word) × (length out ≡ length out₀) × (sets out (at + i) (drop i (inCase case word)) ≡ sets out₀ at (inCase case word))
+    (i ≤ length word) × (length out ≡ length out₀) × (sets out (at + i) (drop i (in_case case word)) ≡ sets out₀ at (in_case case word))
 
 abbrev decreases-loop : tie.decreases-loop
 decreases-loop word case out₀ at i₀ out i = length word - i
@@ -33,7 +33,7 @@ returns : tie.Need-returns invariant-loop decreases-loop
 returns c =
     let at-loop = c.before in
     let args = at-loop.before.before.before.args in
-    let text = inCase args.case args.word.now in
+    let text = in_case args.case args.word.now in
     let done : at-loop.loop.i ≡ length text = omega (arith, cased-size args.case args.word.now) in
     record {
       is = sym (no_byte at-loop.loop.out args.at text at-loop.loop.i done) ∙ at-loop.loop.invariant.2;

@@ -1,0 +1,72 @@
+#!/usr/bin/env python3
+"""Respells the names of definitions and lemmas that are left in camel case, by the table respell.tsv beside this file.
+
+usage: tools/respell.py [FOLDER]
+
+FOLDER is the top of a checkout, this one if none is given. Below its crates/ every .rt, .antt and .edit file is
+rewritten in place, and of a text in quotes nothing. Four lemmas whose names would fall together with a definition's get
+`_lem` first. A second run changes nothing.
+"""
+
+import os
+import re
+import sys
+
+HERE = os.path.dirname(os.path.realpath(__file__))
+NOT_IN_A_NAME = r"(?<![A-Za-z0-9_'ℤ₀₁₂]){}(?![A-Za-z0-9_'ℤ₀₁₂])"
+
+# The lemma, the files that name it, and its new name.
+LEMMAS = [
+    ("is_digit", ["base_strtol/proofs/Decimals.antt"]),
+    ("numbers_of", ["line_questions/proofs/Counts.antt"]),
+    ("no_place", ["line_questions/proofs/Places.antt", "line_questions/proofs/read_place/Proof.antt"]),
+    ("any_of", ["readback/proofs/Groups.antt"]),
+]
+
+
+def read(path):
+    with open(path, encoding="utf-8", newline="") as file:
+        return file.read()
+
+
+def write(path, text):
+    with open(path, "w", encoding="utf-8", newline="") as file:
+        file.write(text)
+
+
+def outside_quotes(text, turn):
+    """The text with its parts outside quotes turned."""
+    return "".join(part if k % 2 else turn(part) for k, part in enumerate(re.split(r'("(?:[^"\\\n]|\\.)*")', text)))
+
+
+def lemmas_apart(crates):
+    for name, files in LEMMAS:
+        for file in files:
+            path = os.path.join(crates, file)
+            if not os.path.isfile(path):
+                continue
+            bare = re.compile(r"(?<![A-Za-z0-9_'.-])" + name + r"(?![A-Za-z0-9_'.-])")
+            write(path, outside_quotes(read(path), lambda part: bare.sub(name + "_lem", part)))
+
+
+def main():
+    top = sys.argv[1] if len(sys.argv) > 1 else os.path.dirname(HERE)
+    crates = os.path.join(top, "crates")
+    table = dict(line.split("\t") for line in read(os.path.join(HERE, "respell.tsv")).splitlines())
+    names = re.compile(NOT_IN_A_NAME.format("(" + "|".join(sorted(table, key=len, reverse=True)) + ")"))
+    done = any(names.search(read(os.path.join(crates, file))) for _, files in LEMMAS for file in files)
+    if done:
+        lemmas_apart(crates)
+    for folder, folders, files in os.walk(crates):
+        folders[:] = sorted(name for name in folders if name != "out")
+        for file in sorted(files):
+            if not file.endswith((".rt", ".antt", ".edit")):
+                continue
+            path = os.path.join(folder, file)
+            text = read(path)
+            turned = outside_quotes(text, lambda part: names.sub(lambda it: table[it.group(1)], part))
+            if turned != text:
+                write(path, turned)
+
+
+main()
