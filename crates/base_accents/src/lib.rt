@@ -1,4 +1,6 @@
 // Characters of a text in the accents mode: a letter with its accents is one.
+#![tactic(auto)]
+
 ghost use Rattle.std.specs.Prelude.{true, ◌≡◌, ◌+◌, drop};
 ghost use Rattle.base_chars.specs.Range.{◌‥◌, ◌∈◌};
 ghost use Rattle.base_accents.specs.Accents.{Counted, letter_at, mark_at, marks};

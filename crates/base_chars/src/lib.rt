@@ -1,4 +1,6 @@
 // Bytes and characters of a text in UTF-8.
+#![tactic(auto)]
+
 ghost use Rattle.std.specs.Prelude.{[], ◌∷◌, ◌≡◌, ◌||◌, ◌+◌, ◌/◌, ◌<◌, ◌≤◌, length, take, drop};
 ghost use Rattle.std.specs.Int.Count.{count_trailing_zeros};
 ghost use Rattle.base_notation.specs.Choice.{if◌then◌else◌};

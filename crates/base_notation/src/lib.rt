@@ -1,4 +1,6 @@
 // The notation that every crate's definitions share (specs/), its laws (proofs/), and bytes by their place.
+#![tactic(auto)]
+
 ghost use Rattle.std.specs.Prelude.{◌≡◌, ◌-◌, min};
 ghost use Rattle.base_notation.specs.Text.{byte_at};
 

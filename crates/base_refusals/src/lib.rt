@@ -1,9 +1,11 @@
 // The refusals, and the numbers by which users know each.
+#![tactic(auto)]
+
 ghost use Rattle.std.specs.Prelude.{◌≡◌, pos};
 ghost use Rattle.base_refusals.specs.Report.{no_pattern, report, report_of};
 
 // Why a line is refused. A pattern is given by its number in the table of patterns.
-#[derive(Drop)]
+#[derive(Clone, Copy)]
 pub enum Refusal {
     // The template or the input is over its limit.
     TooLong,
@@ -40,7 +42,7 @@ pub enum Refusal {
 }
 
 // A refusal as numbers. Without a pattern it has 112; a figure that it does not have is 0.
-#[derive(Drop)]
+#[derive(Clone, Copy)]
 pub struct Report {
     pub number: u8,
     pub pattern: u8,

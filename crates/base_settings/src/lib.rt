@@ -1,16 +1,18 @@
 // What differs from caller to caller: the limits of a template and of an input, the strict switch, the accents mode.
+#![tactic(auto)]
+
 ghost use Rattle.std.specs.Prelude.{◌≡◌, min};
 ghost use Rattle.base_settings.specs.Bits.{accents_of, limits_of, settings_of, strict_of};
 ghost use Rattle.base_settings.specs.Limits.{input_limit, pages, template_limit};
 
 // The longest template and the longest input, in bytes.
-#[derive(Drop)]
+#[derive(Clone, Copy)]
 pub struct Limits {
     pub template: usize,
     pub input: usize,
 }
 
-#[derive(Drop)]
+#[derive(Clone, Copy)]
 pub struct Settings {
     pub limits: Limits,
     // The strict switch: without a year, a day that its month never has is refused.

@@ -1,10 +1,12 @@
 // Numbers as C's strtol reads them.
+#![tactic(auto)]
+
 ghost use Rattle.std.specs.Prelude.{true, ◌≡◌, ◌+◌, ◌≤◌, drop};
 ghost use Rattle.base_strtol.specs.Runs.{spaces};
 ghost use Rattle.base_strtol.specs.Strtol.{Pair, minus, signs, limit, signed, digits_read, strtol, short_at};
 
 // What is read: the number, the place after it, and whether it was outside 64 bits.
-#[derive(Drop)]
+#[derive(Clone, Copy)]
 pub struct Strtol {
     pub value: i64,
     pub end: usize,
@@ -12,7 +14,7 @@ pub struct Strtol {
 }
 
 // The digits at a place: their number, or the limit where it is beyond that, and the place after them.
-#[derive(Drop)]
+#[derive(Clone, Copy)]
 struct Run {
     value: u64,
     end: usize,
@@ -102,7 +104,7 @@ fn digits_at(s: &[u8], at: usize, neg: bool) -> Run
 }
 
 // A number of few digits, right at a place, and the place after it.
-#[derive(Drop)]
+#[derive(Clone, Copy)]
 pub struct Short {
     pub value: u32,
     pub end: usize,

@@ -1,4 +1,6 @@
 // The proleptic Gregorian calendar: leap years, month lengths, days of the year, days since 1970-01-01.
+#![tactic(auto)]
+
 ghost use Rattle.std.specs.Prelude.{◌≡◌, ◌-◌, min, pos, nat_abs, ◌+ℤ◌};
 ghost use Rattle.calendar_gregorian.specs.Gregorian.{is_leap, before_year};
 ghost use Rattle.calendar_gregorian.specs.Civil.{length_of, month_of, days_before, day_of_year_ℤ, month_of_day, days_from_civil};

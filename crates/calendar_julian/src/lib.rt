@@ -1,4 +1,6 @@
 // PostgreSQL's Julian days and ISO weeks, in 32-bit arithmetic that wraps.
+#![tactic(auto)]
+
 ghost use Rattle.std.specs.Prelude.{◌≡◌, ◌<◌};
 ghost use Rattle.calendar_julian.specs.ToDay.{from_march, date2j};
 ghost use Rattle.calendar_julian.specs.ToDate.{with_skipped, day_from_march, j2date};
@@ -7,7 +9,7 @@ ghost use Rattle.calendar_julian.specs.Week.{j2day, week_one, isoweek2j, counted
 use base_wrapping::{bits, wrapping_add, wrapping_mul, wrapping_sub};
 use std::num::wrapping_add_u32;
 
-#[derive(Drop)]
+#[derive(Clone, Copy)]
 pub struct Date {
     pub year: i32,
     pub month: i32,

@@ -1,6 +1,8 @@
 // Reads lines and answers each with a line, by the mode that its argument names. The answers to all lines that were
 // read are written before more is read. What cannot be read or written is reported on standard error, and ends the
 // program.
+#![tactic(auto)]
+
 ghost use Rattle.std.specs.Prelude.{◌≡◌, false, ◌≤◌, ◌<◌, length, drop};
 ghost use Rattle.line_texts.specs.Texts.{NoneLeft, longest};
 
@@ -11,7 +13,7 @@ use line_texts::Choice;
 // What is left between two reads: the bytes kept of an unfinished line, whether its beginning was left off, whether
 // something failed, and how many reads may come. A proved loop has to end, and nothing says that the input does: so the
 // reads are counted.
-#[derive(Drop)]
+#[derive(Clone, Copy)]
 struct State {
     kept: usize,
     long: bool,
@@ -20,7 +22,7 @@ struct State {
 }
 
 // Where the input ends in its buffer after a read, unless it could not be read.
-#[derive(Drop)]
+#[derive(Clone, Copy)]
 struct Got {
     end: usize,
     failed: bool,
@@ -28,7 +30,7 @@ struct Got {
 
 // What is left of a text: its lines before `from` are answered, unless the answers could not be written. `long` says
 // that the next line began before the text.
-#[derive(Drop)]
+#[derive(Clone, Copy)]
 struct Rest {
     from: usize,
     long: bool,

@@ -1,5 +1,7 @@
 // Goes through every day of the years 1 to 9999, and prints how many there are and a checksum of what the calendar's
 // functions say of each, as compare/days.py does by another calendar.
+#![tactic(auto)]
+
 ghost use Rattle.std.specs.Prelude.{◌≡◌, ◌*◌, ◌%◌, ◌^◌};
 ghost use Rattle.std.specs.Int.{w64};
 ghost use Rattle.std.proofs.Common.{of_z};
@@ -80,7 +82,7 @@ fn take_day(h: u64, julian_day: i32) -> u64 {
     take_counts(take_week(named, date, weekday), date)
 }
 
-#[derive(Drop)]
+#[derive(Clone, Copy)]
 struct Days {
     count: u64,
     checksum: u64,

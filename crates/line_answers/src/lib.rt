@@ -1,4 +1,6 @@
 // The answer to a line of input, by the mode.
+#![tactic(auto)]
+
 mod answers;
 mod items;
 mod moments;
@@ -9,7 +11,7 @@ ghost use Rattle.line_answers.specs.Lines.{Answered, answer_line, counted, pair_
 use base_refusals::Refusal;
 
 // What a line is answered with.
-#[derive(Drop)]
+#[derive(Clone, Copy)]
 pub enum Mode {
     // Lines "template TAB input": the parts of the moment that is read, its instant, or its day.
     Parts,

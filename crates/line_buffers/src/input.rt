@@ -42,7 +42,7 @@ pub fn move_down(buf: &mut [u8], from: usize, to: usize) -> usize
 
 // What a buffer keeps for the next read: its first `count` bytes. `long` says that the line is longer than the buffer;
 // nothing is kept of it.
-#[derive(Drop)]
+#[derive(Clone, Copy)]
 pub struct Kept {
     pub count: usize,
     pub long: bool,

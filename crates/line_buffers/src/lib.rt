@@ -1,4 +1,6 @@
 // Lines of text in lent buffers: where they end, what is kept of an unfinished one, and the answers to them.
+#![tactic(auto)]
+
 mod input;
 mod output;
 

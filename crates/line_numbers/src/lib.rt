@@ -1,18 +1,20 @@
 // The items of a line: numbers, and bytes in hexadecimal digits.
+#![tactic(auto)]
+
 ghost use Rattle.std.specs.Prelude.{◌≡◌};
 ghost use Rattle.line_numbers.specs.Numbers.{number_of, narrowed, int_of, hex_digit, bytes_of};
 ghost use Rattle.line_buffers.specs.Output.{Put};
 
 use line_buffers::put_byte;
 
-#[derive(Drop)]
+#[derive(Clone, Copy)]
 pub enum Number {
     Value(i64),
     Malformed,
 }
 
 // A number of 32 bits.
-#[derive(Drop)]
+#[derive(Clone, Copy)]
 pub enum Int {
     Value(i32),
     Malformed,

@@ -1,4 +1,6 @@
 // The items of a question: numbers, a place in a text, and the bytes of a text in hexadecimal digits, `-` for none.
+#![tactic(auto)]
+
 ghost use Rattle.std.specs.Prelude.{◌≡◌, []};
 ghost use Rattle.line_numbers.specs.declared.Number.TheVariants.{Value};
 ghost use Rattle.line_questions.specs.Items.{ReadBytes, no_place, numbers, numbers_at, place_at, place_of};
@@ -6,7 +8,7 @@ ghost use Rattle.line_questions.specs.Items.{ReadBytes, no_place, numbers, numbe
 use line_numbers::{Int, Number};
 
 // The numbers of a question: `count` of them, none where an item is no number or there are more than three.
-#[derive(Drop)]
+#[derive(Clone, Copy)]
 pub struct Numbers {
     pub values: [i32; 3],
     pub count: usize,
@@ -42,14 +44,14 @@ pub fn read_numbers(line: &[u8], from: usize) -> Numbers
 }
 
 // Where a text is malformed, `count` is 0.
-#[derive(Drop)]
+#[derive(Clone, Copy)]
 pub struct Bytes {
     pub count: usize,
     pub malformed: bool,
 }
 
 // Where a place is malformed, its `end` is where its separator is.
-#[derive(Drop)]
+#[derive(Clone, Copy)]
 pub struct Place {
     pub at: usize,
     pub end: usize,

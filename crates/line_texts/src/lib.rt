@@ -1,4 +1,6 @@
 // Answers the lines of a text, in a mode that has a name.
+#![tactic(auto)]
+
 mod modes;
 
 ghost use Rattle.line_texts.specs.Texts.{AnswersLine, AnswersLines};
@@ -11,7 +13,7 @@ const LONGEST: usize = 515;
 
 // The lines of a text that are answered: `from` is where the next one begins, `at` where the answers end. `long` says
 // that the beginning of the next line was left off.
-#[derive(Drop)]
+#[derive(Clone, Copy)]
 pub struct Done {
     pub from: usize,
     pub at: usize,

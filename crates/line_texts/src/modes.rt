@@ -4,7 +4,7 @@ ghost use Rattle.line_texts.specs.Modes.{Chosen};
 use line_answers::Mode;
 
 // The mode of a name, if it is one.
-#[derive(Drop)]
+#[derive(Clone, Copy)]
 pub enum Choice {
     Of(Mode),
     Unknown,

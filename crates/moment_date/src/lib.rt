@@ -1,4 +1,6 @@
 // The date that fields make: the year, then a Julian day, weeks, the day and the month, the day of the year.
+#![tactic(auto)]
+
 mod date;
 
 use base_refusals::Refusal;
@@ -9,7 +11,7 @@ pub use date::{
 
 // The date so far: year, month and day, which of them are set (bits 1, 2 and 4), and the day of the month and of the
 // year that are still to be used.
-#[derive(Drop)]
+#[derive(Clone, Copy)]
 pub struct Days {
     pub year: i32,
     pub month: i32,
@@ -19,7 +21,7 @@ pub struct Days {
     pub ddd: i32,
 }
 
-#[derive(Drop)]
+#[derive(Clone, Copy)]
 pub enum Dated {
     Date(Days),
     Refused(Refusal),

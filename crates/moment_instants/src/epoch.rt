@@ -10,7 +10,7 @@ use moment_parts::{Parts, Unread};
 use moment_time::Offset;
 
 // Why there is no instant, or no day.
-#[derive(Drop)]
+#[derive(Clone, Copy)]
 pub enum Undated {
     Unread(Unread),
     // Outside 64 bits, or at one of their ends.
@@ -19,14 +19,14 @@ pub enum Undated {
     DateRange,
 }
 
-#[derive(Drop)]
+#[derive(Clone, Copy)]
 pub enum Instant {
     // Microseconds since 1970-01-01, UTC.
     Micros(i64),
     Refused(Undated),
 }
 
-#[derive(Drop)]
+#[derive(Clone, Copy)]
 pub enum Day {
     // Days since 1970-01-01.
     Number(i32),

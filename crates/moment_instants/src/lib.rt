@@ -1,4 +1,6 @@
 // The instant and the day that an input has by a template.
+#![tactic(auto)]
+
 mod epoch;
 
 ghost use Rattle.std.specs.Prelude.{◌≡◌};

@@ -1,4 +1,6 @@
 // The parts of a moment from the fields that a template read: do_to_timestamp of PostgreSQL's formatting.c.
+#![tactic(auto)]
+
 mod plain;
 
 ghost use Rattle.std.specs.Prelude.{◌≡◌, ◌&&◌, ◌≤◌, length};
@@ -20,7 +22,7 @@ use read_fields::{Fields, Verdict, field};
 use template_nodes::{NODE, NODES};
 
 // The marks say which of year, month and day are set (bits 1, 2 and 4).
-#[derive(Drop)]
+#[derive(Clone, Copy)]
 pub struct Parts {
     pub year: i32,
     pub month: i32,
@@ -35,14 +37,14 @@ pub struct Parts {
 }
 
 // Why there are no parts.
-#[derive(Drop)]
+#[derive(Clone, Copy)]
 pub enum Unread {
     By(Refusal),
     // Strict: month and day without a year, and the month never has the day.
     NoSuchDay,
 }
 
-#[derive(Drop)]
+#[derive(Clone, Copy)]
 pub enum Answer {
     Moment(Parts),
     Refused(Unread),

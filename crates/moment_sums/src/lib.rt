@@ -1,11 +1,13 @@
 // Sums and products that are refused outside 32 bits. The code compares before it adds and before it multiplies.
+#![tactic(auto)]
+
 ghost use Rattle.std.specs.Prelude.{◌≡◌, pos, ◌+ℤ◌, ◌*ℤ◌};
 ghost use Rattle.moment_sums.specs.Checked.{checked, ◌plus◌, ◌times◌};
 
 use base_refusals::Refusal;
 
 // A number, or why there is none.
-#[derive(Drop)]
+#[derive(Clone, Copy)]
 pub enum Value {
     Is(i32),
     Not(Refusal),

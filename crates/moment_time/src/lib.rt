@@ -1,4 +1,6 @@
 // The time of day, its fraction and the offset, from the fields that were read.
+#![tactic(auto)]
+
 ghost use Rattle.std.specs.Prelude.{◌≡◌, ◌&&◌};
 ghost use Rattle.moment_sums.specs.Within.{below};
 ghost use Rattle.moment_time.specs.Time.{◌or◌, hour_of, minute_of, second_of, hour_of_twelve, clock_hour, micros_of, time_in_range, checked_offset};
@@ -8,7 +10,7 @@ use base_wrapping::wrapping_add;
 use moment_sums::{Value, checked_mul};
 use read_fields::{Fields, field};
 
-#[derive(Drop)]
+#[derive(Clone, Copy)]
 pub enum Offset {
     Absent,
     // Seconds east of UTC.
@@ -16,7 +18,7 @@ pub enum Offset {
 }
 
 // An offset, or why there is none.
-#[derive(Drop)]
+#[derive(Clone, Copy)]
 pub enum Zoned {
     At(Offset),
     Refused(Refusal),

@@ -1,4 +1,6 @@
 // The year, from the year, the century and AD or BC. Year 0 is 1 BC.
+#![tactic(auto)]
+
 ghost use Rattle.std.specs.Prelude.{◌≡◌, pos};
 ghost use Rattle.std.specs.Int.Signed.{rem_z};
 ghost use Rattle.moment_year.specs.Year.{signed_by, plain_year, year_in_century, first_of_century, year_of};

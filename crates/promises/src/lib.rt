@@ -1,4 +1,6 @@
 // What is promised of the crates below (specs/), that it is kept (proofs/), and reading with all that holds of it.
+#![tactic(auto)]
+
 ghost use Rattle.promises.specs.Promises.{RightAndSafe};
 
 use base_settings::Settings;
@@ -6,7 +8,7 @@ use moment_instants::{Day, Instant};
 use moment_parts::Answer;
 
 // The three answers to an input.
-#[derive(Drop)]
+#[derive(Clone, Copy)]
 pub struct Readings {
     pub parts: Answer,
     pub instant: Instant,

@@ -19,7 +19,7 @@ use read_integers::ORDINAL;
 use template_nodes::{FN_ACTION, FN_CHAR, NODE, Node};
 
 // The next node, and the place before it.
-#[derive(Drop)]
+#[derive(Clone, Copy)]
 pub struct Passed {
     pub next: usize,
     pub place: Place,
@@ -38,7 +38,7 @@ fn reached(next: usize, at: usize) -> Passed
 }
 
 // Whether the lane took a pattern, and the place after it.
-#[derive(Drop)]
+#[derive(Clone, Copy)]
 struct Taken {
     taken: bool,
     place: Place,

@@ -1,4 +1,6 @@
 // Reading an input by the nodes of a template: dch_from_char of PostgreSQL's formatting.c.
+#![tactic(auto)]
+
 mod actions;
 mod lane;
 

@@ -1,4 +1,6 @@
 // Numbers of the input: of a width, of any width by what follows a pattern, and fields that are set twice.
+#![tactic(auto)]
+
 ghost use Rattle.std.specs.Prelude.{◌≡◌, ◌≤◌, length};
 ghost use Rattle.read_integers.specs.Number.{checked as checked_from, fixed_at, number_at, Found as Numbered};
 ghost use Rattle.read_integers.specs.Setting.{conflicts};
@@ -9,7 +11,7 @@ use base_strtol::Strtol;
 use template_nodes::Node;
 
 // A number and the place after it, or why there is none.
-#[derive(Drop)]
+#[derive(Clone, Copy)]
 pub enum Number {
     Read { value: i32, next: usize },
     Refused(Refusal),

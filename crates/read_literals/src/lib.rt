@@ -1,4 +1,6 @@
 // Where reading is in the input: spaces that are skipped, and literals of the template.
+#![tactic(auto)]
+
 ghost use Rattle.std.specs.Prelude.{true, ◌≡◌, ◌≤◌, pred, length};
 ghost use Rattle.read_literals.specs.Literals.{Payable, past_field, blank_passed, char_passed, entered_by, literal_passed, place, skipped};
 

@@ -1,4 +1,6 @@
 // Patterns that read a number, and a year with a comma.
+#![tactic(auto)]
+
 mod years;
 
 ghost use Rattle.std.specs.Prelude.{List, ◌≡◌, ◌<◌, ◌≤◌, ◌^◌, ℤ, pos, length};

@@ -9,7 +9,7 @@ use base_strtol::Strtol;
 use read_integers::Number;
 
 // Two numbers with a comma between them, cut to 32 bits, and the place after them.
-#[derive(Drop)]
+#[derive(Clone, Copy)]
 enum Scanned {
     Both {
         thousands: i32,

@@ -1,4 +1,6 @@
 // Patterns that read an offset: TZ, OF, TZH and TZM.
+#![tactic(auto)]
+
 ghost use Rattle.std.specs.Prelude.{◌&&◌, ◌≡◌, ◌<◌, ◌≤◌, eqb, length};
 ghost use Rattle.base_chars.specs.Class.{is_letter};
 ghost use Rattle.read_fields.specs.Fields.{fields_of, read_into};

@@ -10,7 +10,7 @@ ghost use Rattle.read_words.specs.Spelling.{word_at, Found as Spelled};
 use template_patterns::WordList;
 
 // A word by its index in its list, and its length.
-#[derive(Drop)]
+#[derive(Clone, Copy)]
 pub enum Word {
     At { index: usize, len: usize },
     Nothing,

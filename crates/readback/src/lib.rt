@@ -1,4 +1,6 @@
 // Writing a moment and reading it back: the promise that both keep, as the contract of one function.
+#![tactic(auto)]
+
 ghost use Rattle.std.specs.Prelude.{◌≡◌, length};
 ghost use Rattle.write_text.specs.declared.Written.TheVariants.{Length};
 ghost use Rattle.readback.specs.ReadBack.{WroteAndRead, read_again};
@@ -9,7 +11,7 @@ use moment_parts::Answer;
 use write_pieces::Moment;
 use write_text::{Unwritten, Written};
 
-#[derive(Drop)]
+#[derive(Clone, Copy)]
 pub enum Again {
     // The text's length, and the three answers to it.
     Read {

@@ -1,5 +1,7 @@
 // Answers questions about the ported functions: each line of standard input is one, and its answer is a line. A
 // question that is unknown or malformed is answered by `?`.
+#![tactic(auto)]
+
 mod questions;
 
 ghost use Rattle.std.specs.Prelude.{◌≤◌, ◌<◌, length};
@@ -11,7 +13,7 @@ const LONGEST: usize = 4096;
 
 // Where the answers to the lines of a text end: in the text, and in the buffer. `long` says that the next line began
 // before the text.
-#[derive(Drop)]
+#[derive(Clone, Copy)]
 struct Answered {
     from: usize,
     at: usize,
@@ -21,7 +23,7 @@ struct Answered {
 // What is left between two reads: the bytes kept of an unfinished line, whether it is too long, the answers not yet
 // written, and how many reads may come. A proved loop has to end, and nothing says that the input does: so the reads
 // are counted.
-#[derive(Drop)]
+#[derive(Clone, Copy)]
 struct State {
     kept: usize,
     long: bool,

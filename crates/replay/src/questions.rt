@@ -20,7 +20,7 @@ const TEMPLATE: usize = 256;
 const LINE: usize = 1024;
 
 // The numbers of an answer; none where the question is unknown or malformed.
-#[derive(Drop)]
+#[derive(Clone, Copy)]
 enum Values {
     One(i64),
     Three(i64, i64, i64),

@@ -1,6 +1,8 @@
 // The functions that other languages call. None asks anything of its caller.
 // Reading and writing fill a record of 64-bit numbers and return its first: 0, or the number of the refusal.
 // Each is there twice: with settings, and for the exercise pages, whose settings are 0.
+#![tactic(auto)]
+
 mod marks;
 mod names;
 mod version;

@@ -1,5 +1,7 @@
 // Answers as records of 64-bit numbers. Each function fills the record and returns its first entry: 0, or the number of
 // the refusal.
+#![tactic(auto)]
+
 ghost use Rattle.std.specs.Prelude.{[], ◌∷◌, ◌++◌, pos, replicate};
 ghost use Rattle.sorbilgan_records.specs.Records.{Recorded, accepted, date_time_entries, day_record, instant_record, parts_record, report_entries, value_record};
 ghost use Rattle.moment_parts.specs.Parts.{moment_of, then_fields};

@@ -1,4 +1,6 @@
 // The template compiler: parse_format of PostgreSQL's formatting.c for dates.
+#![tactic(auto)]
+
 mod kinds;
 mod marks;
 
@@ -27,7 +29,7 @@ pub const FN_SPACE: u8 = 4;
 
 // A pattern with the bits of its prefix and suffix, or one literal character. `start` and `len` say where its name or
 // its bytes are in the template; `pattern` is its number in the table; `accents` is the mode that it was made in.
-#[derive(Drop)]
+#[derive(Clone, Copy)]
 pub struct Node {
     pub len: u16,
     pub start: u8,
@@ -46,7 +48,7 @@ pub const NODE: usize = 6;
 pub const NODES: usize = 1536;
 
 // One step through a template: the node that it made, if any, where it ended, and whether it ended in quotes.
-#[derive(Drop)]
+#[derive(Clone, Copy)]
 pub struct Step {
     pub made: bool,
     pub node: Node,
@@ -143,7 +145,7 @@ fn past_affix(at: usize, bit: u8) -> usize
 
 // What is outside quotes at a place: a pattern with the bits of its prefix and suffix, and where what comes after it
 // is; or, where none is found, the place of the literal, after a prefix that is dropped.
-#[derive(Drop)]
+#[derive(Clone, Copy)]
 pub struct Element {
     pub found: bool,
     pub start: u8,

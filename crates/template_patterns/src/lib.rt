@@ -1,4 +1,6 @@
 // The tables of PostgreSQL's formatting.c: date patterns, the prefixes and suffixes of one, and word lists.
+#![tactic(auto)]
+
 mod numbers;
 mod tables;
 
@@ -19,7 +21,7 @@ pub const MODE_GREGORIAN: u8 = 1;
 pub const MODE_ISOWEEK: u8 = 2;
 
 // The case of a pattern's letters.
-#[derive(Drop)]
+#[derive(Clone, Copy)]
 pub enum Case {
     Capitals,
     Small,
@@ -28,7 +30,7 @@ pub enum Case {
 }
 
 // What is at a place of a template: a pattern, by its number in the table, and the length of its name; or none.
-#[derive(Drop)]
+#[derive(Clone, Copy)]
 pub enum Found {
     Pattern { number: usize, len: usize },
     Nothing,

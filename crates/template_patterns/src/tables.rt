@@ -43,7 +43,7 @@ const WORDS_ADBC_LONG: [u8; 108] =
 const WORDS_RM_MONTHS_LOWER: [u8; 108] =
     *b"xii      xi       x        ix       viii     vii      vi       v        iv       iii      ii       i        ";
 
-#[derive(Drop)]
+#[derive(Clone, Copy)]
 pub enum WordList {
     MonthsFull,
     MonthsAbbrev,

@@ -1,5 +1,7 @@
 // What is written for a pattern at a moment: a number of fixed width; or a marker of the half of the day or the name of
 // a month, in the pattern's case.
+#![tactic(auto)]
+
 mod numbers;
 mod output;
 mod words;
@@ -16,7 +18,7 @@ pub use output::put_bytes;
 use template_patterns::{Case, SUFFIX_FM};
 
 // A moment: seven numbers.
-#[derive(Drop)]
+#[derive(Clone, Copy)]
 pub struct Moment {
     pub year: i32,
     pub month: i32,

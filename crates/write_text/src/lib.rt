@@ -1,4 +1,6 @@
 // Writing a moment by a template.
+#![tactic(auto)]
+
 ghost use Rattle.std.specs.Prelude.{◌≡◌, true, ◌+◌, ◌≤◌, length};
 ghost use Rattle.std.proofs.lemmas.List.Edits.{sets};
 ghost use Rattle.template_nodes.specs.Bytes.{nodes_in};
@@ -15,7 +17,7 @@ use template_nodes::{FN_ACTION, NODE, NODES, Node};
 use write_pieces::Moment;
 
 // Why nothing is written.
-#[derive(Drop)]
+#[derive(Clone, Copy)]
 pub enum Unwritten {
     TooLong,
     NotUtf8,
@@ -27,7 +29,7 @@ pub enum Unwritten {
     NoRoom { needed: u32 },
 }
 
-#[derive(Drop)]
+#[derive(Clone, Copy)]
 pub enum Written {
     Length(usize),
     Refused(Unwritten),
