@@ -29,4 +29,4 @@ pub quot-back : (z : ℤ) (k : ℕ) → read (wrap32 z ÷ pos k) ≡ wrap32 z ÷
 quot-back z k = to_z-of_z (quot_fits (wrap32 z) k (wrap-fits z))
 
 pub returned : {r z : ℤ} → mag r < 2 ^ 31 → r ≡ z → read r ≡ z
-returned h e = to_z-of_z (sfits_of h) ∙ e
+returned h e = to_z-of_z {w = w32} (sfits_of h) ∙ e

@@ -15,7 +15,7 @@ pub up_fits : (z : ℤ) → SFits w32 (rem_z z (pos 7) +ℤ pos 7)
 up_fits z = omega (arith, rem-mag z, add-mag (rem_z z (pos 7)) (pos 7))
 
 pub rem-back : (z : ℤ) → read (rem_z z (pos 7)) ≡ rem_z z (pos 7)
-rem-back z = to_z-of_z (omega (arith, rem-mag z))
+rem-back z = to_z-of_z {w = w32} (omega (arith, rem-mag z))
 
 pub up-back : (z : ℤ) → read (rem_z z (pos 7) +ℤ pos 7) ≡ rem_z z (pos 7) +ℤ pos 7
 up-back z = to_z-of_z (up_fits z)

@@ -26,7 +26,7 @@ use Rattle.moment_instants.specs.Instant.{fits64}
 
 -- a call's result that fits, as its contract gives it
 pub returned : {r z : ℤ} → mag r < 2 ^ 63 → r ≡ z → to_z w64 (of_z w64 r) ≡ z
-returned h e = to_z-of_z (sfits_of h) ∙ e
+returned h e = to_z-of_z {w = w64} (sfits_of h) ∙ e
 
 pub times-mag : (z : ℤ) (k : ℕ) → mag (z *ℤ pos k) ≤ mag z * k + k
 times-mag (pos n) k = omega arith

@@ -52,7 +52,7 @@ next_fits (negsuc n) f e = mixed-fits 1 n (omega arith) (omega arith)
 
 -- a number that a match bound reads back as itself
 pub back : (z : ℤ) → mag z < 2 ^ 31 → read z ≡ z
-back z h = to_z-of_z (sfits_of h)
+back z h = to_z-of_z {w = w32} (sfits_of h)
 
 -- what fits does not wrap
 low-is : (z : ℤ) → SFits w32 z → low32 z ≡ of_z w32 z

@@ -1,7 +1,7 @@
 -- The fields that were read are numbers of 32 bits. Assumes nothing.
 -- `known`: each of them fits an i32, and so reads back from its bits as itself.
-use mathlib.Core.Path.{◌≡◌, subst}
-use mathlib.Core.List.{List, [], ◌∷◌, map, map-id}
+use mathlib.Core.Path.{◌≡◌}
+use mathlib.Core.List.{List, [], ◌∷◌}
 use Prim.Native.Nat.{ℕ, zero, suc}
 use native.Mathlib.Omega.{arith}
 use lib.IntN.{ℤ, pos}
@@ -35,6 +35,4 @@ pub known : (f : Fields) (vs : List Val) → Is (row fields-type) f vs → Known
 known f vs held = record { fits = fits; back = λ k. to_z-of_z (fits k) }
   where
     fits : (k : ℕ) → SFits w32 (get f k)
-    fits k =
-        each_fits f.values _ k
-        (subst (λ (xs : List ℤ). shadow (each ℤ (SInt w32).own_val xs held.1.1.0.0)) (map-id f.values) held.1.1.0.1.1)
+    fits k = each_fits f.values _ k held.1.1.0.1.1

@@ -6,8 +6,8 @@ use Rattle.base_notation.proofs.byte_at.Statement.{statement}
 use Rattle.base_notation.proofs.byte_at.Tie as tie
 
 -- past the end
-returns-2 : tie.Need-returns-2
-returns-2 c = sym (get_or-eq_default c.before.args.t.now 0 c.if1.false)
+returns-2 : tie.Need-returns-else-at-t
+returns-2 c = sym (get_or-eq_default c.before.args.t.now 0 c.if-at-t.false)
 
-pub byte-at-spec : {M : Type 1} → statement M
-byte-at-spec = tie.close (tie.spec (λ c. search rules) (λ c. search rules) returns-2)
+pub byte_at_spec : {M : Type 1} → statement M
+byte_at_spec = tie.close (tie.spec (λ c. search rules) (λ c. search rules) returns-2)
