@@ -6,14 +6,14 @@ use Rattle.base_accents.proofs.is_letter_at.Statement.{statement}
 use Rattle.base_accents.proofs.is_letter_at.Tie as tie
 
 -- ASCII
-returns : tie.Need-returns
+returns : tie.Need-returns-then-b-lt128
 unfolding letter_at
-returns c = rw (← c.before.before.byte_at.ensures, lt-ltb _ _ c.before.if1.true) c.is-alpha-c.ensures
+returns c = rw (← c.before.before.byte_at-b.ensures, lt-ltb _ _ c.before.if-b-lt128.true) c.is_alpha_c.ensures
 
 -- outside ASCII
-returns-2 : tie.Need-returns-2
+returns-2 : tie.Need-returns
 unfolding letter_at
-returns-2 c = rw (← c.before.before.byte_at.ensures, le-ltb _ _ c.before.if1.false, c.is-mark.ensures)
+returns-2 c = rw (← c.before.before.byte_at-b.ensures, le-ltb _ _ c.before.if-b-lt128.false, c.is_mark.ensures)
 
-pub is-letter-at-spec : {M : Type 1} → statement M
-is-letter-at-spec = tie.close (tie.spec (λ c κs. search rules) (λ c κs. search rules) returns (λ c κs. search rules) returns-2)
+pub is_letter_at_spec : {M : Type 1} → statement M
+is_letter_at_spec = tie.close (tie.spec (λ c κs. search rules) (λ c κs. search rules) returns (λ c κs. search rules) returns-2)

@@ -6,15 +6,15 @@ use Rattle.base_accents.proofs.Measures.{ascii-one, counted}
 use Rattle.base_accents.proofs.measure_usual.Statement.{statement}
 use Rattle.base_accents.proofs.measure_usual.Tie as tie
 
-returns : tie.Need-returns
+returns : tie.Need-returns-then-byte_at-lt-FIRST_LOW
 returns c =
     let after_next = c.before in
     let ascii = after_next.before in
     let within = ascii.before.before in
-    counted _ _ _ _ (sym (ascii-one _ _ _ within.if1.true ascii.if2.true (rw after_next.byte_at.ensures at c.if3.true)))
+    counted _ _ _ _ (sym (ascii-one _ _ _ within.if-at-s.true ascii.if-s-at-lt128.true (rw after_next.byte_at.ensures at c.if-byte_at-lt-FIRST_LOW.true)))
 
-pub measure-usual-spec : {M : Type 1} → statement M
-measure-usual-spec =
+pub measure_usual_spec : {M : Type 1} → statement M
+measure_usual_spec =
     tie.close
     (tie.spec
     (λ c. search rules)

@@ -9,44 +9,44 @@ use Rattle.base_accents.proofs.Marks.{mark-there, marks-on, marks-stop, marks-en
 use Rattle.base_accents.proofs.past_marks.Statement.{statement}
 use Rattle.base_accents.proofs.past_marks.Tie as tie
 
-abbrev invariant-loop : tie.invariant-loop
+abbrev invariant-loop : tie.invariant-loop-i
 invariant-loop s at i₀ i = i + marks (drop i s) ≡ at + marks (drop at s)
 
-abbrev decreases-loop : tie.decreases-loop
+abbrev decreases-loop : tie.decreases-loop-i
 decreases-loop s at i₀ i = length s - i
 
 -- a mark
-loop-again : tie.Need-loop-preserved invariant-loop decreases-loop
+loop-again : tie.Need-loop-i-preserved invariant-loop decreases-loop
 loop-again c =
     let at-loop = c.before.before.before in
     let s = at-loop.before.before.args.s.now in
-    omega (arith, at-loop.loop.invariant, marks-on s at-loop.loop.i (sym c.before.is-mark.ensures ∙ c.if1.true))
+    omega (arith, at-loop.loop-i.invariant, marks-on s at-loop.loop-i.i (sym c.before.is_mark.ensures ∙ c.if-is_mark.true))
 
-add-i : tie.Need-overflow-add-i invariant-loop decreases-loop
+add-i : tie.Need-overflow_add-i invariant-loop decreases-loop
 add-i c =
     let at-loop = c.before.before.before in
     let s = at-loop.before.before.args.s.now in
-    omega (arith, mark-there s at-loop.loop.i (sym c.before.is-mark.ensures ∙ c.if1.true))
+    omega (arith, mark-there s at-loop.loop-i.i (sym c.before.is_mark.ensures ∙ c.if-is_mark.true))
 
-loop-less : tie.Need-loop-smaller invariant-loop decreases-loop
+loop-less : tie.Need-loop-i-smaller invariant-loop decreases-loop
 loop-less c = omega arith
 
 -- no mark
-returns : tie.Need-returns invariant-loop decreases-loop
+returns : tie.Need-returns-else-is_mark invariant-loop decreases-loop
 returns c =
     let at-loop = c.before.before.before in
     let s = at-loop.before.before.args.s.now in
-    omega (arith, at-loop.loop.invariant, marks-stop s at-loop.loop.i (sym c.before.is-mark.ensures ∙ c.if1.false))
+    omega (arith, at-loop.loop-i.invariant, marks-stop s at-loop.loop-i.i (sym c.before.is_mark.ensures ∙ c.if-is_mark.false))
 
 -- the end of the text
-returns-2 : tie.Need-returns-2 invariant-loop decreases-loop
+returns-2 : tie.Need-returns invariant-loop decreases-loop
 returns-2 c =
     let at-loop = c.before in
     let s = at-loop.before.before.args.s.now in
-    omega (arith, at-loop.loop.invariant, marks-end s at-loop.loop.i (omega arith))
+    omega (arith, at-loop.loop-i.invariant, marks-end s at-loop.loop-i.i (omega arith))
 
-pub past-marks-spec : {M : Type 1} → statement M
-past-marks-spec =
+pub past_marks_spec : {M : Type 1} → statement M
+past_marks_spec =
     tie.close
     (tie.spec
     invariant-loop

@@ -7,22 +7,22 @@ use Rattle.base_accents.proofs.whole.Statement.{statement}
 use Rattle.base_accents.proofs.whole.Tie as tie
 
 -- a letter
-returns : tie.Need-returns
+returns : tie.Need-returns-then-is_letter_at
 unfolding measure_of
 returns c =
     let at-letter = c.before.before in
     counted _ _ _ _
-    (rw (← at-letter.is-letter-at.ensures, c.before.if1.true, ← at-letter.before.pg-mblen.ensures.is) (omega (arith, c.past-marks.ensures)))
+    (rw (← at-letter.is_letter_at.ensures, c.before.if-is_letter_at.true, ← at-letter.before.pg_mblen-n.ensures.is) (omega (arith, c.past_marks.ensures)))
 
 -- anything else
-returns-2 : tie.Need-returns-2
+returns-2 : tie.Need-returns
 unfolding measure_of
 returns-2 c =
     let at-letter = c.before in
-    counted _ _ _ _ (rw (← at-letter.is-letter-at.ensures, c.if1.false) at-letter.before.pg-mblen.ensures.is)
+    counted _ _ _ _ (rw (← at-letter.is_letter_at.ensures, c.if-is_letter_at.false) at-letter.before.pg_mblen-n.ensures.is)
 
-pub whole-spec : {M : Type 1} → statement M
-whole-spec =
+pub whole_spec : {M : Type 1} → statement M
+whole_spec =
     tie.close
     (tie.spec
     (λ c κs. search rules)

@@ -11,29 +11,29 @@ use Rattle.base_chars.proofs.HighBits.{word-passed, onward}
 use Rattle.base_chars.proofs.after_ascii.Statement.{statement}
 use Rattle.base_chars.proofs.after_ascii.Tie as tie
 
-abbrev invariant-loop : tie.invariant-loop
+abbrev invariant-loop : tie.invariant-loop-i
 invariant-loop s at i₀ i = (i ≤ length s) × Passed s at i
 
-abbrev decreases-loop : tie.decreases-loop
+abbrev decreases-loop : tie.decreases-loop-i
 decreases-loop s at i₀ i = length s - i
 
 -- the bytes below the lowest high bit
-returns-2 : tie.Need-returns-2 invariant-loop decreases-loop
+returns-2 : tie.Need-returns-then-high-ne0 invariant-loop decreases-loop
 returns-2 c =
     let at-loop = c.before.before.before.before in
     let s = at-loop.before.before.before.args.s.now in
-    onward at-loop.loop.invariant.1 (word-passed s at-loop.loop.i _ _ c.before.before.high-bits.ensures c.zero-bytes.ensures.0)
+    onward at-loop.loop-i.invariant.1 (word-passed s at-loop.loop-i.i _ _ c.before.before.high_bits-high.ensures c.zero_bytes.ensures.0)
 
 -- eight bytes of ASCII
-loop-again : tie.Need-loop-preserved invariant-loop decreases-loop
+loop-again : tie.Need-loop-i-preserved invariant-loop decreases-loop
 loop-again c =
     let at-loop = c.before.before.before in
     let s = at-loop.before.before.before.args.s.now in
-    let none = sym c.if3.false ∙ c.before.high-bits.ensures in
-    (omega arith, onward at-loop.loop.invariant.1 (word-passed s at-loop.loop.i 0 8 none (rw trailing_of_zero)))
+    let none = sym c.if-high-ne0.false ∙ c.before.high_bits-high.ensures in
+    (omega arith, onward at-loop.loop-i.invariant.1 (word-passed s at-loop.loop-i.i 0 8 none (rw trailing_of_zero)))
 
-pub after-ascii-spec : {M : Type 1} → statement M
-after-ascii-spec =
+pub after_ascii_spec : {M : Type 1} → statement M
+after_ascii_spec =
     tie.close
     (tie.spec
     invariant-loop
@@ -51,4 +51,4 @@ after-ascii-spec =
     (λ c. omega arith)
     loop-again
     (λ c κs. omega arith)
-    (λ c. onward c.before.before.loop.invariant.1 c.after_last.ensures))
+    (λ c. onward c.before.before.loop-i.invariant.1 c.after_last.ensures))

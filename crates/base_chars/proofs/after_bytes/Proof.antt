@@ -12,23 +12,23 @@ use Rattle.base_chars.proofs.WellFormed.{past-sequence-at}
 use Rattle.base_chars.proofs.after_bytes.Statement.{statement}
 use Rattle.base_chars.proofs.after_bytes.Tie as tie
 
-abbrev invariant-loop : tie.invariant-loop
+abbrev invariant-loop : tie.invariant-loop-i
 invariant-loop s at i₀ i = Passed s at i
 
-abbrev decreases-loop : tie.decreases-loop
+abbrev decreases-loop : tie.decreases-loop-i
 decreases-loop s at i₀ i = length s - i
 
 -- a byte of ASCII is passed
-loop-again : tie.Need-loop-preserved invariant-loop decreases-loop
+loop-again : tie.Need-loop-i-preserved invariant-loop decreases-loop
 loop-again c =
     let at-loop = c.before.before.before in
     let s = at-loop.before.args.s.now in
-    let i = at-loop.loop.i in
+    let i = at-loop.loop-i.i in
     let one_byte = at_row s i (search rules) 0 (lit< tt) (omega arith) (omega arith) in
-    record { forward = omega arith; same = past-sequence-at s i 1 one_byte ∙ at-loop.loop.invariant.same }
+    record { forward = omega arith; same = past-sequence-at s i 1 one_byte ∙ at-loop.loop-i.invariant.same }
 
-pub after-bytes-spec : {M : Type 1} → statement M
-after-bytes-spec =
+pub after_bytes_spec : {M : Type 1} → statement M
+after_bytes_spec =
     tie.close
     (tie.spec
     invariant-loop
@@ -36,9 +36,9 @@ after-bytes-spec =
     (λ c. record { forward = omega arith; same = refl })
     (λ c. search rules)
     -- a byte that is not ASCII
-    (λ c. c.before.before.before.loop.invariant)
+    (λ c. c.before.before.before.loop-i.invariant)
     (λ c. omega arith)
     (λ c. omega arith)
     loop-again
     -- the end
-    (λ c. c.before.loop.invariant))
+    (λ c. c.before.loop-i.invariant))

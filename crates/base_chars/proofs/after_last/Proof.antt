@@ -7,18 +7,18 @@ use Rattle.base_chars.proofs.after_last.Statement.{statement}
 use Rattle.base_chars.proofs.after_last.Tie as tie
 
 -- at most eight bytes are passed
-add-result : tie.Need-overflow-add-result
+add-result : tie.Need-overflow_add-result
 add-result c = let start = c.before.before.before.before.before in omega (arith, start.well-formed.0.1)
 
 -- the last eight bytes
-returns-3 : tie.Need-returns-3
+returns-3 : tie.Need-returns
 returns-3 c =
     let args = c.before.before.before.before.before.args in
     let same = last-high args.s.now args.at (search rules) (omega arith) (omega arith) in
-    word-passed args.s.now args.at _ _ (rw c.before.high-bits.ensures same) c.zero-bytes.ensures.0
+    word-passed args.s.now args.at _ _ (rw c.before.high_bits.ensures same) c.zero_bytes.ensures.0
 
-pub after-last-spec : {M : Type 1} → statement M
-after-last-spec =
+pub after_last_spec : {M : Type 1} → statement M
+after_last_spec =
     tie.close
     (tie.spec
     (λ c κs. search rules)

@@ -7,16 +7,16 @@ use Rattle.base_chars.proofs.folded.Statement.{statement}
 use Rattle.base_chars.proofs.folded.Tie as tie
 
 -- below A
-returns : tie.Need-returns
-returns c = rw (below (65 ‥ 90) _ c.if1.true)
+returns : tie.Need-returns-then-b-lt65
+returns c = rw (below (65 ‥ 90) _ c.if-b-lt65.true)
 
 -- a capital letter
-returns-2 : tie.Need-returns-2
-returns-2 c = rw (inside (65 ‥ 90) _ c.before.if1.false c.if2.true)
+returns-2 : tie.Need-returns-then-b-le90
+returns-2 c = rw (inside (65 ‥ 90) _ c.before.if-b-lt65.false c.if-b-le90.true)
 
 -- above Z
-returns-3 : tie.Need-returns-3
-returns-3 c = rw (above (65 ‥ 90) _ c.if2.false)
+returns-3 : tie.Need-returns
+returns-3 c = rw (above (65 ‥ 90) _ c.if-b-le90.false)
 
-pub folded-spec : {M : Type 1} → statement M
-folded-spec = tie.close (tie.spec returns (λ c. search rules) returns-2 returns-3)
+pub folded_spec : {M : Type 1} → statement M
+folded_spec = tie.close (tie.spec returns (λ c. search rules) returns-2 returns-3)

@@ -20,18 +20,18 @@ returns c =
     args.s.now
     args.at
     (search rules)
-    (λ k. omega (arith, entry.shared-slice-known.given k))
+    (λ k. omega (arith, entry.shared_slice_known-1.given k))
     one.wide.ensures.0
-    two.wide2.ensures.0
-    three.wide3.ensures.0
-    four.wide4.ensures.0
-    five.wide5.ensures.0
-    six.wide6.ensures.0
-    seven.wide7.ensures.0
-    c.wide8.ensures.0
+    two.wide-2.ensures.0
+    three.wide-3.ensures.0
+    four.wide-4.ensures.0
+    five.wide-5.ensures.0
+    six.wide-6.ensures.0
+    seven.wide-7.ensures.0
+    c.wide-8.ensures.0
 
-pub high-bits-spec : {M : Type 1} → statement M
-high-bits-spec =
+pub high_bits_spec : {M : Type 1} → statement M
+high_bits_spec =
     tie.close
     (tie.spec
     (λ c. search rules)

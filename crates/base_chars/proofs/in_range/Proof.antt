@@ -8,20 +8,20 @@ use Rattle.base_chars.proofs.in_range.Statement.{statement}
 use Rattle.base_chars.proofs.in_range.Tie as tie
 
 -- past the end
-returns : tie.Need-returns
-returns c = rw (drop_of_length-le _ c.if1.true)
+returns : tie.Need-returns-then-s-at
+returns c = rw (drop_of_length-le _ c.if-s-at.true)
 
 -- from `lo` on
-returns-2 : tie.Need-returns-2
+returns-2 : tie.Need-returns-then-lo-b
 returns-2 c =
     let args = c.before.before.before.args in
-    rw (drop-cons args.s.now args.at 0 c.before.before.if1.false, le-leb _ _ c.if2.true, and-true)
+    rw (drop-cons args.s.now args.at 0 c.before.before.if-s-at.false, le-leb _ _ c.if-lo-b.true, and-true)
 
 -- below `lo`
-returns-3 : tie.Need-returns-3
+returns-3 : tie.Need-returns-else-lo-b
 returns-3 c =
     let args = c.before.before.before.args in
-    rw (drop-cons args.s.now args.at 0 c.before.before.if1.false, lt-leb _ _ c.if2.false)
+    rw (drop-cons args.s.now args.at 0 c.before.before.if-s-at.false, lt-leb _ _ c.if-lo-b.false)
 
-pub in-range-spec : {M : Type 1} → statement M
-in-range-spec = tie.close (tie.spec returns (λ c. search rules) returns-2 returns-3)
+pub in_range_spec : {M : Type 1} → statement M
+in_range_spec = tie.close (tie.spec returns (λ c. search rules) returns-2 returns-3)

@@ -6,19 +6,19 @@ use Rattle.base_chars.proofs.in_set.Statement.{statement}
 use Rattle.base_chars.proofs.in_set.Tie as tie
 
 -- below 64
-returns : tie.Need-returns
+returns : tie.Need-returns-then-k-lt64
 unfolding in_set
-returns c = rw (lt-ltb _ _ c.if1.true)
+returns c = rw (lt-ltb _ _ c.if-k-lt64.true)
 
 -- from 64 to 127
-returns-2 : tie.Need-returns-2
+returns-2 : tie.Need-returns-then-k-lt128
 unfolding in_set
-returns-2 c = rw (le-ltb _ _ c.before.if1.false, lt-ltb _ _ c.if2.true)
+returns-2 c = rw (le-ltb _ _ c.before.if-k-lt64.false, lt-ltb _ _ c.if-k-lt128.true)
 
 -- from 128 on
-returns-3 : tie.Need-returns-3
+returns-3 : tie.Need-returns
 unfolding in_set
-returns-3 c = rw (le-ltb _ _ c.before.if1.false, le-ltb _ _ c.if2.false)
+returns-3 c = rw (le-ltb _ _ c.before.if-k-lt64.false, le-ltb _ _ c.if-k-lt128.false)
 
-pub in-set-spec : {M : Type 1} → statement M
-in-set-spec = tie.close (tie.spec (λ c. search rules) returns (λ c. search rules) (λ c. search rules) returns-2 returns-3)
+pub in_set_spec : {M : Type 1} → statement M
+in_set_spec = tie.close (tie.spec (λ c. search rules) returns (λ c. search rules) (λ c. search rules) returns-2 returns-3)

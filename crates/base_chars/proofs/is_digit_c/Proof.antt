@@ -5,12 +5,12 @@ use Rattle.base_chars.proofs.is_digit_c.Statement.{statement}
 use Rattle.base_chars.proofs.is_digit_c.Tie as tie
 
 -- from 0 on
-returns : tie.Need-returns
-returns c = rw (digit-test, le-leb _ _ c.if1.true)
+returns : tie.Need-returns-then-b-ge48
+returns c = rw (digit-test, le-leb _ _ c.if-b-ge48.true)
 
 -- below 0
-returns-2 : tie.Need-returns-2
-returns-2 c = rw (digit-test, lt-leb _ _ c.if1.false)
+returns-2 : tie.Need-returns-else-b-ge48
+returns-2 c = rw (digit-test, lt-leb _ _ c.if-b-ge48.false)
 
-pub is-digit-c-spec : {M : Type 1} → statement M
-is-digit-c-spec = tie.close (tie.spec returns returns-2)
+pub is_digit_c_spec : {M : Type 1} → statement M
+is_digit_c_spec = tie.close (tie.spec returns returns-2)

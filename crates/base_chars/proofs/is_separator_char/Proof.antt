@@ -8,38 +8,38 @@ use Rattle.base_chars.proofs.is_separator_char.Statement.{statement}
 use Rattle.base_chars.proofs.is_separator_char.Tie as tie
 
 -- a blank, or below it
-returns : tie.Need-returns
+returns : tie.Need-returns-then-b-le32
 returns c = rw (separator-test, below (33 ‥ 126) c.before.args.b (omega arith))
 
 -- from 0x7f on
-returns-2 : tie.Need-returns-2
+returns-2 : tie.Need-returns-then-b-ge127
 returns-2 c = rw (separator-test, above (33 ‥ 126) c.before.before.args.b (omega arith))
 
 -- printable, and no letter
-returns-3 : tie.Need-returns-3
+returns-3 : tie.Need-returns-then-not-is_alpha_c
 returns-3 c =
     let b = c.before.before.before.before.before.args.b in
     let no-letter = c.before in
     rw (
       separator-test,
       inside (33 ‥ 126) b (omega arith) (omega arith),
-      ← no-letter.before.is-alpha-c.ensures,
-      ← c.is-digit-c.ensures,
-      no-letter.if3.true,
+      ← no-letter.before.is_alpha_c.ensures,
+      ← c.is_digit_c.ensures,
+      no-letter.if-not-is_alpha_c.true,
     )
 
 -- a letter
-returns-4 : tie.Need-returns-4
+returns-4 : tie.Need-returns-else-not-is_alpha_c
 returns-4 c =
     let b = c.before.before.before.before.args.b in
     rw (
       separator-test,
       inside (33 ‥ 126) b (omega arith) (omega arith),
-      ← c.before.is-alpha-c.ensures,
-      c.if3.false,
+      ← c.before.is_alpha_c.ensures,
+      c.if-not-is_alpha_c.false,
     )
 
-pub is-separator-char-spec : {M : Type 1} → statement M
-is-separator-char-spec =
+pub is_separator_char_spec : {M : Type 1} → statement M
+is_separator_char_spec =
     tie.close
     (tie.spec returns returns-2 (λ c κs. search rules) (λ c κs. search rules) returns-3 returns-4)

@@ -7,22 +7,22 @@ use Rattle.base_chars.proofs.is_space_c.Statement.{statement}
 use Rattle.base_chars.proofs.is_space_c.Tie as tie
 
 -- above a blank
-returns : tie.Need-returns
+returns : tie.Need-returns-then-b-gt32
 returns c =
     let b = c.before.args.b in
     rw (space-test, ne_eqb b 32 (omega arith), le-leb 9 b (omega arith), lt-leb b 13 (omega arith))
 
 -- a blank
-returns-2 : tie.Need-returns-2
-returns-2 c = rw (space-test, c.if2.true)
+returns-2 : tie.Need-returns-then-b-eq32
+returns-2 c = rw (space-test, c.if-b-eq32.true)
 
 -- from 9 on
-returns-3 : tie.Need-returns-3
-returns-3 c = rw (space-test, ne_eqb _ _ c.before.if2.false, le-leb _ _ c.if3.true, or-false)
+returns-3 : tie.Need-returns-then-b-ge9
+returns-3 c = rw (space-test, ne_eqb _ _ c.before.if-b-eq32.false, le-leb _ _ c.if-b-ge9.true, or-false)
 
 -- below 9
-returns-4 : tie.Need-returns-4
-returns-4 c = rw (space-test, ne_eqb _ _ c.before.if2.false, lt-leb _ _ c.if3.false)
+returns-4 : tie.Need-returns-else-b-ge9
+returns-4 c = rw (space-test, ne_eqb _ _ c.before.if-b-eq32.false, lt-leb _ _ c.if-b-ge9.false)
 
-pub is-space-c-spec : {M : Type 1} → statement M
-is-space-c-spec = tie.close (tie.spec returns returns-2 returns-3 returns-4)
+pub is_space_c_spec : {M : Type 1} → statement M
+is_space_c_spec = tie.close (tie.spec returns returns-2 returns-3 returns-4)

@@ -13,48 +13,48 @@ use Rattle.base_chars.proofs.WellFormed.{past-sequence-at, no-sequence-at, end-o
 use Rattle.base_chars.proofs.is_utf8.Statement.{statement}
 use Rattle.base_chars.proofs.is_utf8.Tie as tie
 
-abbrev invariant-loop : tie.invariant-loop
+abbrev invariant-loop : tie.invariant-loop-i
 invariant-loop s i₀ i = (i ≤ length s) × Passed s 0 i
 
-abbrev decreases-loop : tie.decreases-loop
+abbrev decreases-loop : tie.decreases-loop-i
 decreases-loop s i₀ i = length s - i
 
-abbrev text : tie.After-after-ascii invariant-loop decreases-loop → List ℕ
+abbrev text : tie.After-after_ascii-next invariant-loop decreases-loop → List ℕ
 text c = c.before.before.before.args.s.now
 
 -- the whole is well-formed exactly when what follows the ASCII is
-whole : (c : tie.After-after-ascii invariant-loop decreases-loop) → Passed (text c) 0 c.after-ascii.result
-whole c = onward c.before.loop.invariant.1 c.after-ascii.ensures
+whole : (c : tie.After-after_ascii-next invariant-loop decreases-loop) → Passed (text c) 0 c.after_ascii-next.result
+whole c = onward c.before.loop-i.invariant.1 c.after_ascii-next.ensures
 
 -- the end of the text
-returns : tie.Need-returns invariant-loop decreases-loop
-returns c = sym (end-of-text (text c.before) c.before.after-ascii.result (search rules)) ∙ (whole c.before).same
+returns : tie.Need-returns-then-s-next invariant-loop decreases-loop
+returns c = sym (end-of-text (text c.before) c.before.after_ascii-next.result (search rules)) ∙ (whole c.before).same
 
 -- no sequence begins here
-returns-2 : tie.Need-returns-2 invariant-loop decreases-loop
+returns-2 : tie.Need-returns-then-n-eq0 invariant-loop decreases-loop
 returns-2 c =
     let passed = c.before.before.before in
-    let none = sym c.if2.true ∙ c.before.sequence-at.ensures in
-    sym (no-sequence-at (text passed) passed.after-ascii.result (search rules) none) ∙ (whole passed).same
+    let none = sym c.if-n-eq0.true ∙ c.before.sequence_at-n.ensures in
+    sym (no-sequence-at (text passed) passed.after_ascii-next.result (search rules) none) ∙ (whole passed).same
 
 -- a sequence lies within what is left
-room : (c : tie.Else2 invariant-loop decreases-loop)
+room : (c : tie.Else-n-eq0 invariant-loop decreases-loop)
     → let passed = c.before.before.before in
-    c.before.sequence-at.result ≤ length (text passed) - passed.after-ascii.result
+    c.before.sequence_at-n.result ≤ length (text passed) - passed.after_ascii-next.result
 room c =
     let passed = c.before.before.before in
-    let next = passed.after-ascii.result in
-    omega (arith, sequence-within (drop next (text passed)), length-drop next (text passed), c.before.sequence-at.ensures)
+    let next = passed.after_ascii-next.result in
+    omega (arith, sequence-within (drop next (text passed)), length-drop next (text passed), c.before.sequence_at-n.ensures)
 
 -- a sequence is passed
-loop-again : tie.Need-loop-preserved invariant-loop decreases-loop
+loop-again : tie.Need-loop-i-preserved invariant-loop decreases-loop
 loop-again c =
     let passed = c.before.before.before in
-    let after = past-sequence-at (text passed) passed.after-ascii.result _ c.before.sequence-at.ensures in
+    let after = past-sequence-at (text passed) passed.after_ascii-next.result _ c.before.sequence_at-n.ensures in
     (omega (arith, room c), record { forward = omega arith; same = after ∙ (whole passed).same })
 
-pub is-utf8-spec : {M : Type 1} → statement M
-is-utf8-spec =
+pub is_utf8_spec : {M : Type 1} → statement M
+is_utf8_spec =
     tie.close
     (tie.spec
     invariant-loop
@@ -65,5 +65,5 @@ is-utf8-spec =
     (λ c κs. search rules)
     returns-2
     (λ c. omega (arith, room c))
-    (λ c. omega (arith, room c, c.before.before.before.after-ascii.ensures.forward))
+    (λ c. omega (arith, room c, c.before.before.before.after_ascii-next.ensures.forward))
     loop-again)

@@ -6,24 +6,24 @@ use Rattle.base_chars.proofs.lead_of.Statement.{statement}
 use Rattle.base_chars.proofs.lead_of.Tie as tie
 
 -- below 0xc0
-returns : tie.Need-returns
+returns : tie.Need-returns-then-b-lt192
 returns c = sym (lead-one _ (omega arith))
 
 -- from 0xc0 to 0xdf
-returns-2 : tie.Need-returns-2
+returns-2 : tie.Need-returns-then-b-lt224
 returns-2 c = sym (lead-two _ (omega arith) (omega arith))
 
 -- from 0xe0 to 0xef
-returns-3 : tie.Need-returns-3
+returns-3 : tie.Need-returns-then-b-lt240
 returns-3 c = sym (lead-three _ (omega arith) (omega arith))
 
 -- from 0xf0 to 0xf7
-returns-4 : tie.Need-returns-4
+returns-4 : tie.Need-returns-then-b-lt248
 returns-4 c = sym (lead-four _ (omega arith) (omega arith))
 
 -- from 0xf8 on
-returns-5 : tie.Need-returns-5
+returns-5 : tie.Need-returns-else-b-lt248
 returns-5 c = sym (lead-none _ (omega arith))
 
-pub lead-of-spec : {M : Type 1} → statement M
-lead-of-spec = tie.close (tie.spec returns returns-2 returns-3 returns-4 returns-5)
+pub lead_of_spec : {M : Type 1} → statement M
+lead_of_spec = tie.close (tie.spec returns returns-2 returns-3 returns-4 returns-5)

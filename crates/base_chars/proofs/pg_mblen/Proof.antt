@@ -7,26 +7,26 @@ use Rattle.base_chars.proofs.pg_mblen.Statement.{statement}
 use Rattle.base_chars.proofs.pg_mblen.Tie as tie
 
 -- past the end
-returns : tie.Need-returns
+returns : tie.Need-returns-then-s-i
 unfolding char_length
 returns c = measured _ _ _ (omega arith)
 
 -- one byte
-returns-2 : tie.Need-returns-2
+returns-2 : tie.Need-returns-then-b-lt192
 unfolding char_length
-returns-2 c = measured _ _ _ (omega (arith, lead-one _ c.if2.true, c.before.before.if1.false))
+returns-2 c = measured _ _ _ (omega (arith, lead-one _ c.if-b-lt192.true, c.before.before.if-s-i.false))
 
 -- the character is within the text
-returns-3 : tie.Need-returns-3
+returns-3 : tie.Need-returns-then-n-left
 unfolding char_length
 returns-3 c = measured _ _ _ (omega arith)
 
 -- it is cut where the text ends
-returns-4 : tie.Need-returns-4
+returns-4 : tie.Need-returns-else-n-left
 unfolding char_length
 returns-4 c = measured _ _ _ (omega arith)
 
-pub pg-mblen-spec : {M : Type 1} → statement M
-pg-mblen-spec =
+pub pg_mblen_spec : {M : Type 1} → statement M
+pg_mblen_spec =
     tie.close
     (tie.spec returns (λ c. search rules) returns-2 (λ c κs. search rules) (λ c. search rules) returns-3 returns-4)

@@ -7,16 +7,16 @@ use Rattle.base_chars.proofs.raised.Statement.{statement}
 use Rattle.base_chars.proofs.raised.Tie as tie
 
 -- below a
-returns : tie.Need-returns
-returns c = rw (below (97 ‥ 122) _ c.if1.true)
+returns : tie.Need-returns-then-b-lt97
+returns c = rw (below (97 ‥ 122) _ c.if-b-lt97.true)
 
 -- a small letter
-returns-2 : tie.Need-returns-2
-returns-2 c = rw (inside (97 ‥ 122) _ c.before.if1.false c.if2.true)
+returns-2 : tie.Need-returns-then-b-le122
+returns-2 c = rw (inside (97 ‥ 122) _ c.before.if-b-lt97.false c.if-b-le122.true)
 
 -- above z
-returns-3 : tie.Need-returns-3
-returns-3 c = rw (above (97 ‥ 122) _ c.if2.false)
+returns-3 : tie.Need-returns
+returns-3 c = rw (above (97 ‥ 122) _ c.if-b-le122.false)
 
-pub raised-spec : {M : Type 1} → statement M
-raised-spec = tie.close (tie.spec returns (λ c. search rules) returns-2 returns-3)
+pub raised_spec : {M : Type 1} → statement M
+raised_spec = tie.close (tie.spec returns (λ c. search rules) returns-2 returns-3)

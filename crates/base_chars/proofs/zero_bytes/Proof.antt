@@ -5,5 +5,5 @@ use lib.Count.{trailing_le}
 use Rattle.base_chars.proofs.zero_bytes.Statement.{statement}
 use Rattle.base_chars.proofs.zero_bytes.Tie as tie
 
-pub zero-bytes-spec : {M : Type 1} → statement M
-zero-bytes-spec = tie.close (tie.spec (λ c. omega (arith, trailing_le 64 c.args.word)) (λ c. (refl, omega (arith, trailing_le 64 c.args.word))))
+pub zero_bytes_spec : {M : Type 1} → statement M
+zero_bytes_spec = tie.close (tie.spec (λ c. omega (arith, trailing_le 64 c.args.word)) (λ c. (refl, omega (arith, trailing_le 64 c.args.word))))

@@ -8,21 +8,21 @@ use Rattle.base_refusals.proofs.report_of.Statement.{statement}
 use Rattle.base_refusals.proofs.report_of.Tie as tie
 
 -- the hour is an i32
-hour-is : (c : tie.After-known-told11) → SFits w32 c.before.why11.given.0.0
+hour-is : (c : tie.In-HourOfTwelve) → SFits w32 c.before.why-in-HourOfTwelve-1.given.0.0
 hour-is c = search rules
 
 -- so it is also an i64
-hour-fits : tie.Need-overflow-cast-t18
+hour-fits : tie.Need-overflow_cast-result
 hour-fits c = simp (to_z-of_z (hour-is c)) (sfits_widen tt (hour-is c))
 
 -- an hour outside 1 to 12: the figure is the hour
-hour : tie.Need-returns-13
+hour : tie.Need-returns-in-HourOfTwelve
 unfolding report_of
-hour c = simp (to_z-of_z (hour-is c), to_z-of_z (sfits_widen {w = w32} {w' = w64} tt (hour-is c))) (rw c.before.why11.given.1)
+hour c = simp (to_z-of_z (hour-is c), to_z-of_z (sfits_widen {w = w32} {w' = w64} tt (hour-is c))) (rw c.before.why-in-HourOfTwelve-1.given.1)
 
-pub report-of-spec : {M : Type 1} → statement M
+pub report_of_spec : {M : Type 1} → statement M
 unfolding report_of
-report-of-spec =
+report_of_spec =
     tie.close
     (tie.spec
     -- in each arm: which refusal it is, and what its call requires
@@ -60,34 +60,34 @@ report-of-spec =
     (λ c κs. search rules)
     -- in each arm: the answer
     -- TooLong
-    (λ c. rw c.before.enum_told.given.1 c.alone.ensures)
+    (λ c. rw c.before.enum_told-1.given.1 c.alone.ensures)
     -- NotUtf8
-    (λ c. rw c.before.enum-told2.given.1 c.alone2.ensures)
+    (λ c. rw c.before.enum_told-in-NotUtf8-1.given.1 c.alone-in-NotUtf8.ensures)
     -- MixedDates
-    (λ c. rw c.before.before.why.given.1 c.at.ensures)
+    (λ c. rw c.before.before.why-1.given.1 c.at.ensures)
     -- Conflict
-    (λ c. rw c.before.before.why2.given.1 c.at2.ensures)
+    (λ c. rw c.before.before.why-in-Conflict-1.given.1 c.at-in-Conflict.ensures)
     -- Short
-    (λ c. rw c.before.before.why3.given.1 c.with-figures.ensures)
+    (λ c. rw c.before.before.why-in-Short-1.given.1 c.with_figures.ensures)
     -- Narrow
-    (λ c. rw c.before.before.why4.given.1 c.with-figures2.ensures)
+    (λ c. rw c.before.before.why-in-Narrow-1.given.1 c.with_figures-in-Narrow.ensures)
     -- NotInteger
-    (λ c. rw c.before.before.why5.given.1 c.at3.ensures)
+    (λ c. rw c.before.before.why-in-NotInteger-1.given.1 c.at-in-NotInteger.ensures)
     -- OutOfRange
-    (λ c. rw c.before.before.why6.given.1 c.at4.ensures)
+    (λ c. rw c.before.before.why-in-OutOfRange-1.given.1 c.at-in-OutOfRange.ensures)
     -- NoWord
-    (λ c. rw c.before.before.why7.given.1 c.at5.ensures)
+    (λ c. rw c.before.before.why-in-NoWord-1.given.1 c.at-in-NoWord.ensures)
     -- NotTwoNumbers
-    (λ c. rw c.before.before.why8.given.1 c.at6.ensures)
+    (λ c. rw c.before.before.why-in-NotTwoNumbers-1.given.1 c.at-in-NotTwoNumbers.ensures)
     -- YearOutOfRange
-    (λ c. rw c.before.before.why9.given.1 c.at7.ensures)
+    (λ c. rw c.before.before.why-in-YearOutOfRange-1.given.1 c.at-in-YearOutOfRange.ensures)
     -- ZoneLetter
-    (λ c. rw c.before.before.why10.given.1 c.at8.ensures)
+    (λ c. rw c.before.before.why-in-ZoneLetter-1.given.1 c.at-in-ZoneLetter.ensures)
     -- HourOfTwelve
     hour
     -- NoYear
-    (λ c. rw c.before.enum-told3.given.1 c.alone3.ensures)
+    (λ c. rw c.before.enum_told-in-NoYear-1.given.1 c.alone-in-NoYear.ensures)
     -- FieldOverflow
-    (λ c. rw c.before.enum-told4.given.1 c.alone4.ensures)
+    (λ c. rw c.before.enum_told-in-FieldOverflow-1.given.1 c.alone-in-FieldOverflow.ensures)
     -- OffsetRange
-    (λ c. rw c.before.enum-told5.given.1 c.alone5.ensures))
+    (λ c. rw c.before.enum_told-in-OffsetRange-1.given.1 c.alone-in-OffsetRange.ensures))

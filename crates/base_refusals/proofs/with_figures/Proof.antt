@@ -11,5 +11,5 @@ returns c =
     let args = c.args in
     rw (to_z_pos w64 {n = args.first} (omega arith), to_z_pos w64 {n = args.second} (omega arith))
 
-pub with-figures-spec : {M : Type 1} → statement M
-with-figures-spec = tie.close (tie.spec (λ c. search rules) (λ c. search rules) returns)
+pub with_figures_spec : {M : Type 1} → statement M
+with_figures_spec = tie.close (tie.spec (λ c. search rules) (λ c. search rules) returns)

@@ -8,5 +8,5 @@ returns : tie.Need-returns
 unfolding input_limit
 returns c = c.lesser.ensures
 
-pub input-limit-spec : {M : Type 1} → statement M
-input-limit-spec = tie.close (tie.spec (λ c κs. search rules) returns)
+pub input_limit_spec : {M : Type 1} → statement M
+input_limit_spec = tie.close (tie.spec (λ c κs. search rules) returns)

@@ -8,5 +8,5 @@ returns : tie.Need-returns
 unfolding template_limit
 returns c = c.lesser.ensures
 
-pub template-limit-spec : {M : Type 1} → statement M
-template-limit-spec = tie.close (tie.spec (λ c κs. search rules) returns)
+pub template_limit_spec : {M : Type 1} → statement M
+template_limit_spec = tie.close (tie.spec (λ c κs. search rules) returns)

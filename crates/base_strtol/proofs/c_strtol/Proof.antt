@@ -8,40 +8,40 @@ use Rattle.base_strtol.proofs.c_strtol.Statement.{statement}
 use Rattle.base_strtol.proofs.c_strtol.Tie as tie
 
 -- what the four calls have read
-pieces : (c : tie.After-digits-at)
+pieces : (c : tie.After-digits_at-run)
     → let after-sign = c.before in
     let after_minus = after-sign.before in
     let after-spaces = after_minus.before in
     let args = after-spaces.before.before.args in
-    Pieces args.s.now args.start after-spaces.past-spaces.result after_minus.minus-at.result
-    after-sign.past-sign.result c.digits-at.result
+    Pieces args.s.now args.start after-spaces.past_spaces-at.result after_minus.minus_at-neg.result
+    after-sign.past_sign-first.result c.digits_at-run.result
 pieces c =
     let after-sign = c.before in
     let after_minus = after-sign.before in
     let after-spaces = after_minus.before in
     record {
-      blank = after-spaces.past-spaces.ensures;
-      sign = after_minus.minus-at.ensures;
-      past = after-sign.past-sign.ensures;
-      read = c.digits-at.ensures;
+      blank = after-spaces.past_spaces-at.ensures;
+      sign = after_minus.minus_at-neg.ensures;
+      past = after-sign.past_sign-first.ensures;
+      read = c.digits_at-run.ensures;
     }
 
 -- no digits: 0, and the place stays
-returns : tie.Need-returns
-returns c = missing _ _ _ _ _ _ (pieces c.before.before) c.if1.true
+returns : tie.Need-returns-then-run-first
+returns c = missing _ _ _ _ _ _ (pieces c.before.before) c.if-run-first.true
 
 -- the number is within the limit of its sign
-signed-of-requires : tie.Need-signed-of-requires
+signed-of-requires : tie.Need-signed_of-requires
 signed-of-requires c κs = within _ _ _ _ _ _ (pieces c.before.before)
 
 -- digits: their number with its sign
-returns-2 : tie.Need-returns-2
+returns-2 : tie.Need-returns
 returns-2 c =
-    present _ _ _ _ _ _ (pieces c.before.before.before) c.before.if1.false _
+    present _ _ _ _ _ _ (pieces c.before.before.before) c.before.if-run-first.false _
     (to_z-of_z {w = w64} (record { sfits = c.Signed-of.type-inv }) ∙ c.Signed-of.ensures)
 
-pub c-strtol-spec : {M : Type 1} → statement M
-c-strtol-spec =
+pub c_strtol_spec : {M : Type 1} → statement M
+c_strtol_spec =
     tie.close
     (tie.spec
     (λ c κs. search rules)

@@ -15,62 +15,62 @@ use Rattle.base_strtol.proofs.Digits.{Reading, begun, stopped, ended, full, more
 use Rattle.base_strtol.proofs.digits_at.Statement.{statement}
 use Rattle.base_strtol.proofs.digits_at.Tie as tie
 
-abbrev invariant-loop : tie.invariant-loop
+abbrev invariant-loop : tie.invariant-loop-i
 invariant-loop s at neg most value₀ over₀ i₀ value over i = Reading most s at value over i
 
-abbrev decreases-loop : tie.decreases-loop
+abbrev decreases-loop : tie.decreases-loop-i
 decreases-loop s at neg most value₀ over₀ i₀ value over i = length s - i
 
-module _ (here : tie.At-loop invariant-loop decreases-loop) where
+module _ (here : tie.At-loop-i invariant-loop decreases-loop) where
   abbrev text : List ℕ
   text = here.before.before.before.args.s.now
 
   abbrev byte : ℕ
-  byte = byte_at text here.loop.i
+  byte = byte_at text here.loop-i.i
 
   abbrev most : ℕ
-  most = here.before.limit-of.result
+  most = here.before.limit_of-most.result
 
   bounded : (2 ^ 63 - 1 ≤ most) × (most ≤ 2 ^ 63)
-  bounded = limits here.before.before.before.args.neg most here.before.limit-of.ensures
+  bounded = limits here.before.before.before.args.neg most here.before.limit_of-most.ensures
 
 -- the byte is a digit
-module _ (c : tie.Else1 invariant-loop decreases-loop) where
-  abbrev at-loop : tie.At-loop invariant-loop decreases-loop
+module _ (c : tie.Else-not-is_digit_c invariant-loop decreases-loop) where
+  abbrev at-loop : tie.At-loop-i invariant-loop decreases-loop
   at-loop = c.before.before.before.before
 
   digit : is_digit (byte at-loop) ≡ true
-  digit = sym c.before.is-digit-c.ensures ∙ not-false _ c.if1.false
+  digit = sym c.before.is_digit_c.ensures ∙ not-false _ c.if-not-is_digit_c.false
 
 -- the byte is no digit
-returns : tie.Need-returns invariant-loop decreases-loop
+returns : tie.Need-returns-then-not-is_digit_c invariant-loop decreases-loop
 returns c =
     let here = c.before.before.before.before in
-    let no_digit = sym c.before.is-digit-c.ensures ∙ not-true _ c.if1.true in
-    stopped (most here) (text here) _ _ _ _ here.loop.invariant _ here.before.limit-of.ensures (omega arith) no_digit
+    let no_digit = sym c.before.is_digit_c.ensures ∙ not-true _ c.if-not-is_digit_c.true in
+    stopped (most here) (text here) _ _ _ _ here.loop-i.invariant _ here.before.limit_of-most.ensures (omega arith) no_digit
 
 -- the digit takes the number beyond the limit, or further beyond it
-loop-again : tie.Need-loop-preserved invariant-loop decreases-loop
+loop-again : tie.Need-loop-i-preserved-then-most-d invariant-loop decreases-loop
 loop-again c =
     let here = at-loop c.before in
-    full (most here) (text here) _ _ _ _ here.loop.inv (omega arith)
+    full (most here) (text here) _ _ _ _ here.loop-i.inv (omega arith)
     (digit c.before) (omega (arith, bounded here)) (omega arith)
 
 -- the digit leaves the number within the limit
-loop-again-2 : tie.Need-loop-preserved-2 invariant-loop decreases-loop
+loop-again-2 : tie.Need-loop-i-preserved invariant-loop decreases-loop
 loop-again-2 c =
     let here = at-loop c.before in
-    more (most here) (text here) _ _ _ _ here.loop.inv (omega arith)
+    more (most here) (text here) _ _ _ _ here.loop-i.inv (omega arith)
     (digit c.before) (omega (arith, bounded here)) (omega arith)
 
 -- the end of the text
-returns-2 : tie.Need-returns-2 invariant-loop decreases-loop
+returns-2 : tie.Need-returns invariant-loop decreases-loop
 returns-2 c =
     let here = c.before in
-    ended (most here) (text here) _ _ _ _ here.loop.invariant _ here.before.limit-of.ensures (omega arith)
+    ended (most here) (text here) _ _ _ _ here.loop-i.invariant _ here.before.limit_of-most.ensures (omega arith)
 
-pub digits-at-spec : {M : Type 1} → statement M
-digits-at-spec =
+pub digits_at_spec : {M : Type 1} → statement M
+digits_at_spec =
     tie.close
     (tie.spec
     invariant-loop

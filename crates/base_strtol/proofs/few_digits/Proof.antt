@@ -17,54 +17,54 @@ use Rattle.base_strtol.proofs.FewDigits.{short-not, short-read}
 use Rattle.base_strtol.proofs.few_digits.Statement.{statement}
 use Rattle.base_strtol.proofs.few_digits.Tie as tie
 
-abbrev invariant-loop : tie.invariant-loop
+abbrev invariant-loop : tie.invariant-loop-i
 invariant-loop s at value₀ i₀ value i = (value < 1000000000) × Reading (limit false) s at value false i
 
-abbrev decreases-loop : tie.decreases-loop
+abbrev decreases-loop : tie.decreases-loop-i
 decreases-loop s at value₀ i₀ value i = length s - i
 
 -- the byte is a digit
-module _ (c : tie.Else1 invariant-loop decreases-loop) where
-  abbrev at-loop : tie.At-loop invariant-loop decreases-loop
+module _ (c : tie.Else-not-is_digit_c invariant-loop decreases-loop) where
+  abbrev at-loop : tie.At-loop-i invariant-loop decreases-loop
   at-loop = c.before.before.before.before
 
   abbrev text : List ℕ
   text = at-loop.before.before.args.s.now
 
-  digit : is_digit (byte_at text at-loop.loop.i) ≡ true
-  digit = sym c.before.is-digit-c.ensures ∙ not-false _ c.if1.false
+  digit : is_digit (byte_at text at-loop.loop-i.i) ≡ true
+  digit = sym c.before.is_digit_c.ensures ∙ not-false _ c.if-not-is_digit_c.false
 
 -- the byte is no digit
-returns : tie.Need-returns invariant-loop decreases-loop
+returns : tie.Need-returns-then-not-is_digit_c invariant-loop decreases-loop
 returns c =
     let here = c.before.before.before.before in
-    let no_digit = sym c.before.is-digit-c.ensures ∙ not-true _ c.if1.true in
-    short-read _ _ (stopped (limit false) _ _ _ _ _ here.loop.invariant.1 _ refl (omega arith) no_digit) here.loop.invariant.0
+    let no_digit = sym c.before.is_digit_c.ensures ∙ not-true _ c.if-not-is_digit_c.true in
+    short-read _ _ (stopped (limit false) _ _ _ _ _ here.loop-i.invariant.1 _ refl (omega arith) no_digit) here.loop-i.invariant.0
 
 -- with this digit the number is too large
-returns-2 : tie.Need-returns-2 invariant-loop decreases-loop
+returns-2 : tie.Need-returns-then-value-gt99999999 invariant-loop decreases-loop
 returns-2 c =
     let at-digit = c.before in
-    short-not _ _ (at-loop at-digit).loop.invariant.1 c.if2.true (omega arith) (digit at-digit)
+    short-not _ _ (at-loop at-digit).loop-i.invariant.1 c.if-value-gt99999999.true (omega arith) (digit at-digit)
 
 -- the digit is added
-loop-again : tie.Need-loop-preserved invariant-loop decreases-loop
+loop-again : tie.Need-loop-i-preserved invariant-loop decreases-loop
 loop-again c =
     let at-digit = c.before in
     let here = at-loop at-digit in
     let in_bounds = digit-bounds _ (digit at-digit) in
-    let room = c.if2.false in
-    let reading = more (limit false) (text at-digit) _ _ _ _ here.loop.inv.1 (omega arith) (digit at-digit) (omega arith) in
+    let room = c.if-value-gt99999999.false in
+    let reading = more (limit false) (text at-digit) _ _ _ _ here.loop-i.inv.1 (omega arith) (digit at-digit) (omega arith) in
     (omega (arith, room, in_bounds), reading (omega (arith, room, in_bounds)))
 
 -- the end of the text
-returns-3 : tie.Need-returns-3 invariant-loop decreases-loop
+returns-3 : tie.Need-returns invariant-loop decreases-loop
 returns-3 c =
     let here = c.before in
-    short-read _ _ (ended (limit false) _ _ _ _ _ here.loop.invariant.1 _ refl (omega arith)) here.loop.invariant.0
+    short-read _ _ (ended (limit false) _ _ _ _ _ here.loop-i.invariant.1 _ refl (omega arith)) here.loop-i.invariant.0
 
-pub few-digits-spec : {M : Type 1} → statement M
-few-digits-spec =
+pub few_digits_spec : {M : Type 1} → statement M
+few_digits_spec =
     tie.close
     (tie.spec
     invariant-loop

@@ -7,18 +7,18 @@ use borrow.Author.Tests.{not-false, not-true}
 use Rattle.base_strtol.proofs.is_pair.Statement.{statement}
 use Rattle.base_strtol.proofs.is_pair.Tie as tie
 
-returns-5 : tie.Need-returns-5
+returns-5 : tie.Need-returns
 returns-5 c e =
     let second = c.before.before in
     let first = second.before.before.before in (
-      omega (arith, first.before.before.before.if2.false),
-      sym first.before.is-digit-c.ensures ∙ not-false _ first.if3.false,
-      sym second.before.is-digit-c2.ensures ∙ not-false _ second.if4.false,
-      sym c.is-digit-c3.ensures ∙ not-true _ e,
+      omega (arith, first.before.before.before.if-s-at-lt3.false),
+      sym first.before.is_digit_c.ensures ∙ not-false _ first.if-not-is_digit_c.false,
+      sym second.before.is_digit_c-2.ensures ∙ not-false _ second.if-not-is_digit_c-2.false,
+      sym c.is_digit_c-3.ensures ∙ not-true _ e,
     )
 
-pub is-pair-spec : {M : Type 1} → statement M
-is-pair-spec =
+pub is_pair_spec : {M : Type 1} → statement M
+is_pair_spec =
     tie.close
     (tie.spec
     (λ c e. absurd (false≢true e))

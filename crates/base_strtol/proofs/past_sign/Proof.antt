@@ -7,23 +7,23 @@ use Rattle.base_strtol.proofs.past_sign.Statement.{statement}
 use Rattle.base_strtol.proofs.past_sign.Tie as tie
 
 -- past the end
-returns : tie.Need-returns
-returns c = rw (past_end _ _ c.if1.true, add-zero)
+returns : tie.Need-returns-then-s-at
+returns c = rw (past_end _ _ c.if-s-at.true, add-zero)
 
 -- a minus sign
-returns-2 : tie.Need-returns-2
-returns-2 c = rw (front, c.if2.true)
+returns-2 : tie.Need-returns-then-s-at-eq45
+returns-2 c = rw (front, c.if-s-at-eq45.true)
 
 -- a plus sign
-returns-3 : tie.Need-returns-3
-returns-3 c = rw (front, c.if3.true)
+returns-3 : tie.Need-returns-then-s-at-eq43
+returns-3 c = rw (front, c.if-s-at-eq43.true)
 
 -- no sign
-returns-4 : tie.Need-returns-4
-returns-4 c = rw (front, ne_eqb _ _ c.before.before.if2.false, ne_eqb _ _ c.if3.false, add-zero)
+returns-4 : tie.Need-returns
+returns-4 c = rw (front, ne_eqb _ _ c.before.before.if-s-at-eq45.false, ne_eqb _ _ c.if-s-at-eq43.false, add-zero)
 
-pub past-sign-spec : {M : Type 1} → statement M
-past-sign-spec =
+pub past_sign_spec : {M : Type 1} → statement M
+past_sign_spec =
     tie.close
     (tie.spec
     returns

@@ -10,35 +10,35 @@ use Rattle.base_strtol.proofs.Leading.{leading-on, leading-stop, leading_end}
 use Rattle.base_strtol.proofs.past_spaces.Statement.{statement}
 use Rattle.base_strtol.proofs.past_spaces.Tie as tie
 
-abbrev invariant-loop : tie.invariant-loop
+abbrev invariant-loop : tie.invariant-loop-i
 invariant-loop s at i₀ i = i + spaces (drop i s) ≡ at + spaces (drop at s)
 
-abbrev decreases-loop : tie.decreases-loop
+abbrev decreases-loop : tie.decreases-loop-i
 decreases-loop s at i₀ i = length s - i
 
 -- a space
-loop-again : tie.Need-loop-preserved invariant-loop decreases-loop
+loop-again : tie.Need-loop-i-preserved invariant-loop decreases-loop
 loop-again c =
     let at-loop = c.before.before.before.before in
     let s = at-loop.before.before.args.s.now in
-    omega (arith, leading-on is_space s at-loop.loop.i (omega arith) (sym c.before.is-space-c.ensures ∙ c.if1.true))
+    omega (arith, leading-on is_space s at-loop.loop-i.i (omega arith) (sym c.before.is_space_c.ensures ∙ c.if-is_space_c.true))
 
 -- no space
-returns : tie.Need-returns invariant-loop decreases-loop
+returns : tie.Need-returns-else-is_space_c invariant-loop decreases-loop
 returns c =
     let at-loop = c.before.before.before.before in
     let s = at-loop.before.before.args.s.now in
-    omega (arith, leading-stop is_space s at-loop.loop.i (omega arith) (sym c.before.is-space-c.ensures ∙ c.if1.false))
+    omega (arith, leading-stop is_space s at-loop.loop-i.i (omega arith) (sym c.before.is_space_c.ensures ∙ c.if-is_space_c.false))
 
 -- the end of the text
-returns-2 : tie.Need-returns-2 invariant-loop decreases-loop
+returns-2 : tie.Need-returns invariant-loop decreases-loop
 returns-2 c =
     let at-loop = c.before in
     let s = at-loop.before.before.args.s.now in
-    omega (arith, leading_end is_space s at-loop.loop.i (omega arith))
+    omega (arith, leading_end is_space s at-loop.loop-i.i (omega arith))
 
-pub past-spaces-spec : {M : Type 1} → statement M
-past-spaces-spec =
+pub past_spaces_spec : {M : Type 1} → statement M
+past_spaces_spec =
     tie.close
     (tie.spec
     invariant-loop

@@ -3,12 +3,12 @@ use borrow.Author.Rules.{rules}
 use Rattle.base_strtol.proofs.short_number.Statement.{statement}
 use Rattle.base_strtol.proofs.short_number.Tie as tie
 
-pub short-number-spec : {M : Type 1} → statement M
-short-number-spec =
+pub short_number_spec : {M : Type 1} → statement M
+short_number_spec =
     tie.close
     (tie.spec
     (λ c κs. search rules)
-    (λ c κs. c.before.is-pair.ensures c.if1.true)
+    (λ c κs. c.before.is_pair.ensures c.if-is_pair.true)
     (λ c. c.pair.ensures)
     (λ c κs. search rules)
-    (λ c. c.few-digits.ensures))
+    (λ c. c.few_digits.ensures))

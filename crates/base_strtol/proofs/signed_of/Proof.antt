@@ -9,39 +9,39 @@ use Rattle.base_strtol.proofs.signed_of.Statement.{statement}
 use Rattle.base_strtol.proofs.signed_of.Tie as tie
 
 -- a minus sign, and 0
-returns : tie.Need-returns
-returns c = rw (c.before.if1.true, c.if2.true)
+returns : tie.Need-returns-then-n-eq0
+returns c = rw (c.before.if-neg.true, c.if-n-eq0.true)
 
 -- n - 1 is an i64
-cast-result : tie.Need-overflow-cast-result
-cast-result c = record { sfits = omega (arith, rw c.before.if1.true at c.before.before.requires) }
+cast-result : tie.Need-overflow_cast-result
+cast-result c = record { sfits = omega (arith, rw c.before.if-neg.true at c.before.before.requires) }
 
 -- a minus sign, and not 0
-module _ (c : tie.Else2) where
+module _ (c : tie.Else-n-eq0) where
   some : 0 < c.before.before.args.n
-  some = let not-0 = c.if2.false in omega arith
+  some = let not-0 = c.if-n-eq0.false in omega arith
 
   room : c.before.before.args.n ≤ 2 ^ 63
-  room = rw c.before.if1.true at c.before.before.requires
+  room = rw c.before.if-neg.true at c.before.before.requires
 
 -- so is -1 - (n - 1)
-sub-result-2 : tie.Need-overflow-sub-result-2
+sub-result-2 : tie.Need-overflow_sub-result-then-neg
 sub-result-2 c = rw (negated _ (some c) (room c)) (negated_fits _ (some c) (room c))
 
 -- a minus sign, and not 0
-returns-2 : tie.Need-returns-2
+returns-2 : tie.Need-returns-then-neg
 returns-2 c =
-    rw (negated _ (some c) (room c), to_z-of_z (negated_fits _ (some c) (room c)), c.before.if1.true)
+    rw (negated _ (some c) (room c), to_z-of_z (negated_fits _ (some c) (room c)), c.before.if-neg.true)
 
 -- n is an i64 where there is no minus sign
-cast-result-2 : tie.Need-overflow-cast-result-2
-cast-result-2 c = record { sfits = omega (arith, rw c.if1.false at c.before.requires) }
+cast-result-2 : tie.Need-overflow_cast-result-2
+cast-result-2 c = record { sfits = omega (arith, rw c.if-neg.false at c.before.requires) }
 
 -- no minus sign
-returns-3 : tie.Need-returns-3
-returns-3 c = rw c.if1.false (to_z_pos w64 (omega (arith, rw c.if1.false at c.before.requires)))
+returns-3 : tie.Need-returns
+returns-3 c = rw c.if-neg.false (to_z_pos w64 (omega (arith, rw c.if-neg.false at c.before.requires)))
 
-pub signed-of-spec : {M : Type 1} → statement M
-signed-of-spec =
+pub signed_of_spec : {M : Type 1} → statement M
+signed_of_spec =
     tie.close
     (tie.spec returns (λ c. search rules) cast-result sub-result-2 returns-2 cast-result-2 returns-3)

@@ -4,7 +4,7 @@ use mir.Facts.{sfits_widen}
 use Rattle.base_wrapping.proofs.bits.Statement.{statement}
 use Rattle.base_wrapping.proofs.bits.Tie as tie
 
-cast-low-bits : tie.Need-overflow-cast-low-bits
+cast-low-bits : tie.Need-overflow_cast-x
 cast-low-bits c = simp (to_z-of_z c.ranges.x) (sfits_widen tt c.ranges.x)
 
 returns : tie.Need-returns
@@ -12,5 +12,5 @@ returns c =
     let x_Fits = c.before.ranges.x in
     simp (to_z-of_z x_Fits, to_z-of_z (sfits_widen {w = w32} {w' = w64} tt x_Fits)) at c.low_bits.ensures
 
-pub bits-spec : {M : Type 1} → statement M
-bits-spec = tie.close (tie.spec cast-low-bits (λ c κs. search rules) returns)
+pub bits_spec : {M : Type 1} → statement M
+bits_spec = tie.close (tie.spec cast-low-bits (λ c κs. search rules) returns)

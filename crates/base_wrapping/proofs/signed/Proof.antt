@@ -6,14 +6,14 @@ use Rattle.base_wrapping.proofs.signed.Statement.{statement}
 use Rattle.base_wrapping.proofs.signed.Tie as tie
 
 -- that number is an i32
-sub-result-2 : tie.Need-overflow-sub-result-2
+sub-result-2 : tie.Need-overflow_sub-result-else-u-lt2147483648
 sub-result-2 c = rw (upper c.before.args.u c.before.ranges.u (omega arith)) (sfits_to_z c.before.ranges.u)
 
 -- the highest bit is set: a negative number
-returns-2 : tie.Need-returns-2
+returns-2 : tie.Need-returns-else-u-lt2147483648
 returns-2 c = rw (upper c.before.args.u c.before.ranges.u (omega arith)) (to_z-of_z (sfits_to_z c.before.ranges.u))
 
-pub signed-spec : {M : Type 1} → statement M
-signed-spec =
+pub signed_spec : {M : Type 1} → statement M
+signed_spec =
     tie.close
     (tie.spec (λ c. search rules) (λ c. search rules) (λ c. search rules) sub-result-2 (λ c. search rules) returns-2)

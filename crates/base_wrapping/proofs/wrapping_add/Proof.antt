@@ -15,13 +15,13 @@ returns c =
     wrapped _ (sfits_of c.signed.type-inv) c.signed.ensures
     (simp (
       after-bits-a.bits.ensures,
-      after-bits-b.bits2.ensures,
+      after-bits-b.bits-2.ensures,
       to_z-of_z at-start.ranges.a,
       to_z-of_z at-start.ranges.b,
-    ) at after-sum.wrapping-add-u32.ensures
+    ) at after-sum.wrapping_add_u32.ensures
     ∙ low-add at-start.args.a at-start.args.b)
 
-pub wrapping-add-spec : {M : Type 1} → statement M
-wrapping-add-spec =
+pub wrapping_add_spec : {M : Type 1} → statement M
+wrapping_add_spec =
     tie.close
     (tie.spec (λ c κs. search rules) (λ c κs. search rules) (λ c κs. search rules) (λ c κs. search rules) returns)

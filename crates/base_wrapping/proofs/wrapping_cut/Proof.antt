@@ -12,5 +12,5 @@ returns c =
     wrapped _ (sfits_of c.signed.type-inv) c.signed.ensures
     (simp (to_z-of_z at-start.ranges.x) at after-bits.low_bits.ensures)
 
-pub wrapping-cut-spec : {M : Type 1} → statement M
-wrapping-cut-spec = tie.close (tie.spec (λ c κs. search rules) (λ c κs. search rules) returns)
+pub wrapping_cut_spec : {M : Type 1} → statement M
+wrapping_cut_spec = tie.close (tie.spec (λ c κs. search rules) (λ c κs. search rules) returns)

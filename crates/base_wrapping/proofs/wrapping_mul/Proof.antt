@@ -8,10 +8,10 @@ use Rattle.base_wrapping.proofs.wrapping_mul.Statement.{statement}
 use Rattle.base_wrapping.proofs.wrapping_mul.Tie as tie
 
 -- the product of the bits is within 64 bits
-mul-signed : tie.Need-overflow-mul-signed
+mul-signed : tie.Need-overflow_mul-bits
 mul-signed c =
     let bits-a-small : c.before.bits.result ≤ 4294967295 = omega arith in
-    let bits-b-small : c.bits2.result ≤ 4294967295 = omega arith in
+    let bits-b-small : c.bits-2.result ≤ 4294967295 = omega arith in
     omega (arith, mul-le-mul bits-a-small bits-b-small)
 
 returns : tie.Need-returns
@@ -22,14 +22,14 @@ returns c =
     wrapped _ (sfits_of c.signed.type-inv)
     (simp (
       after-bits-a.bits.ensures,
-      after-bits-b.bits2.ensures,
+      after-bits-b.bits-2.ensures,
       to_z-of_z at-start.ranges.a,
       to_z-of_z at-start.ranges.b,
     ) at c.signed.ensures)
     (low-mul at-start.args.a at-start.args.b at-start.ranges.a at-start.ranges.b)
 
-pub wrapping-mul-spec : {M : Type 1} → statement M
-wrapping-mul-spec =
+pub wrapping_mul_spec : {M : Type 1} → statement M
+wrapping_mul_spec =
     tie.close
     (tie.spec
     (λ c κs. search rules)

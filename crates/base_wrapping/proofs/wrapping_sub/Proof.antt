@@ -17,12 +17,12 @@ returns c =
     (low-sub at-start.args.a at-start.args.b _ (omega arith)
     (simp (
       after-bits-a.bits.ensures,
-      after-bits-b.bits2.ensures,
+      after-bits-b.bits-2.ensures,
       to_z-of_z at-start.ranges.a,
       to_z-of_z at-start.ranges.b,
-    ) at after-difference.wrapping-sub-u32.ensures))
+    ) at after-difference.wrapping_sub_u32.ensures))
 
-pub wrapping-sub-spec : {M : Type 1} → statement M
-wrapping-sub-spec =
+pub wrapping_sub_spec : {M : Type 1} → statement M
+wrapping_sub_spec =
     tie.close
     (tie.spec (λ c κs. search rules) (λ c κs. search rules) (λ c κs. search rules) (λ c κs. search rules) returns)

@@ -13,35 +13,35 @@ use Rattle.calendar_gregorian.proofs.day_of_year.Statement.{statement}
 use Rattle.calendar_gregorian.proofs.day_of_year.Tie as tie
 
 -- the code's sum is the day of the year
-sum : (c : tie.After-days-before)
-    → to_z w64 (of_z w64 (to_z w32 (of_z w32 c.days-before.result))) +ℤ to_z w64 (of_z w64 (to_z w32 (of_z w32 c.before.before.args.day)))
+sum : (c : tie.After-days_before)
+    → to_z w64 (of_z w64 (to_z w32 (of_z w32 c.days_before.result))) +ℤ to_z w64 (of_z w64 (to_z w32 (of_z w32 c.before.before.args.day)))
     ≡ day_of_year_ℤ c.before.before.args.year c.before.before.args.month c.before.before.args.day
 unfolding day_of_year_ℤ
 sum c =
     let args_fit = c.before.before.ranges in
     rw (
       wide args_fit.day,
-      wide {z = c.days-before.result} (sfits_of c.days-before.type-inv),
-      c.days-before.ensures,
-      c.before.pg-is-leap.ensures,
+      wide {z = c.days_before.result} (sfits_of c.days_before.type-inv),
+      c.days_before.ensures,
+      c.before.pg_is_leap.ensures,
       to_z-of_z args_fit.year,
       to_z-of_z args_fit.month,
     )
 
 -- and it fits 64 bits
-fits : (c : tie.After-days-before) → SFits w64 (day_of_year_ℤ c.before.before.args.year c.before.before.args.month c.before.before.args.day)
+fits : (c : tie.After-days_before) → SFits w64 (day_of_year_ℤ c.before.before.args.year c.before.before.args.month c.before.before.args.day)
 fits c = let at-start = c.before.before in day-of-year-fits at-start.args.year at-start.args.month at-start.ranges.day
 
 returns : tie.Need-returns
 returns c = ap (λ (z : ℤ). to_z w64 (of_z w64 z)) (sum c) ∙ to_z-of_z (fits c)
 
-pub day-of-year-spec : {M : Type 1} → statement M
-day-of-year-spec =
+pub day_of_year_spec : {M : Type 1} → statement M
+day_of_year_spec =
     tie.close
     (tie.spec
     (λ c κs. search rules)
     (λ c κs. search rules)
-    (λ c. wide_fits {z = c.days-before.result} (sfits_of c.days-before.type-inv))
+    (λ c. wide_fits {z = c.days_before.result} (sfits_of c.days_before.type-inv))
     (λ c. wide_fits c.before.before.ranges.day)
     (λ c. rw (sum c) (fits c))
     returns)

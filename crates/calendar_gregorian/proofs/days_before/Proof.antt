@@ -9,29 +9,29 @@ use Rattle.calendar_gregorian.proofs.Lengths.{Passed, add_read, days-passed, row
 use Rattle.calendar_gregorian.proofs.days_before.Statement.{statement}
 use Rattle.calendar_gregorian.proofs.days_before.Tie as tie
 
-abbrev invariant-loop : tie.invariant-loop
+abbrev invariant-loop : tie.invariant-loop-i
 invariant-loop leap month n row days₀ i₀ days i = (i ≤ n) × Passed leap i days
 
-abbrev decreases-loop : tie.decreases-loop
+abbrev decreases-loop : tie.decreases-loop-i
 decreases-loop leap month n row days₀ i₀ days i = n - i
 
-loop-holds : tie.Need-loop-init invariant-loop decreases-loop
+loop-holds : tie.Need-loop-i-init invariant-loop decreases-loop
 loop-holds c = (search rules, record { is = refl; le = search rules })
 
-add-days : tie.Need-overflow-add-days invariant-loop decreases-loop
-add-days c = (add_read _ _ refl c.before.before.loop.invariant.1 (search rules)).fits
+add-days : tie.Need-overflow_add-days invariant-loop decreases-loop
+add-days c = (add_read _ _ refl c.before.before.loop-i.invariant.1 (search rules)).fits
 
-loop-again : tie.Need-loop-preserved invariant-loop decreases-loop
-loop-again c = (search rules, (add_read _ _ refl c.before.before.loop.invariant.1 (search rules)).passed)
+loop-again : tie.Need-loop-i-preserved invariant-loop decreases-loop
+loop-again c = (search rules, (add_read _ _ refl c.before.before.loop-i.invariant.1 (search rules)).passed)
 
 returns : tie.Need-returns invariant-loop decreases-loop
 returns c =
     let at-start = c.before.before.before.before in
-    let months = simp (to_z-of_z at-start.ranges.month) at c.before.before.before.months-before.ensures in
-    days-passed at-start.args.month c.before.loop.invariant.1 (omega arith)
+    let months = simp (to_z-of_z at-start.ranges.month) at c.before.before.before.months_before-n.ensures in
+    days-passed at-start.args.month c.before.loop-i.invariant.1 (omega arith)
 
-pub days-before-spec : {M : Type 1} → statement M
-days-before-spec =
+pub days_before_spec : {M : Type 1} → statement M
+days_before_spec =
     tie.close
     (tie.spec
     invariant-loop

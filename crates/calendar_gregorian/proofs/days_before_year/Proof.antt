@@ -11,14 +11,14 @@ use Rattle.calendar_gregorian.proofs.days_before_year.Statement.{statement}
 use Rattle.calendar_gregorian.proofs.days_before_year.Tie as tie
 
 -- the shifted year is not negative, so it is a u64
-cast-y-2 : tie.Need-overflow-cast-y-2
+cast-y-2 : tie.Need-overflow_cast-y-2
 cast-y-2 c = let year = shifted c.ranges.year in (year.sign, omega arith)
 
 returns : tie.Need-returns
 returns c = sym (ap before_year (shifted c.ranges.year).is ∙ closed _)
 
-pub days-before-year-spec : {M : Type 1} → statement M
-days-before-year-spec =
+pub days_before_year_spec : {M : Type 1} → statement M
+days_before_year_spec =
     tie.close
     (tie.spec
     (λ c. wide_fits c.ranges.year)

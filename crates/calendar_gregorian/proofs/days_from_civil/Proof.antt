@@ -14,25 +14,25 @@ use Rattle.calendar_gregorian.proofs.days_from_civil.Statement.{statement}
 use Rattle.calendar_gregorian.proofs.days_from_civil.Tie as tie
 
 -- the days before the year, from that start
-start : (c : tie.After-days-before-year) → c.days-before-year.result ≡ since_start c.before.args.year
-start c = rw (to_z-of_z c.before.ranges.year) at c.days-before-year.ensures
+start : (c : tie.After-days_before_year) → c.days_before_year.result ≡ since_start c.before.args.year
+start c = rw (to_z-of_z c.before.ranges.year) at c.days_before_year.ensures
 
 -- less the days to 1970, and 1
-less : (c : tie.After-days-before-year) {n : ℕ} → n ≡ to1970
-    → to_z w64 c.days-before-year.result -ℤ pos n ≡ pos (since_start c.before.args.year) -ℤ pos to1970
+less : (c : tie.After-days_before_year) {n : ℕ} → n ≡ to1970
+    → to_z w64 c.days_before_year.result -ℤ pos n ≡ pos (since_start c.before.args.year) -ℤ pos to1970
 less c e = rw (start c, start_back c.before.ranges.year, e)
 
 -- the code's sum is the days since 1970-01-01
-days : (c : tie.After-day-of-year) {n : ℕ} → n ≡ to1970
-    → to_z w64 (of_z w64 (to_z w64 c.before.days-before-year.result -ℤ pos n)) +ℤ to_z w64 (of_z w64 c.day-of-year.result)
+days : (c : tie.After-day_of_year) {n : ℕ} → n ≡ to1970
+    → to_z w64 (of_z w64 (to_z w64 c.before.days_before_year.result -ℤ pos n)) +ℤ to_z w64 (of_z w64 c.day_of_year.result)
     ≡ days_from_civil c.before.before.args.year c.before.before.args.month c.before.before.args.day
 days c e =
     let at-start = c.before.before in
     rw (
       less c.before e,
       to_z-of_z (less-fits at-start.ranges.year),
-      to_z-of_z {z = c.day-of-year.result} (sfits_of c.day-of-year.type-inv),
-      c.day-of-year.ensures,
+      to_z-of_z {z = c.day_of_year.result} (sfits_of c.day_of_year.type-inv),
+      c.day_of_year.ensures,
       to_z-of_z at-start.ranges.year,
       to_z-of_z at-start.ranges.month,
       to_z-of_z at-start.ranges.day,
@@ -40,14 +40,14 @@ days c e =
     (from_start at-start.args.year at-start.args.month at-start.args.day at-start.ranges.year)
 
 -- and it fits 64 bits
-fits : (c : tie.After-day-of-year) → SFits w64 (days_from_civil c.before.before.args.year c.before.before.args.month c.before.before.args.day)
+fits : (c : tie.After-day_of_year) → SFits w64 (days_from_civil c.before.before.args.year c.before.before.args.month c.before.before.args.day)
 fits c = let at-start = c.before.before in omega (arith, days-from-mag at-start.ranges.year at-start.args.month at-start.ranges.day)
 
 returns : tie.Need-returns
 returns c = ap (λ (z : ℤ). to_z w64 (of_z w64 z)) (days c refl) ∙ to_z-of_z (fits c)
 
-pub days-from-civil-spec : {M : Type 1} → statement M
-days-from-civil-spec =
+pub days_from_civil_spec : {M : Type 1} → statement M
+days_from_civil_spec =
     tie.close
     (tie.spec
     (λ c κs. search rules)

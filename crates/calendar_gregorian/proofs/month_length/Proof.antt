@@ -51,44 +51,44 @@ long in_leap (pos (suc i)) h l p q =
 long in_leap (negsuc m) h l p q = absurd (omega arith)
 
 -- below 1: no month
-returns : tie.Need-returns
-returns c = ap pos (no_length c.before.ranges.month c.before.args.leap c.if1.true)
+returns : tie.Need-returns-then-month-lt1
+returns c = ap pos (no_length c.before.ranges.month c.before.args.leap c.if-month-lt1.true)
 
 -- above 12: no month
-returns-2 : tie.Need-returns-2
+returns-2 : tie.Need-returns-then-month-gt12
 returns-2 c =
     let at-start = c.before.before in
-    ap pos (past-length at-start.ranges.month at-start.args.leap c.if2.true)
+    ap pos (past-length at-start.ranges.month at-start.args.leap c.if-month-gt12.true)
 
 -- February of a leap year
-returns-3 : tie.Need-returns-3
+returns-3 : tie.Need-returns-then-leap
 returns-3 c =
     let february = c.before in
     let at-start = february.before.before.before in
-    rw (is-month 2 at-start.ranges.month (lit< tt) february.if3.true, c.if4.true)
+    rw (is-month 2 at-start.ranges.month (lit< tt) february.if-month-eq2.true, c.if-leap.true)
 
 -- February of a common year
-returns-4 : tie.Need-returns-4
+returns-4 : tie.Need-returns-then-month-eq2
 returns-4 c =
     let february = c.before in
     let at-start = february.before.before.before in
-    rw (is-month 2 at-start.ranges.month (lit< tt) february.if3.true, c.if4.false)
+    rw (is-month 2 at-start.ranges.month (lit< tt) february.if-month-eq2.true, c.if-leap.false)
 
 -- 30 days
-returns-5 : tie.Need-returns-5
+returns-5 : tie.Need-returns-in-4
 returns-5 c =
     let at-start = c.before.before.before.before in
-    ap pos (thirty at-start.args.leap at-start.ranges.month c.match.keys1)
+    ap pos (thirty at-start.args.leap at-start.ranges.month c.in-4.keys1)
 
 -- 31 days
-returns-6 : tie.Need-returns-6
+returns-6 : tie.Need-returns-in_default
 returns-6 c =
     let at-end = c.before.before in
     let at-start = at-end.before.before in
     let month-fits = at-start.ranges.month in
-    let number = from month-fits at-end.before.if1.false in
+    let number = from month-fits at-end.before.if-month-lt1.false in
     ap pos (long at-start.args.leap at-start.args.month
-    (omega (arith, number.from, number.is)) (not-above month-fits at-end.if2.false) c.before.if3.false c.match.rest.1)
+    (omega (arith, number.from, number.is)) (not-above month-fits at-end.if-month-gt12.false) c.before.if-month-eq2.false c.in-4.rest.1)
 
-pub month-length-spec : {M : Type 1} → statement M
-month-length-spec = tie.close (tie.spec returns returns-2 returns-3 returns-4 returns-5 returns-6)
+pub month_length_spec : {M : Type 1} → statement M
+month_length_spec = tie.close (tie.spec returns returns-2 returns-3 returns-4 returns-5 returns-6)

@@ -15,50 +15,50 @@ use Rattle.calendar_gregorian.proofs.Lengths.{Passed, add_read, row_lt}
 use Rattle.calendar_gregorian.proofs.month_of_day.Statement.{statement}
 use Rattle.calendar_gregorian.proofs.month_of_day.Tie as tie
 
-abbrev invariant-loop : tie.invariant-loop
+abbrev invariant-loop : tie.invariant-loop-i
 invariant-loop leap day row end₀ i₀ end i =
     (i ≤ 12) × Passed leap i end
     × (suc (ended leap i (to_z w32 day)) ≡ month_of_day leap (to_z w32 day))
 
-abbrev decreases-loop : tie.decreases-loop
+abbrev decreases-loop : tie.decreases-loop-i
 decreases-loop leap day row end₀ i₀ end i = 12 - i
 
-loop-holds : tie.Need-loop-init invariant-loop decreases-loop
+loop-holds : tie.Need-loop-i-init invariant-loop decreases-loop
 loop-holds c = (search rules, record { is = refl; le = search rules }, starts c.before.args.leap _)
 
-add-end : tie.Need-overflow-add-end invariant-loop decreases-loop
-add-end c = (add_read _ _ refl c.before.before.loop.invariant.1 (search rules)).fits
+add-end : tie.Need-overflow_add-end invariant-loop decreases-loop
+add-end c = (add_read _ _ refl c.before.before.loop-i.invariant.1 (search rules)).fits
 
 -- the day is not past the end of month i + 1
-returns : tie.Need-returns invariant-loop decreases-loop
+returns : tie.Need-returns-then-day-end invariant-loop decreases-loop
 returns c =
-    let at-loop = c.before.before.before.loop in
+    let at-loop = c.before.before.before.loop-i in
     let at-start = c.before.before.before.before.before in
     let leap = at-start.args.leap in
-    let passed = stops leap _ at-loop.i (search rules) (add_read _ _ refl at-loop.invariant.1 (search rules)).is c.if1.true in
+    let passed = stops leap _ at-loop.i (search rules) (add_read _ _ refl at-loop.invariant.1 (search rules)).is c.if-day-end.true in
     to_z_pos w32 {n = at-loop.i + 1} (omega arith)
     ∙ ap pos (add-one at-loop.i ∙ ap suc (sym passed) ∙ at-loop.invariant.2)
     ∙ rw (to_z-of_z at-start.ranges.day)
 
-loop-again : tie.Need-loop-preserved invariant-loop decreases-loop
+loop-again : tie.Need-loop-i-preserved invariant-loop decreases-loop
 loop-again c =
-    let at-loop = c.before.before.before.loop in
+    let at-loop = c.before.before.before.loop-i in
     let leap = c.before.before.before.before.before.args.leap in (
       search rules,
       (add_read _ _ refl at-loop.invariant.1 (search rules)).passed,
-      ap suc (goes_on leap _ at-loop.i (search rules) (add_read _ _ refl at-loop.invariant.1 (search rules)).is c.if1.false) ∙ at-loop.invariant.2,
+      ap suc (goes_on leap _ at-loop.i (search rules) (add_read _ _ refl at-loop.invariant.1 (search rules)).is c.if-day-end.false) ∙ at-loop.invariant.2,
     )
 
 -- the day is past the end of all twelve
-returns-2 : tie.Need-returns-2 invariant-loop decreases-loop
+returns-2 : tie.Need-returns invariant-loop decreases-loop
 returns-2 c =
-    let at-loop = c.before.loop in
+    let at-loop = c.before.loop-i in
     let at-start = c.before.before.before in
     let all-passed : at-loop.i ≡ 12 = omega arith in
     ap pos (rw (all-passed, ends at-start.args.leap, to_z-of_z at-start.ranges.day) at at-loop.invariant.2)
 
-pub month-of-day-spec : {M : Type 1} → statement M
-month-of-day-spec =
+pub month_of_day_spec : {M : Type 1} → statement M
+month_of_day_spec =
     tie.close
     (tie.spec
     invariant-loop

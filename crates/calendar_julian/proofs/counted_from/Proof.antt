@@ -6,27 +6,27 @@ use Rattle.calendar_julian.proofs.counted_from.Statement.{statement}
 use Rattle.calendar_julian.proofs.counted_from.Tie as tie
 
 -- before week 1: the year before
-returns : tie.Need-returns
+returns : tie.Need-returns-then-day-week_one
 unfolding counted_from
 returns c =
     let after-week-one = c.before.before in
     let args_fit = after-week-one.before.ranges in
-    let monday = returned after-week-one.week-one.type-inv after-week-one.week-one.ensures in
+    let monday = returned after-week-one.week_one.type-inv after-week-one.week_one.ensures in
     simp (
-      simp (to_z-of_z args_fit.day, monday, to_z-of_z args_fit.year) at c.before.if1.true,
-      c.wrapping-sub.ensures,
+      simp (to_z-of_z args_fit.day, monday, to_z-of_z args_fit.year) at c.before.if-day-week_one.true,
+      c.wrapping_sub.ensures,
       wrap-back,
       to_z-of_z args_fit.year,
     )
 
 -- in week 1 or later: the year itself
-returns-2 : tie.Need-returns-2
+returns-2 : tie.Need-returns-else-day-week_one
 unfolding counted_from
 returns-2 c =
     let after-week-one = c.before in
     let args_fit = after-week-one.before.ranges in
-    let monday = returned after-week-one.week-one.type-inv after-week-one.week-one.ensures in
-    simp (simp (to_z-of_z args_fit.day, monday, to_z-of_z args_fit.year) at c.if1.false, to_z-of_z args_fit.year)
+    let monday = returned after-week-one.week_one.type-inv after-week-one.week_one.ensures in
+    simp (simp (to_z-of_z args_fit.day, monday, to_z-of_z args_fit.year) at c.if-day-week_one.false, to_z-of_z args_fit.year)
 
-pub counted-from-spec : {M : Type 1} → statement M
-counted-from-spec = tie.close (tie.spec (λ c κs. search rules) (λ c κs. search rules) returns returns-2)
+pub counted_from_spec : {M : Type 1} → statement M
+counted_from_spec = tie.close (tie.spec (λ c κs. search rules) (λ c κs. search rules) returns returns-2)

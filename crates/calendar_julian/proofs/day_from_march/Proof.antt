@@ -5,16 +5,16 @@ use Rattle.calendar_julian.proofs.day_from_march.Statement.{statement}
 use Rattle.calendar_julian.proofs.day_from_march.Tie as tie
 
 -- the first of the four years, a leap year
-returns : tie.Need-returns
+returns : tie.Need-returns-then-day-eq0
 unfolding day_from_march
-returns c = simp (eq-eqb _ _ c.if1.true)
+returns c = simp (eq-eqb _ _ c.if-day-eq0.true)
 
 -- a common year
-returns-2 : tie.Need-returns-2
+returns-2 : tie.Need-returns-else-day-eq0
 unfolding day_from_march
-returns-2 c = simp (ne_eqb _ _ c.if1.false)
+returns-2 c = simp (ne_eqb _ _ c.if-day-eq0.false)
 
-pub day-from-march-spec : {M : Type 1} → statement M
-day-from-march-spec =
+pub day_from_march_spec : {M : Type 1} → statement M
+day_from_march_spec =
     tie.close
     (tie.spec (λ c. search rules) (λ c. search rules) (λ c. search rules) (λ c. search rules) (λ c. search rules) returns returns-2)

@@ -7,25 +7,25 @@ use Rattle.calendar_julian.proofs.from_march.Statement.{statement}
 use Rattle.calendar_julian.proofs.from_march.Tie as tie
 
 -- the centuries fit
-div-century : tie.Need-nonzero-div-century
+div-century : tie.Need-nonzero_div-century
 div-century c = (lit< tt, rw (to_z-of_z c.ranges.year) (quot_fits _ 100 c.ranges.year))
 
 -- a fourth of the years fits
-div-wrapping-add : tie.Need-nonzero-div-wrapping-add
+div-wrapping-add : tie.Need-nonzero_div-year
 div-wrapping-add c =
     let year-fits = c.before.before.ranges.year in
     (lit< tt, rw (to_z-of_z year-fits) (quot_fits _ 4 year-fits))
 
 -- a fourth of the centuries fits
-div-wrapping-add-2 : tie.Need-nonzero-div-wrapping-add-2
+div-wrapping-add-2 : tie.Need-nonzero_div-century-2
 div-wrapping-add-2 c =
     let year-fits = c.before.before.before.before.ranges.year in
     let century-fits = quot_fits _ 100 year-fits in
     (lit< tt, simp (to_z-of_z year-fits, to_z-of_z century-fits) (quot_fits _ 4 century-fits))
 
 -- the days of the months fit
-div-wrapping-add-3 : tie.Need-nonzero-div-wrapping-add-3
-div-wrapping-add-3 c = (lit< tt, simp (c.wrapping-mul2.ensures, wrap-back) (quot_fits _ 256 (wrap-fits _)))
+div-wrapping-add-3 : tie.Need-nonzero_div-wrapping_mul
+div-wrapping-add-3 c = (lit< tt, simp (c.wrapping_mul-2.ensures, wrap-back) (quot_fits _ 256 (wrap-fits _)))
 
 returns : tie.Need-returns
 unfolding from_march
@@ -40,14 +40,14 @@ returns c =
     let args_fit = after-year-mul.before.ranges in
     let century-fits = quot_fits _ 100 args_fit.year in
     simp (
-      c.wrapping-add4.ensures,
-      after-months.wrapping-add3.ensures,
-      after-month-mul.wrapping-mul2.ensures,
-      after-fourth-centuries.wrapping-add2.ensures,
-      after-centuries.wrapping-sub2.ensures,
+      c.wrapping_add-3.ensures,
+      after-months.wrapping_add-2.ensures,
+      after-month-mul.wrapping_mul-2.ensures,
+      after-fourth-centuries.wrapping_add-leap_days.ensures,
+      after-centuries.wrapping_sub.ensures,
       after-fourths.wrapping_add.ensures,
-      after-sub.wrapping-sub.ensures,
-      after-year-mul.wrapping-mul.ensures,
+      after-sub.wrapping_sub-days.ensures,
+      after-year-mul.wrapping_mul.ensures,
       wrap-back,
       quot-back,
       to_z-of_z args_fit.year,
@@ -58,8 +58,8 @@ returns c =
       to_z-of_z (quot_fits _ 4 century-fits),
     )
 
-pub from-march-spec : {M : Type 1} → statement M
-from-march-spec =
+pub from_march_spec : {M : Type 1} → statement M
+from_march_spec =
     tie.close
     (tie.spec
     div-century

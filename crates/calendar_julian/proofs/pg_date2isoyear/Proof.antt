@@ -14,16 +14,16 @@ returns c =
     let after-date2j = after-counted.before in
     let args_fit = after-date2j.before.ranges in
     simp (
-      returned c.week-year.type-inv c.week-year.ensures,
+      returned c.week_year.type-inv c.week_year.ensures,
       after-add.wrapping_add.ensures,
       wrap-back,
-      returned after-counted.counted-from.type-inv after-counted.counted-from.ensures,
-      returned after-date2j.pg-date2j.type-inv after-date2j.pg-date2j.ensures,
+      returned after-counted.counted_from-from.type-inv after-counted.counted_from-from.ensures,
+      returned after-date2j.pg_date2j-dayn.type-inv after-date2j.pg_date2j-dayn.ensures,
       to_z-of_z args_fit.year,
       to_z-of_z args_fit.mon,
       to_z-of_z args_fit.mday,
     )
 
-pub pg-date2isoyear-spec : {M : Type 1} → statement M
-pg-date2isoyear-spec =
+pub pg_date2isoyear_spec : {M : Type 1} → statement M
+pg_date2isoyear_spec =
     tie.close (tie.spec (λ c κs. search rules) (λ c κs. search rules) (λ c κs. search rules) (λ c κs. search rules) returns)

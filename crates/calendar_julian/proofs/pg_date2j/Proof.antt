@@ -13,29 +13,29 @@ shifted : {y m d s t z : ℤ} (i k : ℤ) → SFits w32 y → SFits w32 m → SF
 shifted i k f g h p q e = e ∙ simp (p, q, wrap-back, to_z-of_z f, to_z-of_z g, to_z-of_z h)
 
 -- from March on
-returns : tie.Need-returns
+returns : tie.Need-returns-then-month-gt2
 unfolding date2j
 returns c =
     let after-month = c.before in
     let after-year = after-month.before in
     let args_fit = after-year.before.before.ranges in
-    simp (simp (to_z-of_z args_fit.month) at after-year.before.if1.true)
+    simp (simp (to_z-of_z args_fit.month) at after-year.before.if-month-gt2.true)
     (shifted (pos 4800) (pos 1) args_fit.year args_fit.month args_fit.day after-year.wrapping_add.ensures
-    after-month.wrapping-add2.ensures (returned c.from-march.type-inv c.from-march.ensures))
+    after-month.wrapping_add-then-month-gt2.ensures (returned c.from_march.type-inv c.from_march.ensures))
 
 -- January and February
-returns-2 : tie.Need-returns-2
+returns-2 : tie.Need-returns-else-month-gt2
 unfolding date2j
 returns-2 c =
     let after-month = c.before in
     let after-year = after-month.before in
     let args_fit = after-year.before.before.ranges in
-    simp (simp (to_z-of_z args_fit.month) at after-year.before.if1.false)
-    (shifted (pos 4799) (pos 13) args_fit.year args_fit.month args_fit.day after-year.wrapping-add3.ensures
-    after-month.wrapping-add4.ensures (returned c.from-march2.type-inv c.from-march2.ensures))
+    simp (simp (to_z-of_z args_fit.month) at after-year.before.if-month-gt2.false)
+    (shifted (pos 4799) (pos 13) args_fit.year args_fit.month args_fit.day after-year.wrapping_add-else-month-gt2.ensures
+    after-month.wrapping_add-else-month-gt2-2.ensures (returned c.from_march-else-month-gt2.type-inv c.from_march-else-month-gt2.ensures))
 
-pub pg-date2j-spec : {M : Type 1} → statement M
-pg-date2j-spec =
+pub pg_date2j_spec : {M : Type 1} → statement M
+pg_date2j_spec =
     tie.close
     (tie.spec
     (λ c κs. search rules)

@@ -15,14 +15,14 @@ returns c =
     let args_fit = after-sub.before.ranges in
     simp (
       c.wrapping_add.ensures,
-      returned after-week-one.week-one.type-inv after-week-one.week-one.ensures,
-      after-mul.wrapping-mul.ensures,
-      after-sub.wrapping-sub.ensures,
+      returned after-week-one.week_one.type-inv after-week-one.week_one.ensures,
+      after-mul.wrapping_mul.ensures,
+      after-sub.wrapping_sub.ensures,
       wrap-back,
       to_z-of_z args_fit.year,
       to_z-of_z args_fit.week,
     )
 
-pub pg-isoweek2j-spec : {M : Type 1} → statement M
-pg-isoweek2j-spec =
+pub pg_isoweek2j_spec : {M : Type 1} → statement M
+pg_isoweek2j_spec =
     tie.close (tie.spec (λ c κs. search rules) (λ c κs. search rules) (λ c κs. search rules) (λ c κs. search rules) returns)

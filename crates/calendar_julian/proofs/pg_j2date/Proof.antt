@@ -7,13 +7,13 @@ use Rattle.calendar_julian.proofs.pg_j2date.Statement.{statement}
 use Rattle.calendar_julian.proofs.pg_j2date.Tie as tie
 
 -- the day from March 1, plus 123
-day-lt : (c : tie.After-day-from-march) → c.day-from-march.result < 489
-day-lt c = rw c.day-from-march.ensures (march-lt (day_of_four c.before.with-skipped.result))
+day-lt : (c : tie.After-day_from_march-day) → c.day_from_march-day.result < 489
+day-lt c = rw c.day_from_march-day.ensures (march-lt (day_of_four c.before.with_skipped-days.result))
 
 -- the year less 4800 fits
-sub-t12 : tie.Need-overflow-sub-t12
+sub-t12 : tie.Need-overflow_sub-result
 sub-t12 c =
-    let n = c.before.with-skipped.result in
+    let n = c.before.with_skipped-days.result in
     rw (year-is n (omega arith)) (year-fits n (omega arith))
 
 returns : tie.Need-returns
@@ -22,17 +22,17 @@ returns c =
     let after-skipped = c.before in
     let after-shift = after-skipped.before in
     let after-bits = after-shift.before in
-    fields after-skipped.with-skipped.result (omega arith) c.day-from-march.result (day-lt c)
+    fields after-skipped.with_skipped-days.result (omega arith) c.day_from_march-day.result (day-lt c)
     ∙ simp (
-      c.day-from-march.ensures,
-      after-skipped.with-skipped.ensures,
-      after-shift.wrapping-add-u32.ensures,
+      c.day_from_march-day.ensures,
+      after-skipped.with_skipped-days.ensures,
+      after-shift.wrapping_add_u32.ensures,
       after-bits.bits.ensures,
       to_z-of_z after-bits.before.ranges.jd,
     )
 
-pub pg-j2date-spec : {M : Type 1} → statement M
-pg-j2date-spec =
+pub pg_j2date_spec : {M : Type 1} → statement M
+pg_j2date_spec =
     tie.close
     (tie.spec
     (λ c κs. search rules)

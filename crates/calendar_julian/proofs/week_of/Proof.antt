@@ -6,19 +6,19 @@ use Rattle.calendar_julian.proofs.Sevens.{week-fits}
 use Rattle.calendar_julian.proofs.week_of.Statement.{statement}
 use Rattle.calendar_julian.proofs.week_of.Tie as tie
 
-div-result : tie.Need-nonzero-div-result
-div-result c = (lit< tt, simp (c.wrapping-sub.ensures, wrap-back) (quot_fits _ 7 (wrap-fits _)))
+div-result : tie.Need-nonzero_div-result
+div-result c = (lit< tt, simp (c.wrapping_sub.ensures, wrap-back) (quot_fits _ 7 (wrap-fits _)))
 
-add-result : tie.Need-overflow-add-result
-add-result c = simp (c.wrapping-sub.ensures, wrap-back, quot-back) (week-fits _)
+add-result : tie.Need-overflow_add-result
+add-result c = simp (c.wrapping_sub.ensures, wrap-back, quot-back) (week-fits _)
 
 returns : tie.Need-returns
 unfolding week_of
 returns c =
     let args_fit = c.before.before.ranges in
     simp (
-      c.wrapping-sub.ensures,
-      returned c.before.week-one.type-inv c.before.week-one.ensures,
+      c.wrapping_sub.ensures,
+      returned c.before.week_one.type-inv c.before.week_one.ensures,
       wrap-back,
       quot-back,
       to_z-of_z args_fit.day,
@@ -26,5 +26,5 @@ returns c =
     )
     (to_z-of_z (week-fits _))
 
-pub week-of-spec : {M : Type 1} → statement M
-week-of-spec = tie.close (tie.spec (λ c κs. search rules) (λ c κs. search rules) div-result add-result returns)
+pub week_of_spec : {M : Type 1} → statement M
+week_of_spec = tie.close (tie.spec (λ c κs. search rules) (λ c κs. search rules) div-result add-result returns)

@@ -12,14 +12,14 @@ returns c =
     let after-sub = after-weekday.before in
     let after-date2j = after-sub.before in
     simp (
-      c.wrapping-sub2.ensures,
-      returned after-weekday.pg-j2day.type-inv after-weekday.pg-j2day.ensures,
-      after-sub.wrapping-sub.ensures,
-      returned after-date2j.pg-date2j.type-inv after-date2j.pg-date2j.ensures,
+      c.wrapping_sub-2.ensures,
+      returned after-weekday.pg_j2day.type-inv after-weekday.pg_j2day.ensures,
+      after-sub.wrapping_sub.ensures,
+      returned after-date2j.pg_date2j-day4.type-inv after-date2j.pg_date2j-day4.ensures,
       wrap-back,
       to_z-of_z after-date2j.before.ranges.year,
     )
 
-pub week-one-spec : {M : Type 1} → statement M
-week-one-spec =
+pub week_one_spec : {M : Type 1} → statement M
+week_one_spec =
     tie.close (tie.spec (λ c κs. search rules) (λ c κs. search rules) (λ c κs. search rules) (λ c κs. search rules) returns)

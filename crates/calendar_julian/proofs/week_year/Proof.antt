@@ -6,43 +6,43 @@ use Rattle.calendar_julian.proofs.week_year.Statement.{statement}
 use Rattle.calendar_julian.proofs.week_year.Tie as tie
 
 -- what the first test compares: the week
-week : (c : tie.After-week-of) → read c.week-of.result ≡ week_of c.before.args.day c.before.args.from
+week : (c : tie.After-week_of) → read c.week_of.result ≡ week_of c.before.args.day c.before.args.from
 week c =
     let args_fit = c.before.ranges in
-    simp (to_z-of_z args_fit.day, to_z-of_z args_fit.from) at (returned c.week-of.type-inv c.week-of.ensures)
+    simp (to_z-of_z args_fit.day, to_z-of_z args_fit.from) at (returned c.week_of.type-inv c.week_of.ensures)
 
 -- and the second: the Monday of week 1 of the next year
-monday : (c : tie.After-week-one) → read c.week-one.result ≡ week_one c.before.before.before.args.next
-monday c = simp (to_z-of_z c.before.before.before.ranges.next) at (returned c.week-one.type-inv c.week-one.ensures)
+monday : (c : tie.After-week_one) → read c.week_one.result ≡ week_one c.before.before.before.args.next
+monday c = simp (to_z-of_z c.before.before.before.ranges.next) at (returned c.week_one.type-inv c.week_one.ensures)
 
 -- before week 52
-returns : tie.Need-returns
+returns : tie.Need-returns-then-week_of-lt52
 unfolding week_year
-returns c = simp (simp (week c.before) at c.if1.true, to_z-of_z c.before.before.ranges.from)
+returns c = simp (simp (week c.before) at c.if-week_of-lt52.true, to_z-of_z c.before.before.ranges.from)
 
 -- week 52 or later, but before week 1 of the next year
-returns-2 : tie.Need-returns-2
+returns-2 : tie.Need-returns-then-day-week_one
 unfolding week_year
 returns-2 c =
     let late = c.before.before in
     let args_fit = late.before.before.ranges in
     simp (
-      simp (week late.before) at late.if1.false,
-      simp (to_z-of_z args_fit.day, monday c.before) at c.if2.true,
+      simp (week late.before) at late.if-week_of-lt52.false,
+      simp (to_z-of_z args_fit.day, monday c.before) at c.if-day-week_one.true,
       to_z-of_z args_fit.from,
     )
 
 -- in week 1 of the next year or later
-returns-3 : tie.Need-returns-3
+returns-3 : tie.Need-returns
 unfolding week_year
 returns-3 c =
     let late = c.before.before in
     let args_fit = late.before.before.ranges in
     simp (
-      simp (week late.before) at late.if1.false,
-      simp (to_z-of_z args_fit.day, monday c.before) at c.if2.false,
+      simp (week late.before) at late.if-week_of-lt52.false,
+      simp (to_z-of_z args_fit.day, monday c.before) at c.if-day-week_one.false,
       to_z-of_z args_fit.next,
     )
 
-pub week-year-spec : {M : Type 1} → statement M
-week-year-spec = tie.close (tie.spec (λ c κs. search rules) returns (λ c κs. search rules) returns-2 returns-3)
+pub week_year_spec : {M : Type 1} → statement M
+week_year_spec = tie.close (tie.spec (λ c κs. search rules) returns (λ c κs. search rules) returns-2 returns-3)

@@ -7,10 +7,10 @@ use Rattle.calendar_julian.proofs.with_skipped.Tie as tie
 
 returns : tie.Need-returns
 unfolding with_skipped
-returns c = c.wrapping-add-u32.ensures
+returns c = c.wrapping_add_u32.ensures
 
-pub with-skipped-spec : {M : Type 1} → statement M
-with-skipped-spec =
+pub with_skipped_spec : {M : Type 1} → statement M
+with_skipped_spec =
     tie.close
     (tie.spec
     (λ c. search rules)

@@ -4,14 +4,14 @@ use Rattle.std.proofs.Common.{◌+◌, ◌-◌, ◌≤◌, arith, rules}
 use Rattle.every_day.proofs.all_days.Statement.{statement}
 use Rattle.every_day.proofs.all_days.Tie as tie
 
-abbrev invariant-loop : tie.invariant-loop
+abbrev invariant-loop : tie.invariant-loop-day
 invariant-loop count₀ h₀ day₀ count h day = (day ≤ 5373485) × (count ≤ day)
 
-abbrev decreases-loop : tie.decreases-loop
+abbrev decreases-loop : tie.decreases-loop-day
 decreases-loop count₀ h₀ day₀ count h day = 5373485 - day
 
-pub all-days-spec : {M : Type 1} → statement M
-all-days-spec =
+pub all_days_spec : {M : Type 1} → statement M
+all_days_spec =
     tie.close
     (tie.spec
     invariant-loop

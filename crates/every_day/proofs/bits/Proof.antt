@@ -7,21 +7,21 @@ use Rattle.every_day.proofs.Complement.{positive-bits, negative-bits}
 use Rattle.every_day.proofs.bits.Statement.{statement}
 use Rattle.every_day.proofs.bits.Tie as tie
 
-below-0 : (c : tie.Then1) → lt_z c.before.args.x (pos 0) ≡ true
-below-0 c = simp (to_z-of_z c.before.ranges.x) at c.if1.true
+below-0 : (c : tie.Then-x-lt0) → lt_z c.before.args.x (pos 0) ≡ true
+below-0 c = simp (to_z-of_z c.before.ranges.x) at c.if-x-lt0.true
 
-not-below-0 : (c : tie.Else1) → lt_z c.before.args.x (pos 0) ≡ false
-not-below-0 c = simp (to_z-of_z c.before.ranges.x) at c.if1.false
+not-below-0 : (c : tie.Else-x-lt0) → lt_z c.before.args.x (pos 0) ≡ false
+not-below-0 c = simp (to_z-of_z c.before.ranges.x) at c.if-x-lt0.false
 
 -- what is cast fits, and gives the magnitude
-negative-cast : (c : tie.Then1) → let x = c.before.args.x in Cast x (negsuc 0 -ℤ x) 1
+negative-cast : (c : tie.Then-x-lt0) → let x = c.before.args.x in Cast x (negsuc 0 -ℤ x) 1
 negative-cast c = negative _ c.before.ranges.x (below-0 c)
 
-positive-cast : (c : tie.Else1) → let x = c.before.args.x in Cast x x 0
+positive-cast : (c : tie.Else-x-lt0) → let x = c.before.args.x in Cast x x 0
 positive-cast c = positive _ c.before.ranges.x (not-below-0 c)
 
-pub bits-spec : {M : Type 1} → statement M
-bits-spec =
+pub bits_spec : {M : Type 1} → statement M
+bits_spec =
     tie.close
     (tie.spec
     (λ c. simp (to_z-of_z c.before.ranges.x) (negative-cast c).ranges)

@@ -4,5 +4,5 @@ use Rattle.calendar_gregorian.proofs.Signed.{wide_fits}
 use Rattle.every_day.proofs.take_int.Statement.{statement}
 use Rattle.every_day.proofs.take_int.Tie as tie
 
-pub take-int-spec : {M : Type 1} → statement M
-take-int-spec = tie.close (tie.spec (λ c. wide_fits c.ranges.x) (λ c κs. search rules) (λ c. search rules))
+pub take_int_spec : {M : Type 1} → statement M
+take_int_spec = tie.close (tie.spec (λ c. wide_fits c.ranges.x) (λ c κs. search rules) (λ c. search rules))

@@ -5,8 +5,8 @@ use Rattle.every_day.proofs.Product.{product}
 use Rattle.every_day.proofs.times_prime.Statement.{statement}
 use Rattle.every_day.proofs.times_prime.Tie as tie
 
-pub times-prime-spec : {M : Type 1} → statement M
-times-prime-spec =
+pub times_prime_spec : {M : Type 1} → statement M
+times_prime_spec =
     tie.close
     (tie.spec
     (λ c. search rules)
@@ -15,4 +15,4 @@ times-prime-spec =
     (λ c. search rules)
     (λ c. search rules)
     (λ c κs. search rules)
-    (λ c. c.wrapping-add-u64.ensures ∙ product c.before.args.h))
+    (λ c. c.wrapping_add_u64.ensures ∙ product c.before.args.h))

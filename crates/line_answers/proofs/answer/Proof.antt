@@ -12,7 +12,7 @@ use Rattle.line_answers.proofs.answer.Tie as tie
 part-answer-whole-end : tie.Need-slice-bounds-answer-whole-end
 part-answer-whole-end c =
     let args = c.before.before.before.args in
-    omega (arith, c.counted.ensures, counted-within args.mode args.line.now)
+    omega (arith, c.counted-len.ensures, counted-within args.mode args.line.now)
 
 -- the answer to the bytes that count
 returns : tie.Need-returns
@@ -21,11 +21,11 @@ returns c =
     let after-answer = c.before.before in
     let after-count = after-answer.before.before.before in
     let args = after-count.before.before.before.args in
-    let size : after-count.counted.result - 0 ≡ counted args.mode args.line.now = omega (arith, after-count.counted.ensures) in
-    rw size at after-answer.answer-whole.ensures
+    let size : after-count.counted-len.result - 0 ≡ counted args.mode args.line.now = omega (arith, after-count.counted-len.ensures) in
+    rw size at after-answer.answer_whole.ensures
 
-pub answer-spec : {M : Type 1} → statement M
-answer-spec =
+pub answer_spec : {M : Type 1} → statement M
+answer_spec =
     tie.close
     (tie.spec
     (λ c κs. search rules)

@@ -5,34 +5,34 @@ use Rattle.line_answers.proofs.answer_pair.Statement.{statement}
 use Rattle.line_answers.proofs.answer_pair.Tie as tie
 
 -- the parts
-returns : tie.Need-returns
+returns : tie.Need-returns-in-Parts
 unfolding pair_answer
 returns c =
     let after-answer = c.before.before in
-    rw after-answer.before.before.enum_told.given.1 after-answer.parts.ensures
+    rw after-answer.before.before.enum_told-1.given.1 after-answer.parts.ensures
 
 -- the instant
-returns-2 : tie.Need-returns-2
+returns-2 : tie.Need-returns-in-Instant
 unfolding pair_answer
 returns-2 c =
     let after-answer = c.before.before in
-    rw after-answer.before.before.enum-told2.given.1 after-answer.instant.ensures
+    rw after-answer.before.before.enum_told-in-Instant-1.given.1 after-answer.instant.ensures
 
 -- the day
-returns-3 : tie.Need-returns-3
+returns-3 : tie.Need-returns-in-Date
 unfolding pair_answer
 returns-3 c =
     let after-answer = c.before.before in
-    rw after-answer.before.before.enum-told3.given.1 after-answer.day.ensures
+    rw after-answer.before.before.enum_told-in-Date-1.given.1 after-answer.day.ensures
 
 -- the text
-returns-4 : tie.Need-returns-4
+returns-4 : tie.Need-returns-in-Write
 returns-4 c =
     let after-answer = c.before.before in
-    rw after-answer.before.before.enum-told4.given.1 after-answer.text.ensures
+    rw after-answer.before.before.enum_told-in-Write-1.given.1 after-answer.text.ensures
 
-pub answer-pair-spec : {M : Type 1} → statement M
-answer-pair-spec =
+pub answer_pair_spec : {M : Type 1} → statement M
+answer_pair_spec =
     tie.close
     (tie.spec
     (λ c. search rules)

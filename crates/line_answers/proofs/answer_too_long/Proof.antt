@@ -9,8 +9,8 @@ returns : tie.Need-returns
 unfolding too_long_answer
 returns c =
     let after-put = c.before.before in
-    rw after-put.before.before.report-of.ensures at after-put.put-report.ensures
+    rw after-put.before.before.report_of.ensures at after-put.put_report.ensures
 
-pub answer-too-long-spec : {M : Type 1} → statement M
-answer-too-long-spec =
+pub answer_too_long_spec : {M : Type 1} → statement M
+answer_too_long_spec =
     tie.close (tie.spec (λ c κs. search rules) (λ c κs. search rules) (λ c. search rules) returns)

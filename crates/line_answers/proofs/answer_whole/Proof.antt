@@ -6,29 +6,29 @@ use Rattle.line_answers.proofs.answer_whole.Statement.{statement}
 use Rattle.line_answers.proofs.answer_whole.Tie as tie
 
 -- too long
-returns : tie.Need-returns
+returns : tie.Need-returns-then-len-gt-LINE
 returns c =
     let after-answer = c.before.before in
-    rw (too_long _ _ after-answer.before.before.if1.true) after-answer.answer-too-long.ensures
+    rw (too_long _ _ after-answer.before.before.if-len-gt-LINE.true) after-answer.answer_too_long.ensures
 
 -- a TAB
-returns-2 : tie.Need-returns-2
+returns-2 : tie.Need-returns-then-cut-len
 returns-2 c =
     let after-answer = c.before.before in
     let at-tab = after-answer.before.before.before.before in
     let after-find = at-tab.before in
-    rw (cut_at _ _ _ after-find.before.if1.false after-find.find.ensures at-tab.if2.true) after-answer.answer-pair.ensures
+    rw (cut_at _ _ _ after-find.before.if-len-gt-LINE.false after-find.find-cut.ensures at-tab.if-cut-len.true) after-answer.answer_pair.ensures
 
 -- none
-returns-3 : tie.Need-returns-3
+returns-3 : tie.Need-returns
 returns-3 c =
     let after-answer = c.before.before in
     let at-end = after-answer.before.before.before in
     let after-find = at-end.before in
-    rw (uncut _ _ _ after-find.before.if1.false after-find.find.ensures at-end.if2.false) after-answer.answer-pair2.ensures
+    rw (uncut _ _ _ after-find.before.if-len-gt-LINE.false after-find.find-cut.ensures at-end.if-cut-len.false) after-answer.answer_pair-2.ensures
 
-pub answer-whole-spec : {M : Type 1} → statement M
-answer-whole-spec =
+pub answer_whole_spec : {M : Type 1} → statement M
+answer_whole_spec =
     tie.close
     (tie.spec
     (λ c κs. search rules)

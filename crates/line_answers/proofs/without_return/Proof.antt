@@ -17,8 +17,8 @@ empty [] h = refl
 empty (b ∷ line) h = absurd (omega arith)
 
 -- an empty line
-returns : tie.Need-returns
-returns c = empty c.before.args.line.now c.if1.true
+returns : tie.Need-returns-then-len-eq0
+returns c = empty c.before.args.line.now c.if-len-eq0.true
 
 left-off : (line : List ℕ) → byte_at line (length line - 1) ≡ 13 → length line - 1 ≡ without_return line
 unfolding without_return
@@ -29,12 +29,12 @@ unfolding without_return
 kept line n = rw (ne_eqb _ _ n)
 
 -- a carriage return at the end
-returns-2 : tie.Need-returns-2
-returns-2 c = left-off _ c.if2.true
+returns-2 : tie.Need-returns-then-line-len-eq13
+returns-2 c = left-off _ c.if-line-len-eq13.true
 
 -- another byte
-returns-3 : tie.Need-returns-3
-returns-3 c = kept _ c.if2.false
+returns-3 : tie.Need-returns
+returns-3 c = kept _ c.if-line-len-eq13.false
 
-pub without-return-spec : {M : Type 1} → statement M
-without-return-spec = tie.close (tie.spec returns (λ c. search rules) (λ c. search rules) (λ c. search rules) returns-2 returns-3)
+pub without_return_spec : {M : Type 1} → statement M
+without_return_spec = tie.close (tie.spec returns (λ c. search rules) (λ c. search rules) (λ c. search rules) returns-2 returns-3)

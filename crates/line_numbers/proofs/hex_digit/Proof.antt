@@ -7,8 +7,8 @@ use Rattle.line_numbers.proofs.Hex.{numeral, small, capital, other}
 use Rattle.line_numbers.proofs.hex_digit.Statement.{statement}
 use Rattle.line_numbers.proofs.hex_digit.Tie as tie
 
-pub hex-digit-spec : {M : Type 1} → statement M
-hex-digit-spec =
+pub hex_digit_spec : {M : Type 1} → statement M
+hex_digit_spec =
     tie.close
     (tie.spec
     (λ c. search rules)

@@ -9,56 +9,56 @@ use Rattle.line_buffers.proofs.Puts.{put-size}
 use Rattle.line_numbers.proofs.put_hex.Statement.{statement}
 use Rattle.line_numbers.proofs.put_hex.Tie as tie
 
-abbrev invariant-loop : tie.invariant-loop
+abbrev invariant-loop : tie.invariant-loop-i
 invariant-loop text out₀ at next₀ i₀ out next i = Decoded text out₀ at i out next
 
-abbrev decreases-loop : tie.decreases-loop
+abbrev decreases-loop : tie.decreases-loop-i
 decreases-loop text out₀ at next₀ i₀ out next i = length text - i
 
 -- the first byte of a pair is no digit
-returns : tie.Need-returns invariant-loop decreases-loop
+returns : tie.Need-returns-then-high-gt15 invariant-loop decreases-loop
 returns c =
     let after-high = c.before.before.before in
     let at-loop = after-high.before.before.before in
-    no-high _ _ _ _ _ _ at-loop.loop.invariant (omega arith) (omega (arith, after-high.hex-digit.ensures))
+    no-high _ _ _ _ _ _ at-loop.loop-i.invariant (omega arith) (omega (arith, after-high.hex_digit-high.ensures))
 
 -- the second is none
-returns-2 : tie.Need-returns-2 invariant-loop decreases-loop
+returns-2 : tie.Need-returns-then-low-gt15 invariant-loop decreases-loop
 returns-2 c =
     let after-low = c.before.before in
     let at-loop = after-low.before.before.before.before.before in
-    no-low _ _ _ _ _ _ at-loop.loop.invariant (omega arith) (omega (arith, after-low.hex-digit2.ensures))
+    no-low _ _ _ _ _ _ at-loop.loop-i.invariant (omega arith) (omega (arith, after-low.hex_digit-low.ensures))
 
-loop-again : tie.Need-loop-preserved invariant-loop decreases-loop
+loop-again : tie.Need-loop-i-preserved invariant-loop decreases-loop
 loop-again c =
     let after-put = c.before.before in
     let after-low = after-put.before.before.before.before in
     let after-high = after-low.before.before in
     let at-loop = after-high.before.before.before in
-    let high = after-high.hex-digit in
-    let low = after-low.hex-digit2 in
-    more _ _ _ _ _ _ at-loop.loop.invariant high.result low.result (omega arith) high.ensures low.ensures (omega arith) (omega arith) _ _ after-put.put_byte.ensures
+    let high = after-high.hex_digit-high in
+    let low = after-low.hex_digit-low in
+    more _ _ _ _ _ _ at-loop.loop-i.invariant high.result low.result (omega arith) high.ensures low.ensures (omega arith) (omega arith) _ _ after-put.put_byte-next.ensures
 
 -- no pair is left
-returns-3 : tie.Need-returns-3 invariant-loop decreases-loop
-returns-3 c = ended _ _ _ _ _ _ c.before.loop.invariant (omega arith)
+returns-3 : tie.Need-returns invariant-loop decreases-loop
+returns-3 c = ended _ _ _ _ _ _ c.before.loop-i.invariant (omega arith)
 
-pub put-hex-spec : {M : Type 1} → statement M
-put-hex-spec =
+pub put_hex_spec : {M : Type 1} → statement M
+put_hex_spec =
     tie.close
     (tie.spec
     invariant-loop
     decreases-loop
     (λ c. begun _ _ _)
-    (λ c. omega (arith, c.loop.invariant.within))
+    (λ c. omega (arith, c.loop-i.invariant.within))
     (λ c. omega arith)
     (λ c κs. search rules)
     (λ c. omega arith)
     (λ c. omega arith)
     (λ c κs. search rules)
-    (λ c. put-size _ _ c.before.before.before.before.before.before.loop.invariant.put)
+    (λ c. put-size _ _ c.before.before.before.before.before.before.loop-i.invariant.put)
     returns
-    (λ c. put-size _ _ c.before.before.before.before.before.before.before.loop.invariant.put)
+    (λ c. put-size _ _ c.before.before.before.before.before.before.before.loop-i.invariant.put)
     returns-2
     (λ c. omega arith)
     (λ c. omega arith)
@@ -66,5 +66,5 @@ put-hex-spec =
     (λ c. omega arith)
     (λ c. omega arith)
     loop-again
-    (λ c. put-size _ _ c.before.loop.invariant.put)
+    (λ c. put-size _ _ c.before.loop-i.invariant.put)
     returns-3)

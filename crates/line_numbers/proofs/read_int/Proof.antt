@@ -10,22 +10,22 @@ use Rattle.line_numbers.proofs.read_int.Statement.{statement}
 use Rattle.line_numbers.proofs.read_int.Tie as tie
 
 -- a number
-returns : tie.Need-returns
+returns : tie.Need-returns-in-Value
 unfolding narrow
 returns c =
     let at_value = c.before.before in
-    let number_is = sym at_value.before.before.read_number.ensures ∙ at_value.n.given.1 in
-    let fits : SFits w64 at_value.n.given.0.0 = search rules in
+    let number_is = sym at_value.before.before.read_number.ensures ∙ at_value.n-1.given.1 in
+    let fits : SFits w64 at_value.n-1.given.0.0 = search rules in
     rw number_is (simp (to_z-of_z fits) at c.narrow.ensures)
 
 -- none
-returns-2 : tie.Need-returns-2
+returns-2 : tie.Need-returns-in-Malformed
 unfolding narrow
 returns-2 c =
-    rw (sym c.before.before.read_number.ensures ∙ c.enum_told.given.1)
+    rw (sym c.before.before.read_number.ensures ∙ c.enum_told-1.given.1)
 
-pub read-int-spec : {M : Type 1} → statement M
-read-int-spec =
+pub read_int_spec : {M : Type 1} → statement M
+read_int_spec =
     tie.close
     (tie.spec
     (λ c κs. search rules)

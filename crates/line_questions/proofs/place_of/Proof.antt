@@ -7,25 +7,25 @@ use Rattle.line_questions.proofs.place_of.Statement.{statement}
 use Rattle.line_questions.proofs.place_of.Tie as tie
 
 -- below 0
-returns : tie.Need-returns
+returns : tie.Need-returns-then-n-lt0
 returns c =
     let at_test = c.before in
     let n-is = to_z-of_z at_test.before.ranges.n in
-    c.no_place.ensures ∙ sym (below-0 _ _ _ (simp n-is at at_test.if1.true))
+    c.no_place.ensures ∙ sym (below-0 _ _ _ (simp n-is at at_test.if-n-lt0.true))
 
 -- the number can be cast
-cast-t5 : tie.Need-overflow-cast-t5
+cast-t5 : tie.Need-overflow_cast-result
 cast-t5 c =
     let fits = c.before.ranges.n in
     let n-is = to_z-of_z fits in
-    simp n-is (placed 0 0 _ fits (simp n-is at c.if1.false)).0
+    simp n-is (placed 0 0 _ fits (simp n-is at c.if-n-lt0.false)).0
 
 -- a place
-returns-2 : tie.Need-returns-2
+returns-2 : tie.Need-returns
 returns-2 c =
     let fits = c.before.ranges.n in
     let n-is = to_z-of_z fits in
-    simp n-is (sym (placed _ _ _ fits (simp n-is at c.if1.false)).1)
+    simp n-is (sym (placed _ _ _ fits (simp n-is at c.if-n-lt0.false)).1)
 
-pub place-of-spec : {M : Type 1} → statement M
-place-of-spec = tie.close (tie.spec (λ c κs. search rules) returns cast-t5 returns-2)
+pub place_of_spec : {M : Type 1} → statement M
+place_of_spec = tie.close (tie.spec (λ c κs. search rules) returns cast-t5 returns-2)

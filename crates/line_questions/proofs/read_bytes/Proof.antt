@@ -7,45 +7,45 @@ use Rattle.line_questions.proofs.read_bytes.Statement.{statement}
 use Rattle.line_questions.proofs.read_bytes.Tie as tie
 
 -- no item
-returns : tie.Need-returns
-returns c = no_item _ _ _ c.if1.true
+returns : tie.Need-returns-then-line-from
+returns c = no_item _ _ _ c.if-line-from.true
 
 -- `-`
-returns-2 : tie.Need-returns-2
+returns-2 : tie.Need-returns-then-same
 returns-2 c =
     let after_same = c.before in
     let after-put = after_same.before.before.before.before in
-    no_bytes _ _ _ _ _ (omega arith) after-put.put-hex.ensures (after_same.same.ensures.0 c.if2.true)
+    no_bytes _ _ _ _ _ (omega arith) after-put.put_hex-count.ensures (after_same.same.ensures.0 c.if-same.true)
 
 -- half a byte
-returns-3 : tie.Need-returns-3
+returns-3 : tie.Need-returns-then-item-eq1
 returns-3 c =
     let after_same = c.before.before in
     let after-put = after_same.before.before.before.before in
-    no_text _ _ _ _ _ (omega arith) after-put.put-hex.ensures
-    (same_by after_same.same.ensures c.before.if2.false)
+    no_text _ _ _ _ _ (omega arith) after-put.put_hex-count.ensures
+    (same_by after_same.same.ensures c.before.if-same.false)
     (λ e. omega arith)
 
 -- an item that is not hexadecimal, or bytes that do not fit
-returns-4 : tie.Need-returns-4
+returns-4 : tie.Need-returns-then-count-item
 returns-4 c =
     let after_same = c.before.before.before in
     let after-put = after_same.before.before.before.before in
-    no_text _ _ _ _ _ (omega arith) after-put.put-hex.ensures
-    (same_by after_same.same.ensures c.before.before.if2.false)
+    no_text _ _ _ _ _ (omega arith) after-put.put_hex-count.ensures
+    (same_by after_same.same.ensures c.before.before.if-same.false)
     (λ e. omega arith)
 
 -- a text
-returns-5 : tie.Need-returns-5
+returns-5 : tie.Need-returns
 returns-5 c =
     let after_same = c.before.before.before in
     let after-put = after_same.before.before.before.before in
-    whole-text _ _ _ _ _ (omega arith) after-put.put-hex.ensures
-    (same_by after_same.same.ensures c.before.before.if2.false)
+    whole-text _ _ _ _ _ (omega arith) after-put.put_hex-count.ensures
+    (same_by after_same.same.ensures c.before.before.if-same.false)
     (omega arith)
 
-pub read-bytes-spec : {M : Type 1} → statement M
-read-bytes-spec =
+pub read_bytes_spec : {M : Type 1} → statement M
+read_bytes_spec =
     tie.close
     (tie.spec
     returns

@@ -6,23 +6,23 @@ use Rattle.line_texts.proofs.answer_line.Statement.{statement}
 use Rattle.line_texts.proofs.answer_line.Tie as tie
 
 -- a line whose beginning was left off
-returns : tie.Need-returns
+returns : tie.Need-returns-then-long
 returns c =
     let after-newline = c.before.before in
     let after-answer = after-newline.before.before.before.before in
     let at_test = after-answer.before.before in
-    rw at_test.if1.true (long-answered _ _ after-answer.answer-too-long.ensures after-newline.put_byte.ensures)
+    rw at_test.if-long.true (long-answered _ _ after-answer.answer_too_long-end.ensures after-newline.put_byte.ensures)
 
 -- a whole line
-returns-2 : tie.Need-returns-2
+returns-2 : tie.Need-returns
 returns-2 c =
     let after-newline = c.before.before in
     let after-answer = after-newline.before.before.before.before in
     let at_test = after-answer.before.before in
-    rw at_test.if1.false (line-answered _ _ after-answer.answer.ensures after-newline.put-byte2.ensures)
+    rw at_test.if-long.false (line-answered _ _ after-answer.answer-end.ensures after-newline.put_byte-2.ensures)
 
-pub answer-line-spec : {M : Type 1} → statement M
-answer-line-spec =
+pub answer_line_spec : {M : Type 1} → statement M
+answer_line_spec =
     tie.close
     (tie.spec
     (λ c κs. search rules)

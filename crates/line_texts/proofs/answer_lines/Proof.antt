@@ -8,51 +8,51 @@ use Rattle.line_texts.proofs.Texts.{Answering, begun, more, full, ended, size}
 use Rattle.line_texts.proofs.answer_lines.Statement.{statement}
 use Rattle.line_texts.proofs.answer_lines.Tie as tie
 
-abbrev invariant-loop : tie.invariant-loop
+abbrev invariant-loop : tie.invariant-loop-end
 invariant-loop mode text long out₀ s₀ end₀ out s end = Answering mode long text out₀ out s end
 
-abbrev decreases-loop : tie.decreases-loop
+abbrev decreases-loop : tie.decreases-loop-end
 decreases-loop mode text long out₀ s₀ end₀ out s end = length text - end
 
 -- no line is answered yet
-loop-holds : tie.Need-loop-init invariant-loop decreases-loop
-loop-holds c = begun _ _ _ _ c.find.ensures
+loop-holds : tie.Need-loop-end-init invariant-loop decreases-loop
+loop-holds c = begun _ _ _ _ c.find-end.ensures
 
 -- there is no room for one more answer
-returns : tie.Need-returns invariant-loop decreases-loop
-returns c = full _ _ _ _ c.before.before.before.loop.invariant (omega arith)
+returns : tie.Need-returns-then-out-s-lt-LONGEST invariant-loop decreases-loop
+returns c = full _ _ _ _ c.before.before.before.loop-end.invariant (omega arith)
 
-loop-again : tie.Need-loop-preserved invariant-loop decreases-loop
+loop-again : tie.Need-loop-end-preserved invariant-loop decreases-loop
 loop-again c =
     let after-answer = c.before.before.before in
     let at-loop = after-answer.before.before.before.before.before.before in
-    let a = at-loop.loop.invariant in
+    let a = at-loop.loop-end.invariant in
     let size_is = size _ _ _ _ a in
-    more _ _ _ _ a (omega arith) (omega arith) after-answer.answer-line.ensures c.find2.ensures
+    more _ _ _ _ a (omega arith) (omega arith) after-answer.answer_line-next.ensures c.find-end-in-loop-end.ensures
 
 -- no line is left
-returns-2 : tie.Need-returns-2 invariant-loop decreases-loop
-returns-2 c = ended _ _ _ _ c.before.loop.invariant (omega arith)
+returns-2 : tie.Need-returns invariant-loop decreases-loop
+returns-2 c = ended _ _ _ _ c.before.loop-end.invariant (omega arith)
 
-pub answer-lines-spec : {M : Type 1} → statement M
-answer-lines-spec =
+pub answer_lines_spec : {M : Type 1} → statement M
+answer_lines_spec =
     tie.close
     (tie.spec
     invariant-loop
     decreases-loop
     (λ c κs. search rules)
     loop-holds
-    (λ c. let a = c.before.before.loop.invariant in omega (arith, a.within, size _ _ _ _ a))
-    (λ c. size _ _ _ _ c.before.before.before.loop.invariant)
+    (λ c. let a = c.before.before.loop-end.invariant in omega (arith, a.within, size _ _ _ _ a))
+    (λ c. size _ _ _ _ c.before.before.before.loop-end.invariant)
     returns
-    (λ c. c.before.before.before.loop.invariant.on)
-    (λ c. omega (arith, c.before.before.before.loop.invariant.on))
-    (λ c. omega (arith, c.before.before.before.loop.invariant.last))
+    (λ c. c.before.before.before.loop-end.invariant.on)
+    (λ c. omega (arith, c.before.before.before.loop-end.invariant.on))
+    (λ c. omega (arith, c.before.before.before.loop-end.invariant.last))
     (λ c κs. search rules)
     (λ c. omega arith)
     (λ c. omega arith)
     (λ c κs. search rules)
     (λ c. omega arith)
     loop-again
-    (λ c. size _ _ _ _ c.before.loop.invariant)
+    (λ c. size _ _ _ _ c.before.loop-end.invariant)
     returns-2)

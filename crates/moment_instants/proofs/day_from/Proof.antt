@@ -4,12 +4,12 @@ use Rattle.moment_instants.proofs.day_from.Statement.{statement}
 use Rattle.moment_instants.proofs.day_from.Tie as tie
 
 -- the parts of a moment
-returns : tie.Need-returns
-returns c = rw c.before.before.answer.given.1 c.day-of.ensures
+returns : tie.Need-returns-in-Moment
+returns c = rw c.before.before.answer-1.given.1 c.day_of.ensures
 
 -- the answer is a refusal
-returns-2 : tie.Need-returns-2
-returns-2 c = rw c.before.answer2.given.1
+returns-2 : tie.Need-returns-in-Refused
+returns-2 c = rw c.before.answer-in-Refused-1.given.1
 
-pub day-from-spec : {M : Type 1} → statement M
-day-from-spec = tie.close (tie.spec (λ c. search rules) (λ c κs. search rules) (λ c. search rules) returns returns-2)
+pub day_from_spec : {M : Type 1} → statement M
+day_from_spec = tie.close (tie.spec (λ c. search rules) (λ c κs. search rules) (λ c. search rules) returns returns-2)

@@ -7,7 +7,7 @@ use Rattle.moment_instants.proofs.to_date_text.Tie as tie
 
 returns : tie.Need-returns
 unfolding date_of
-returns c = c.day-from.ensures ∙ ap day_by c.before.to-timestamp-parts.ensures
+returns c = c.day_from.ensures ∙ ap day_by c.before.to_timestamp_parts.ensures
 
-pub to-date-text-spec : {M : Type 1} → statement M
-to-date-text-spec = tie.close (tie.spec (λ c κs. search rules) (λ c κs. search rules) returns)
+pub to_date_text_spec : {M : Type 1} → statement M
+to_date_text_spec = tie.close (tie.spec (λ c κs. search rules) (λ c κs. search rules) returns)

@@ -15,11 +15,11 @@ use Rattle.moment_parts.proofs.checked_moment.Statement.{statement}
 use Rattle.moment_parts.proofs.checked_moment.Tie as tie
 
 -- the way back from the test of the strict switch to that of the date
-abbrev dated : tie.After-no-such-day → tie.Else1
+abbrev dated : tie.After-no_such_day → tie.Else-not-date_in_range
 dated c = c.before.before.before
 
 -- the test of the time, as the definition has it
-time : (c : tie.After-time-in-range) {b : Bool} → c.time-in-range.result ≡ b
+time : (c : tie.After-time_in_range) {b : Bool} → c.time_in_range.result ≡ b
     → let at-start = (dated c.before.before).before.before.before.before.before in
     time_in_range at-start.args.hour (minute_of at-start.args.t2) (second_of at-start.args.t2) at-start.args.micros ≡ b
 time c e =
@@ -27,48 +27,48 @@ time c e =
     let after-minute = after-second.before in
     let at-start = after-minute.before.before in
     sym (simp (
-      returned after-second.second-of.ok after-second.second-of.ensures,
-      returned after-minute.minute-of.ok after-minute.minute-of.ensures,
+      returned after-second.second_of-second.ok after-second.second_of-second.ensures,
+      returned after-minute.minute_of-minute.ok after-minute.minute_of-minute.ensures,
       to_z-of_z at-start.fits.hour,
       to_z-of_z at-start.fits.micros,
-    ) at c.time-in-range.ensures)
+    ) at c.time_in_range.ensures)
     ∙ e
 
 -- the date is in range
-date : (c : tie.Else1) → date_in_range c.before.before.before.before.before.args.r ≡ true
-date c = sym c.before.date-in-range.ensures ∙ passed _ c.if1.false
+date : (c : tie.Else-not-date_in_range) → date_in_range c.before.before.before.before.before.args.r ≡ true
+date c = sym c.before.date_in_range.ensures ∙ passed _ c.if-not-date_in_range.false
 
 -- the test of the strict switch
-never : (c : tie.After-no-such-day) {b : Bool} → c.no-such-day.result ≡ b
+never : (c : tie.After-no_such_day) {b : Bool} → c.no_such_day.result ≡ b
     → let args = (dated c).before.before.before.before.before.args in (args.strict && no_such_day args.r.set args.r.month args.r.day) ≡ b
 never c e =
     let at-start = (dated c).before.before.before.before.before in
     let date-fits = fitting at-start.args.r _ at-start.good.1.1.0 in
-    sym (simp (to_z-of_z date-fits.month, to_z-of_z date-fits.day) at c.no-such-day.ensures) ∙ e
+    sym (simp (to_z-of_z date-fits.month, to_z-of_z date-fits.day) at c.no_such_day.ensures) ∙ e
 
 -- the date is out of range
-returns : tie.Need-returns
+returns : tie.Need-returns-then-not-date_in_range
 unfolding checked_moment
-returns c = simp (sym c.before.date-in-range.ensures ∙ failed _ c.if1.true)
+returns c = simp (sym c.before.date_in_range.ensures ∙ failed _ c.if-not-date_in_range.true)
 
 -- the month never has the day
-returns-2 : tie.Need-returns-2
+returns-2 : tie.Need-returns-then-no_such_day
 unfolding checked_moment
-returns-2 c = simp (date (dated c.before), never c.before c.if2.true)
+returns-2 c = simp (date (dated c.before), never c.before c.if-no_such_day.true)
 
 -- the time is out of range
-returns-3 : tie.Need-returns-3
+returns-3 : tie.Need-returns-then-not-time_in_range
 unfolding checked_moment
 returns-3 c =
     let after-strict-test = c.before.before in
     simp (
       date (dated after-strict-test.before),
-      never after-strict-test.before after-strict-test.if2.false,
-      time c.before (failed _ c.if3.true),
+      never after-strict-test.before after-strict-test.if-no_such_day.false,
+      time c.before (failed _ c.if-not-time_in_range.true),
     )
 
 -- a moment with its offset
-returns-4 : tie.Need-returns-4
+returns-4 : tie.Need-returns-in-At
 unfolding checked_moment
 returns-4 c =
     let at_offset = c.before.before in
@@ -82,11 +82,11 @@ returns-4 c =
     let date-fits = fitting at-start.args.r _ at-start.good.1.1.0 in
     simp (
       date after-date-test,
-      never after-strict-test.before after-strict-test.if2.false,
-      time after-time-test.before (passed _ after-time-test.if3.false),
-      sym after-offset-of.offset-of.ensures ∙ at_offset.offset.given.1,
-      returned after-second.second-of.ok after-second.second-of.ensures,
-      returned after-minute.minute-of.ok after-minute.minute-of.ensures,
+      never after-strict-test.before after-strict-test.if-no_such_day.false,
+      time after-time-test.before (passed _ after-time-test.if-not-time_in_range.false),
+      sym after-offset-of.offset_of.ensures ∙ at_offset.offset-1.given.1,
+      returned after-second.second_of-second.ok after-second.second_of-second.ensures,
+      returned after-minute.minute_of-minute.ok after-minute.minute_of-minute.ensures,
       (known at-start.args.t2 _ at-start.good.1.0).back,
       to_z-of_z at-start.fits.hour,
       to_z-of_z at-start.fits.micros,
@@ -96,7 +96,7 @@ returns-4 c =
     )
 
 -- the offset is out of range
-returns-5 : tie.Need-returns-5
+returns-5 : tie.Need-returns-in-Refused
 unfolding checked_moment
 returns-5 c =
     let at-refusal = c.before in
@@ -105,13 +105,13 @@ returns-5 c =
     let after-strict-test = after-time-test.before.before in
     simp (
       date (dated after-strict-test.before),
-      never after-strict-test.before after-strict-test.if2.false,
-      time after-time-test.before (passed _ after-time-test.if3.false),
-      sym after-offset-of.offset-of.ensures ∙ at-refusal.why.given.1,
+      never after-strict-test.before after-strict-test.if-no_such_day.false,
+      time after-time-test.before (passed _ after-time-test.if-not-time_in_range.false),
+      sym after-offset-of.offset_of.ensures ∙ at-refusal.why-1.given.1,
     )
 
-pub checked-moment-spec : {M : Type 1} → statement M
-checked-moment-spec =
+pub checked_moment_spec : {M : Type 1} → statement M
+checked_moment_spec =
     tie.close
     (tie.spec
     (λ c. search rules)

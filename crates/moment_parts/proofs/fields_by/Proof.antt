@@ -10,27 +10,27 @@ use Rattle.moment_parts.proofs.fields_by.Statement.{statement}
 use Rattle.moment_parts.proofs.fields_by.Tie as tie
 
 -- the input is over its limit
-returns : tie.Need-returns
+returns : tie.Need-returns-then-limit-s
 returns c = input-long _ _ _ _ (omega arith)
 
 -- the input is not UTF-8
-returns-2 : tie.Need-returns-2
+returns-2 : tie.Need-returns-then-not-is_utf8
 returns-2 c =
-    input-bad _ _ _ _ (sym c.before.is-utf8.ensures ∙ not-true _ c.if2.true) ∙ input-within _ _ _ _ (omega arith)
+    input-bad _ _ _ _ (sym c.before.is_utf8.ensures ∙ not-true _ c.if-not-is_utf8.true) ∙ input-within _ _ _ _ (omega arith)
 
 -- within it an input has at most 512 bytes
-fields-within-requires : tie.Need-fields-within-requires
+fields-within-requires : tie.Need-fields_within-requires
 fields-within-requires c κs =
     let at-start = c.before.before.before.before.before.before.before.before in
     (omega (arith, input-most at-start.args.set), at-start.requires)
 
 -- the input is read
-returns-3 : tie.Need-returns-3
+returns-3 : tie.Need-returns
 returns-3 c =
     let at_test = c.before.before in
     c.fields_within.ensures _
-    ∙ input-good _ _ _ _ (sym at_test.before.is-utf8.ensures ∙ not-false _ at_test.if2.false)
+    ∙ input-good _ _ _ _ (sym at_test.before.is_utf8.ensures ∙ not-false _ at_test.if-not-is_utf8.false)
     ∙ input-within _ _ _ _ (omega arith)
 
-pub fields-by-spec : {M : Type 1} → statement M
-fields-by-spec = tie.close (tie.spec (λ c κs. search rules) returns (λ c κs. search rules) returns-2 fields-within-requires returns-3)
+pub fields_by_spec : {M : Type 1} → statement M
+fields_by_spec = tie.close (tie.spec (λ c κs. search rules) returns (λ c κs. search rules) returns-2 fields-within-requires returns-3)

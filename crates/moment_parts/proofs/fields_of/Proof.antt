@@ -19,61 +19,61 @@ use Rattle.moment_parts.proofs.fields_of.Statement.{statement}
 use Rattle.moment_parts.proofs.fields_of.Tie as tie
 
 -- the way back from the test of the template's limit to the start
-abbrev start : tie.Else1 → tie.Start
+abbrev start : tie.Else-template_limit-t → tie.Start
 start c = c.before.before.before.before
 
 -- the template is within its limit, and so is the input
-short : (c : tie.Else1) → length (start c).args.t.now ≤ template_limit (start c).args.set
+short : (c : tie.Else-template_limit-t) → length (start c).args.t.now ≤ template_limit (start c).args.set
 short c = omega arith
 
-small : (c : tie.Else2) → length (start c.before.before).args.s.now ≤ input_limit (start c.before.before).args.set
+small : (c : tie.Else-input_limit-s) → length (start c.before.before).args.s.now ≤ input_limit (start c.before.before).args.set
 small c = omega arith
 
 -- the template is over its limit
-returns : tie.Need-returns
+returns : tie.Need-returns-then-template_limit-t
 returns c = sym (long-template _ _ _ (omega arith))
 
 -- the input is over its limit
-returns-2 : tie.Need-returns-2
+returns-2 : tie.Need-returns-then-input_limit-s
 returns-2 c = sym (long-input _ _ _ (short c.before.before) (omega arith))
 
 -- the template or the input is not UTF-8
-returns-3 : tie.Need-returns-3
+returns-3 : tie.Need-returns-then-not-are_utf8
 returns-3 c =
     let within-limits = c.before.before in
     sym (bad-text _ _ _ (short within-limits.before.before) (small within-limits)
-    (sym c.before.are-utf8.ensures ∙ not-true _ c.if3.true))
+    (sym c.before.are_utf8.ensures ∙ not-true _ c.if-not-are_utf8.true))
 
 -- within their limits a template has at most 256 bytes and an input at most 512
-parse-format-requires : tie.Need-parse-format-requires
+parse-format-requires : tie.Need-parse_format-end-requires
 parse-format-requires c κs =
     let within-limit = c.before.before.before.before.before in
     (omega (arith, short within-limit, template-most (start within-limit).args.set), omega arith)
 
 -- the slice of the buffer is as long as the bytes of the nodes
-slice-aggregate-fields-within : tie.Need-slice-aggregate-fields-within
-slice-aggregate-fields-within c = sym (length-take-le _ _ (parsed-room c.before.before.parse-format.ensures))
+slice-aggregate-fields-within : tie.Need-slice_bounds-fields_within-end
+slice-aggregate-fields-within c = sym (length-take-le _ _ (parsed-room c.before.before.parse_format-end.ensures))
 
-fields-within-requires : tie.Need-fields-within-requires
+fields-within-requires : tie.Need-fields_within-requires
 fields-within-requires c κs =
     let within-limits = c.before.before.before.before.before.before.before in
     let at-start = start within-limits.before.before in
     (omega (arith, small within-limits, input-most at-start.args.set), at-start.pre)
 
 -- the input is read by the template's nodes
-returns-4 : tie.Need-returns-4
+returns-4 : tie.Need-returns
 returns-4 c =
     let after-parse = c.before.before.before.before in
     let after-utf8-test = after-parse.before.before in
     let within-limits = after-utf8-test.before.before in
     let args = (start within-limits.before.before).args in
     c.fields_within.ensures _
-    ∙ ap (λ (ns : List Node). answer_by args.set.strict ns args.t.now args.s.now) (parsed-nodes after-parse.parse-format.ensures (small-nodes args.set.accents args.t.now))
+    ∙ ap (λ (ns : List Node). answer_by args.set.strict ns args.t.now args.s.now) (parsed-nodes after-parse.parse_format-end.ensures (small-nodes args.set.accents args.t.now))
     ∙ read_by _ _ _ (short within-limits.before.before) (small within-limits)
-    (sym after-utf8-test.before.are-utf8.ensures ∙ not-false _ after-utf8-test.if3.false)
+    (sym after-utf8-test.before.are_utf8.ensures ∙ not-false _ after-utf8-test.if-not-are_utf8.false)
 
-pub fields-of-spec : {M : Type 1} → statement M
-fields-of-spec =
+pub fields_of_spec : {M : Type 1} → statement M
+fields_of_spec =
     tie.close
     (tie.spec
     (λ c κs. search rules)

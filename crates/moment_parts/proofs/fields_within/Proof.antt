@@ -26,7 +26,7 @@ same_answer : (strict : Bool) (r : Reading) {o : Outcome} {values : List ℤ} �
 same_answer strict r {o} went = by-verdict strict r went o.verdict refl ∙ ap (λ (v : Verdict). then_fields strict v r.fields) went.verdict
 
 returns : tie.Need-returns
-returns c = λ strict. same_answer strict _ c.dch-from-char.ensures
+returns c = λ strict. same_answer strict _ c.dch_from_char-read.ensures
 
-pub fields-within-spec : {M : Type 1} → statement M
-fields-within-spec = tie.close (tie.spec (λ c κs. search rules) returns)
+pub fields_within_spec : {M : Type 1} → statement M
+fields_within_spec = tie.close (tie.spec (λ c κs. search rules) returns)

@@ -12,18 +12,18 @@ use Rattle.moment_parts.proofs.moment_of.Statement.{statement}
 use Rattle.moment_parts.proofs.moment_of.Tie as tie
 
 -- the hour, the date and the fraction, as the definition has them
-hour : (c : tie.After-clock-hour) {v : Value} → c.clock-hour.result ≡ v → clock_hour c.before.args.f ≡ v
-hour c e = sym c.clock-hour.ensures ∙ e
+hour : (c : tie.After-clock_hour) {v : Value} → c.clock_hour.result ≡ v → clock_hour c.before.args.f ≡ v
+hour c e = sym c.clock_hour.ensures ∙ e
 
-date : (c : tie.After-dated-of) {v : Dated} → c.dated-of.result ≡ v → dated_of c.before.before.before.before.before.args.f ≡ v
-date c e = sym c.dated-of.ensures ∙ e
+date : (c : tie.After-dated_of) {v : Dated} → c.dated_of.result ≡ v → dated_of c.before.before.before.before.before.args.f ≡ v
+date c e = sym c.dated_of.ensures ∙ e
 
-micros : (c : tie.After-micros-of) {v : Value} → c.micros-of.result ≡ v
+micros : (c : tie.After-micros_of) {v : Value} → c.micros_of.result ≡ v
     → micros_of c.before.before.before.before.before.before.before.before.before.args.f ≡ v
-micros c e = sym c.micros-of.ensures ∙ e
+micros c e = sym c.micros_of.ensures ∙ e
 
 -- all three are found: the moment is checked
-returns : tie.Need-returns
+returns : tie.Need-returns-in-Is-micros_of
 unfolding moment_of
 returns c =
     let micros-known = c.before in
@@ -34,16 +34,16 @@ returns c =
     let hour-known = after-dated-of.before in
     let at-hour = hour-known.before in
     simp (
-      hour at-hour.before.before at-hour.hour.given.1,
-      date after-dated-of at-date.r.given.1,
-      micros after-micros-of at-micros.micros.given.1,
-      c.checked-moment.ensures,
-      back at-hour.hour.given.0.0 hour-known.known-told.given.0.1,
-      back at-micros.micros.given.0.0 micros-known.known-told3.given.0.1,
+      hour at-hour.before.before at-hour.hour-1.given.1,
+      date after-dated-of at-date.r-1.given.1,
+      micros after-micros-of at-micros.micros-1.given.1,
+      c.checked_moment.ensures,
+      back at-hour.hour-1.given.0.0 hour-known.known_told-1.given.0.1,
+      back at-micros.micros-1.given.0.0 micros-known.known_told-in-Is-micros_of-1.given.0.1,
     )
 
 -- the fraction is refused
-returns-2 : tie.Need-returns-2
+returns-2 : tie.Need-returns-in-Not-micros_of
 unfolding moment_of
 returns-2 c =
     let at-refusal = c.before in
@@ -52,27 +52,27 @@ returns-2 c =
     let after-dated-of = at-date.before.before in
     let at-hour = after-dated-of.before.before in
     simp (
-      hour at-hour.before.before at-hour.hour.given.1,
-      date after-dated-of at-date.r.given.1,
-      micros after-micros-of at-refusal.why.given.1,
+      hour at-hour.before.before at-hour.hour-1.given.1,
+      date after-dated-of at-date.r-1.given.1,
+      micros after-micros-of at-refusal.why-1.given.1,
     )
 
 -- the date is refused
-returns-3 : tie.Need-returns-3
+returns-3 : tie.Need-returns-in-Refused
 unfolding moment_of
 returns-3 c =
     let at-refusal = c.before in
     let after-dated-of = at-refusal.before.before in
     let at-hour = after-dated-of.before.before in
-    simp (hour at-hour.before.before at-hour.hour.given.1, date after-dated-of at-refusal.why2.given.1)
+    simp (hour at-hour.before.before at-hour.hour-1.given.1, date after-dated-of at-refusal.why-in-Refused-1.given.1)
 
 -- the hour is refused
-returns-4 : tie.Need-returns-4
+returns-4 : tie.Need-returns-in-Not
 unfolding moment_of
-returns-4 c = let at-refusal = c.before in simp (hour at-refusal.before.before at-refusal.why3.given.1)
+returns-4 c = let at-refusal = c.before in simp (hour at-refusal.before.before at-refusal.why-in-Not-clock_hour-1.given.1)
 
-pub moment-of-spec : {M : Type 1} → statement M
-moment-of-spec =
+pub moment_of_spec : {M : Type 1} → statement M
+moment_of_spec =
     tie.close
     (tie.spec
     (λ c κs. search rules)

@@ -5,14 +5,14 @@ use Rattle.moment_parts.proofs.report_of.Statement.{statement}
 use Rattle.moment_parts.proofs.report_of.Tie as tie
 
 -- a refusal whatever the strict switch, and that of the switch
-by : tie.Need-returns
+by : tie.Need-returns-in-By
 unfolding unread_report
-by c = rw c.before.before.why.given.1 c.report-of.ensures
+by c = rw c.before.before.why-1.given.1 c.report_of.ensures
 
-no-such-day : tie.Need-returns-2
+no-such-day : tie.Need-returns-in-NoSuchDay
 unfolding unread_report
-no-such-day c = rw c.before.enum_told.given.1 c.alone.ensures
+no-such-day c = rw c.before.enum_told-1.given.1 c.alone.ensures
 
-pub report-of-spec : {M : Type 1} → statement M
-report-of-spec =
+pub report_of_spec : {M : Type 1} → statement M
+report_of_spec =
     tie.close (tie.spec (λ c. search rules) (λ c κs. search rules) (λ c. search rules) (λ c κs. search rules) by no-such-day)

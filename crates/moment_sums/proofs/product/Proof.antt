@@ -20,11 +20,11 @@ use Rattle.moment_sums.proofs.product.Tie as tie
 factor : (c : tie.Start) → to_z w32 c.args.factor ≡ pos c.args.factor
 factor c = to_z_pos w32 {n = c.args.factor} (omega arith)
 
-positive : (c : tie.Else1) → 0 < c.before.args.factor
-positive c = omega (arith, c.if1.false)
+positive : (c : tie.Else-factor-eq0) → 0 < c.before.args.factor
+positive c = omega (arith, c.if-factor-eq0.false)
 
 -- what a test with a quotient says, without the round trips
-module _ (c : tie.Else1) where
+module _ (c : tie.Else-factor-eq0) where
   abbrev k : ℕ
   k = c.before.args.factor
 
@@ -38,38 +38,38 @@ module _ (c : tie.Else1) where
   at_least e = simp (to_z-of_z c.before.ranges.a, factor c.before, to_z-of_z (least_fits k (positive c))) at e
 
 -- the factor is 0
-returns : tie.Need-returns
-returns c = rw (c.if1.true, *ℤ-zero c.before.args.a)
+returns : tie.Need-returns-then-factor-eq0
+returns c = rw (c.if-factor-eq0.true, *ℤ-zero c.before.args.a)
 
 -- a is above the larger quotient
-returns-2 : tie.Need-returns-2
+returns-2 : tie.Need-returns-then-a-k
 returns-2 c =
     let not-zero = c.before in
     let args = not-zero.before.args in
-    rw (too_large args.factor (positive not-zero) args.a (at_most not-zero c.if2.true))
+    rw (too_large args.factor (positive not-zero) args.a (at_most not-zero c.if-a-k.true))
 
 -- a is below the smaller quotient
-returns-3 : tie.Need-returns-3
+returns-3 : tie.Need-returns-then-a-k-2
 returns-3 c =
     let not-zero = c.before.before in
     let args = not-zero.before.args in
-    rw (too_small args.factor (positive not-zero) args.a (at_least not-zero c.if3.true))
+    rw (too_small args.factor (positive not-zero) args.a (at_least not-zero c.if-a-k-2.true))
 
 -- past both tests the product fits
-fitting : (c : tie.Else3) → let args = c.before.before.before.args in SFits w32 (args.a *ℤ pos args.factor)
+fitting : (c : tie.Else-a-k-2) → let args = c.before.before.before.args in SFits w32 (args.a *ℤ pos args.factor)
 fitting c =
     let not-zero = c.before.before in
     let args = not-zero.before.args in
-    product-fits args.factor (positive not-zero) args.a (at_most not-zero c.before.if2.false) (at_least not-zero c.if3.false)
+    product-fits args.factor (positive not-zero) args.a (at_most not-zero c.before.if-a-k.false) (at_least not-zero c.if-a-k-2.false)
 
 -- the product
-returns-4 : tie.Need-returns-4
+returns-4 : tie.Need-returns
 returns-4 c =
     let at-start = c.before.before.before in
     rw (to_z-of_z at-start.ranges.a, factor at-start, to_z-of_z (fitting c), fits (fitting c))
 
-pub product-spec : {M : Type 1} → statement M
-product-spec =
+pub product_spec : {M : Type 1} → statement M
+product_spec =
     tie.close
     (tie.spec
     returns

@@ -6,21 +6,21 @@ use Rattle.moment_time.proofs.below.Statement.{statement}
 use Rattle.moment_time.proofs.below.Tie as tie
 
 -- the number is negative
-returns : tie.Need-returns
-returns c = let fits = c.before.ranges.value in rw (simp (to_z-of_z fits) at c.if1.true)
+returns : tie.Need-returns-then-value-lt0
+returns c = let fits = c.before.ranges.value in rw (simp (to_z-of_z fits) at c.if-value-lt0.true)
 
 -- it is not, so it can be cast
-cast-result : tie.Need-overflow-cast-result
+cast-result : tie.Need-overflow_cast-result
 cast-result c =
     let fits = c.before.ranges.value in
-    simp (to_z-of_z fits) ((unsigned c.before.args.value 0 (simp (to_z-of_z fits) at c.if1.false)).0, Fits-nat_abs tt fits)
+    simp (to_z-of_z fits) ((unsigned c.before.args.value 0 (simp (to_z-of_z fits) at c.if-value-lt0.false)).0, Fits-nat_abs tt fits)
 
 -- the comparison with the limit
-returns-2 : tie.Need-returns-2
+returns-2 : tie.Need-returns
 returns-2 c =
     let args = c.before.args in
     let fits = c.before.ranges.value in
-    simp (to_z-of_z fits) (unsigned args.value args.limit (simp (to_z-of_z fits) at c.if1.false)).1
+    simp (to_z-of_z fits) (unsigned args.value args.limit (simp (to_z-of_z fits) at c.if-value-lt0.false)).1
 
-pub below-spec : {M : Type 1} → statement M
-below-spec = tie.close (tie.spec returns cast-result returns-2)
+pub below_spec : {M : Type 1} → statement M
+below_spec = tie.close (tie.spec returns cast-result returns-2)

@@ -14,28 +14,28 @@ has : (c : tie.Start) → Known c.args.t1
 has c = known c.args.t1 _ c.well-formed.0
 
 -- the 12-hour clock
-returns : tie.Need-returns
+returns : tie.Need-returns-then-clock-eq12
 unfolding clock_hour
 returns c =
     let on-twelve = c.before.before in
     let after-hour = on-twelve.before in
     let fields = has after-hour.before.before in
     simp (
-      c.hour-of-twelve.ensures,
+      c.hour_of_twelve.ensures,
       fields.back,
-      returned after-hour.hour-of.type-inv after-hour.hour-of.ensures,
-      equal (lit< tt) (fields.fits clock) on-twelve.if1.true,
+      returned after-hour.hour_of-hour.type-inv after-hour.hour_of-hour.ensures,
+      equal (lit< tt) (fields.fits clock) on-twelve.if-clock-eq12.true,
     )
 
 -- the 24-hour clock, or none
-returns-2 : tie.Need-returns-2
+returns-2 : tie.Need-returns
 unfolding clock_hour
 returns-2 c =
     let after-hour = c.before in
     let fields = has after-hour.before.before in
-    simp (returned after-hour.hour-of.type-inv after-hour.hour-of.ensures, unequal (fields.fits clock) c.if1.false)
+    simp (returned after-hour.hour_of-hour.type-inv after-hour.hour_of-hour.ensures, unequal (fields.fits clock) c.if-clock-eq12.false)
 
-pub clock-hour-spec : {M : Type 1} → statement M
-clock-hour-spec =
+pub clock_hour_spec : {M : Type 1} → statement M
+clock_hour_spec =
     tie.close
     (tie.spec (λ c. search rules) (λ c κs. search rules) (λ c. search rules) (λ c κs. search rules) returns returns-2)

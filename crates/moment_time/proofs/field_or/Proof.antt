@@ -5,16 +5,16 @@ use Rattle.moment_time.proofs.field_or.Statement.{statement}
 use Rattle.moment_time.proofs.field_or.Tie as tie
 
 -- the field is absent
-returns : tie.Need-returns
+returns : tie.Need-returns-then-value-eq0
 returns c =
     let fits = c.before.ranges in
-    rw (to_z-of_z fits.other, absent fits.value c.if1.true)
+    rw (to_z-of_z fits.other, absent fits.value c.if-value-eq0.true)
 
 -- it is set
-returns-2 : tie.Need-returns-2
+returns-2 : tie.Need-returns
 returns-2 c =
     let fits = c.before.ranges in
-    rw (to_z-of_z fits.value, present fits.value c.if1.false)
+    rw (to_z-of_z fits.value, present fits.value c.if-value-eq0.false)
 
-pub field-or-spec : {M : Type 1} → statement M
-field-or-spec = tie.close (tie.spec returns returns-2)
+pub field_or_spec : {M : Type 1} → statement M
+field_or_spec = tie.close (tie.spec returns returns-2)

@@ -14,10 +14,10 @@ returns : tie.Need-returns
 unfolding hour_of
 returns c =
     let fields = has c.before.before.before in
-    simp (returned c.field-or.type-inv c.field-or.ensures, fields.back, hours-back fields)
+    simp (returned c.field_or.type-inv c.field_or.ensures, fields.back, hours-back fields)
 
-pub hour-of-spec : {M : Type 1} → statement M
-hour-of-spec =
+pub hour_of_spec : {M : Type 1} → statement M
+hour_of_spec =
     tie.close
     (tie.spec
     (λ c. search rules)

@@ -22,46 +22,46 @@ has : (c : tie.Start) → Known c.args.t1
 has c = known c.args.t1 _ c.well-formed.0
 
 -- past the test of hours and minutes
-abbrev start : tie.Else2 → tie.Start
+abbrev start : tie.Else-not-offset_in_range → tie.Start
 start c = c.before.before.before.before.before.before
 
 -- a field that was read
-abbrev field : (c : tie.Else2) → ℕ → ℤ
+abbrev field : (c : tie.Else-not-offset_in_range) → ℕ → ℤ
 field c k = get (start c).args.t1 k
 
-tests : (c : tie.Else2) → (below (field c tzh) 16 ≡ true) × (below (field c tzm) 60 ≡ true)
+tests : (c : tie.Else-not-offset_in_range) → (below (field c tzh) 16 ≡ true) × (below (field c tzm) 60 ≡ true)
 tests c =
     both (below (field c tzh) 16) (below (field c tzm) 60)
-    (simp (has (start c)).back at (sym c.before.offset-in-range.ensures ∙ passed _ c.if2.false))
+    (simp (has (start c)).back at (sym c.before.offset_in_range.ensures ∙ passed _ c.if-not-offset_in_range.false))
 
 -- the hours are 0 to 15, the minutes 0 to 59, and a sign was read
-hours : (c : tie.Else2) → Within 0 15 (field c tzh)
+hours : (c : tie.Else-not-offset_in_range) → Within 0 15 (field c tzh)
 hours c = from_zero (field c tzh) (tests c).0
 
-minutes : (c : tie.Else2) → Within 0 59 (field c tzm)
+minutes : (c : tie.Else-not-offset_in_range) → Within 0 59 (field c tzm)
 minutes c = from_zero (field c tzm) (tests c).1
 
-sign_set : (c : tie.Else2) → is_zero (field c tzsign) ≡ false
-sign_set c = present ((has (start c)).fits tzsign) c.before.before.before.before.if1.false
+sign_set : (c : tie.Else-not-offset_in_range) → is_zero (field c tzsign) ≡ false
+sign_set c = present ((has (start c)).fits tzsign) c.before.before.before.before.if-sign-eq0.false
 
 -- no offset was read
-returns : tie.Need-returns
+returns : tie.Need-returns-then-sign-eq0
 unfolding checked_offset offset_in_range offset_of
-returns c = simp (absent ((has c.before.before).fits tzsign) c.if1.true)
+returns c = simp (absent ((has c.before.before).fits tzsign) c.if-sign-eq0.true)
 
 -- its hours or minutes are out of range
-returns-2 : tie.Need-returns-2
+returns-2 : tie.Need-returns-then-not-offset_in_range
 unfolding checked_offset offset_in_range
 returns-2 c =
     let after-sign = c.before.before.before.before in
     let fields = has after-sign.before.before in
     simp (
-      present (fields.fits tzsign) after-sign.if1.false,
-      simp fields.back at (sym c.before.offset-in-range.ensures ∙ failed _ c.if2.true),
+      present (fields.fits tzsign) after-sign.if-sign-eq0.false,
+      simp fields.back at (sym c.before.offset_in_range.ensures ∙ failed _ c.if-not-offset_in_range.true),
     )
 
 -- the sums and products that fit read back as they are
-module _ (c : tie.Else2) where
+module _ (c : tie.Else-not-offset_in_range) where
   hours-back : read (field c tzh *ℤ pos 60) ≡ field c tzh *ℤ pos 60
   hours-back = to_z-of_z (hours-fit (hours c) (minutes c))
 
@@ -72,7 +72,7 @@ module _ (c : tie.Else2) where
   negated_back = to_z-of_z (neg-minutes-fit (hours c) (minutes c))
 
 -- the sign is minus
-returns-3 : tie.Need-returns-3
+returns-3 : tie.Need-returns-then-sign-lt0
 unfolding checked_offset offset_in_range offset_of east_of
 returns-3 c =
     let in-range = c.before in
@@ -81,7 +81,7 @@ returns-3 c =
       sign_set in-range,
       (tests in-range).0,
       (tests in-range).1,
-      simp Fields-back at c.if3.true,
+      simp Fields-back at c.if-sign-lt0.true,
       Fields-back,
       hours-back in-range,
       joined_back in-range,
@@ -92,7 +92,7 @@ returns-3 c =
     )
 
 -- the sign is plus
-returns-4 : tie.Need-returns-4
+returns-4 : tie.Need-returns
 unfolding checked_offset offset_in_range offset_of east_of
 returns-4 c =
     let in-range = c.before in
@@ -101,7 +101,7 @@ returns-4 c =
       sign_set in-range,
       (tests in-range).0,
       (tests in-range).1,
-      simp Fields-back at c.if3.false,
+      simp Fields-back at c.if-sign-lt0.false,
       Fields-back,
       hours-back in-range,
       joined_back in-range,
@@ -109,19 +109,19 @@ returns-4 c =
     )
 
 -- each product and sum fits, in the order of the code
-mul-whole-hours : tie.Need-overflow-mul-whole-hours
+mul-whole-hours : tie.Need-overflow_mul-whole_hours
 mul-whole-hours c = simp (has (start c)).back (hours-fit (hours c) (minutes c))
 
-add-joined : tie.Need-overflow-add-joined
+add-joined : tie.Need-overflow_add-joined
 add-joined c = simp ((has (start c)).back, hours-back c) (minutes-fit (hours c) (minutes c))
 
-sub-negated : tie.Need-overflow-sub-t19
+sub-negated : tie.Need-overflow_sub-result
 sub-negated c =
     let in-range = c.before in
     simp ((has (start in-range)).back, hours-back in-range, joined_back in-range, +ℤ_idl)
     (neg-minutes-fit (hours in-range) (minutes in-range))
 
-mul-negated : tie.Need-overflow-mul-t20
+mul-negated : tie.Need-overflow_mul-result
 mul-negated c =
     let in-range = c.before in
     simp (
@@ -134,13 +134,13 @@ mul-negated c =
     )
     (neg-seconds-fit (hours in-range) (minutes in-range))
 
-mul-joined : tie.Need-overflow-mul-t10
+mul-joined : tie.Need-overflow_mul-result-2
 mul-joined c =
     let in-range = c.before in
     simp ((has (start in-range)).back, hours-back in-range, joined_back in-range) (seconds-fit (hours in-range) (minutes in-range))
 
-pub offset-of-spec : {M : Type 1} → statement M
-offset-of-spec =
+pub offset_of_spec : {M : Type 1} → statement M
+offset_of_spec =
     tie.close
     (tie.spec
     (λ c. search rules)

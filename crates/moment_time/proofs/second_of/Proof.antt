@@ -14,10 +14,10 @@ returns : tie.Need-returns
 unfolding second_of
 returns c =
     let fields = has c.before.before.before in
-    simp (returned c.field-or.type-inv c.field-or.ensures, fields.back, in-hour-back fields, seconds-back fields)
+    simp (returned c.field_or.type-inv c.field_or.ensures, fields.back, in-hour-back fields, seconds-back fields)
 
-pub second-of-spec : {M : Type 1} → statement M
-second-of-spec =
+pub second_of_spec : {M : Type 1} → statement M
+second_of_spec =
     tie.close
     (tie.spec
     (λ c. search rules)

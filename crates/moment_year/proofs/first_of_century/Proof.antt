@@ -8,21 +8,21 @@ use Rattle.moment_year.proofs.first_of_century.Statement.{statement}
 use Rattle.moment_year.proofs.first_of_century.Tie as tie
 
 -- before Christ
-returns : tie.Need-returns
+returns : tie.Need-returns-then-century-lt0
 unfolding first_of_century
 returns c =
     let after-mul = c.before in
     let before-christ = after-mul.before in
     let century-back = to_z-of_z before-christ.before.ranges.century in
     simp (
-      simp century-back at before-christ.if1.true,
-      c.checked-add.ensures,
-      after-mul.checked-mul.ensures,
+      simp century-back at before-christ.if-century-lt0.true,
+      c.checked_add.ensures,
+      after-mul.checked_mul.ensures,
       century-back,
     )
 
 -- after Christ
-returns-2 : tie.Need-returns-2
+returns-2 : tie.Need-returns
 unfolding first_of_century
 returns-2 c =
     let after-mul = c.before in
@@ -30,16 +30,16 @@ returns-2 c =
     let after-christ = after-sub.before in
     let century-back = to_z-of_z after-christ.before.ranges.century in
     simp (
-      simp century-back at after-christ.if1.false,
-      c.checked-add2.ensures,
-      after-mul.checked-mul2.ensures,
-      after-sub.wrapping-sub.ensures,
+      simp century-back at after-christ.if-century-lt0.false,
+      c.checked_add-2.ensures,
+      after-mul.checked_mul-2.ensures,
+      after-sub.wrapping_sub.ensures,
       wrap-back,
       century-back,
     )
 
-pub first-of-century-spec : {M : Type 1} → statement M
-first-of-century-spec =
+pub first_of_century_spec : {M : Type 1} → statement M
+first_of_century_spec =
     tie.close
     (tie.spec
     (λ c κs. search rules)

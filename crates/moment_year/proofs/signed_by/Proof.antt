@@ -7,16 +7,16 @@ use Rattle.moment_year.proofs.signed_by.Statement.{statement}
 use Rattle.moment_year.proofs.signed_by.Tie as tie
 
 -- BC was not read
-returns : tie.Need-returns
+returns : tie.Need-returns-then-bc-eq0
 returns c =
     let fits = c.before.ranges in
-    simp (absent fits.bc c.if1.true, to_z-of_z fits.value)
+    simp (absent fits.bc c.if-bc-eq0.true, to_z-of_z fits.value)
 
 -- it was
-returns-2 : tie.Need-returns-2
+returns-2 : tie.Need-returns
 returns-2 c =
     let fits = c.before.before.ranges in
-    simp (present fits.bc c.before.if1.false, c.wrapping-sub.ensures, wrap-back, to_z-of_z fits.value)
+    simp (present fits.bc c.before.if-bc-eq0.false, c.wrapping_sub.ensures, wrap-back, to_z-of_z fits.value)
 
-pub signed-by-spec : {M : Type 1} → statement M
-signed-by-spec = tie.close (tie.spec returns (λ c κs. search rules) returns-2)
+pub signed_by_spec : {M : Type 1} → statement M
+signed_by_spec = tie.close (tie.spec returns (λ c κs. search rules) returns-2)

@@ -22,14 +22,14 @@ digits : (c : tie.Start) → SFits w32 (rem_z c.args.year (pos 100))
 digits c = rem-fits c.args.year 100 c.ranges.year
 
 -- what the first test says of the last two digits
-none : (c : tie.Then1) → is_zero (rem_z c.before.args.year (pos 100)) ≡ true
-none c = absent (digits c.before) (simp (to_z-of_z c.before.ranges.year) at c.if1.true)
+none : (c : tie.Then-y-eq0) → is_zero (rem_z c.before.args.year (pos 100)) ≡ true
+none c = absent (digits c.before) (simp (to_z-of_z c.before.ranges.year) at c.if-y-eq0.true)
 
-some : (c : tie.Else1) → is_zero (rem_z c.before.args.year (pos 100)) ≡ false
-some c = present (digits c.before) (simp (to_z-of_z c.before.ranges.year) at c.if1.false)
+some : (c : tie.Else-y-eq0) → is_zero (rem_z c.before.args.year (pos 100)) ≡ false
+some c = present (digits c.before) (simp (to_z-of_z c.before.ranges.year) at c.if-y-eq0.false)
 
 -- the last two digits are 00, before Christ
-returns : tie.Need-returns
+returns : tie.Need-returns-then-century-lt0
 unfolding year_in_century
 returns c =
     let after-mul = c.before in
@@ -38,15 +38,15 @@ returns c =
     let century-back = to_z-of_z no-digits.before.ranges.century in
     simp (
       none no-digits,
-      simp century-back at before-christ.if2.true,
+      simp century-back at before-christ.if-century-lt0.true,
       c.wrapping_add.ensures,
-      after-mul.wrapping-mul.ensures,
+      after-mul.wrapping_mul.ensures,
       wrap-back,
       century-back,
     )
 
 -- they are 00, after Christ
-returns-2 : tie.Need-returns-2
+returns-2 : tie.Need-returns-then-y-eq0
 unfolding year_in_century
 returns-2 c =
     let after-christ = c.before in
@@ -54,8 +54,8 @@ returns-2 c =
     let century-back = to_z-of_z no-digits.before.ranges.century in
     simp (
       none no-digits,
-      simp century-back at after-christ.if2.false,
-      c.wrapping-mul2.ensures,
+      simp century-back at after-christ.if-century-lt0.false,
+      c.wrapping_mul-then-y-eq0.ensures,
       wrap-back,
       century-back,
       +ℤ_idr,
@@ -63,7 +63,7 @@ returns-2 c =
     )
 
 -- they are not, before Christ
-returns-3 : tie.Need-returns-3
+returns-3 : tie.Need-returns-then-century-lt0-2
 unfolding year_in_century
 returns-3 c =
     let after-digits = c.before in
@@ -75,11 +75,11 @@ returns-3 c =
     let century-back = to_z-of_z at-start.ranges.century in
     simp (
       some has-digits,
-      simp century-back at before-christ.if3.true,
-      c.checked-add2.ensures,
-      after-digits.checked-add.ensures,
-      after-mul.checked-mul.ensures,
-      after-add.wrapping-add2.ensures,
+      simp century-back at before-christ.if-century-lt0-2.true,
+      c.checked_add-then-century-lt0-2.ensures,
+      after-digits.checked_add.ensures,
+      after-mul.checked_mul-hundreds.ensures,
+      after-add.wrapping_add-then-century-lt0-2.ensures,
       wrap-back,
       century-back,
       to_z-of_z at-start.ranges.year,
@@ -89,7 +89,7 @@ returns-3 c =
     )
 
 -- they are not, after Christ
-returns-4 : tie.Need-returns-4
+returns-4 : tie.Need-returns
 unfolding year_in_century
 returns-4 c =
     let after-mul = c.before in
@@ -100,10 +100,10 @@ returns-4 c =
     let century-back = to_z-of_z at-start.ranges.century in
     simp (
       some has-digits,
-      simp century-back at after-christ.if3.false,
-      c.checked-add3.ensures,
-      after-mul.checked-mul2.ensures,
-      after-sub.wrapping-sub.ensures,
+      simp century-back at after-christ.if-century-lt0-2.false,
+      c.checked_add-2.ensures,
+      after-mul.checked_mul.ensures,
+      after-sub.wrapping_sub.ensures,
       wrap-back,
       century-back,
       to_z-of_z at-start.ranges.year,
@@ -111,14 +111,14 @@ returns-4 c =
     )
 
 -- the digits with the other sign fit
-sub-checked-add : tie.Need-overflow-sub-checked-add
+sub-checked-add : tie.Need-overflow_sub-y
 sub-checked-add c =
     let at-start = c.before.before.before.before in
     simp (to_z-of_z at-start.ranges.year, to_z-of_z (digits at-start), +ℤ_idl)
     (neg-rem-fits at-start.args.year 100 (lit< tt) (lit< tt))
 
-pub year-in-century-spec : {M : Type 1} → statement M
-year-in-century-spec =
+pub year_in_century_spec : {M : Type 1} → statement M
+year_in_century_spec =
     tie.close
     (tie.spec
     (λ c. (lit< tt, rw (to_z-of_z c.ranges.year) (quot_fits _ 100 c.ranges.year)))

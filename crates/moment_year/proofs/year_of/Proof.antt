@@ -8,48 +8,48 @@ use Rattle.moment_sums.proofs.Tests.{absent, present}
 use Rattle.moment_year.proofs.year_of.Statement.{statement}
 use Rattle.moment_year.proofs.year_of.Tie as tie
 
-has : (c : tie.After-bc) → Known c.before.before.before.args.t1
+has : (c : tie.After-bc-1) → Known c.before.before.before.args.t1
 has c = let at-start = c.before.before.before in known at-start.args.t1 _ at-start.well-formed.0
 
 -- neither year nor century
-returns : tie.Need-returns
+returns : tie.Need-returns-then-cc-eq0
 unfolding year_of
 returns c =
     let fields = has c.before.before in
-    simp (absent (fields.fits year) c.before.if1.true, absent (fields.fits cc) c.if2.true)
+    simp (absent (fields.fits year) c.before.if-year-eq0.true, absent (fields.fits cc) c.if-cc-eq0.true)
 
 -- a century alone
-returns-2 : tie.Need-returns-2
+returns-2 : tie.Need-returns-then-year-eq0
 unfolding year_of
 returns-2 c =
     let after-sign = c.before in
     let at-century = after-sign.before in
     let fields = has at-century.before.before in
     simp (
-      absent (fields.fits year) at-century.before.if1.true,
-      present (fields.fits cc) at-century.if2.false,
-      c.first-of-century.ensures,
+      absent (fields.fits year) at-century.before.if-year-eq0.true,
+      present (fields.fits cc) at-century.if-cc-eq0.false,
+      c.first_of_century.ensures,
       returned after-sign.Signed-by.type-inv after-sign.Signed-by.ensures,
       fields.back,
     )
 
 -- a year alone
-returns-3 : tie.Need-returns-3
+returns-3 : tie.Need-returns-then-cc-eq0-2
 unfolding year_of
 returns-3 c =
     let after-sign = c.before in
     let at-century = after-sign.before in
     let fields = has at-century.before.before in
     simp (
-      present (fields.fits year) at-century.before.if1.false,
-      absent (fields.fits cc) at-century.if3.true,
-      returned c.plain-year.type-inv c.plain-year.ensures,
-      returned after-sign.signed-by2.type-inv after-sign.signed-by2.ensures,
+      present (fields.fits year) at-century.before.if-year-eq0.false,
+      absent (fields.fits cc) at-century.if-cc-eq0-2.true,
+      returned c.plain_year.type-inv c.plain_year.ensures,
+      returned after-sign.signed_by-then-cc-eq0-2.type-inv after-sign.signed_by-then-cc-eq0-2.ensures,
       fields.back,
     )
 
 -- both, the year with fewer than three digits
-returns-4 : tie.Need-returns-4
+returns-4 : tie.Need-returns-then-f-lt3
 unfolding year_of
 returns-4 c =
     let after-sign = c.before in
@@ -57,16 +57,16 @@ returns-4 c =
     let at-century = at-digits.before.before in
     let fields = has at-century.before.before in
     simp (
-      present (fields.fits year) at-century.before.if1.false,
-      present (fields.fits cc) at-century.if3.false,
-      simp fields.back at at-digits.if4.true,
-      c.year-in-century.ensures,
-      returned after-sign.signed-by3.type-inv after-sign.signed-by3.ensures,
+      present (fields.fits year) at-century.before.if-year-eq0.false,
+      present (fields.fits cc) at-century.if-cc-eq0-2.false,
+      simp fields.back at at-digits.if-f-lt3.true,
+      c.year_in_century.ensures,
+      returned after-sign.signed_by-then-f-lt3.type-inv after-sign.signed_by-then-f-lt3.ensures,
       fields.back,
     )
 
 -- both, the year with three digits or more: the century does not count
-returns-5 : tie.Need-returns-5
+returns-5 : tie.Need-returns
 unfolding year_of
 returns-5 c =
     let after-sign = c.before in
@@ -74,16 +74,16 @@ returns-5 c =
     let at-century = at-digits.before.before in
     let fields = has at-century.before.before in
     simp (
-      present (fields.fits year) at-century.before.if1.false,
-      present (fields.fits cc) at-century.if3.false,
-      simp fields.back at at-digits.if4.false,
-      returned c.plain-year2.type-inv c.plain-year2.ensures,
-      returned after-sign.signed-by4.type-inv after-sign.signed-by4.ensures,
+      present (fields.fits year) at-century.before.if-year-eq0.false,
+      present (fields.fits cc) at-century.if-cc-eq0-2.false,
+      simp fields.back at at-digits.if-f-lt3.false,
+      returned c.plain_year-2.type-inv c.plain_year-2.ensures,
+      returned after-sign.signed_by-2.type-inv after-sign.signed_by-2.ensures,
       fields.back,
     )
 
-pub year-of-spec : {M : Type 1} → statement M
-year-of-spec =
+pub year_of_spec : {M : Type 1} → statement M
+year_of_spec =
     tie.close
     (tie.spec
     (λ c. search rules)

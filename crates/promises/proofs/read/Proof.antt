@@ -8,7 +8,7 @@ returns : tie.Need-returns
 returns c =
     let after-instant = c.before in
     let after-parts = after-instant.before in
-    right-and-safe _ _ _ _ after-parts.to-timestamp-parts.ensures after-instant.to-timestamp-text.ensures c.to-date-text.ensures
+    right-and-safe _ _ _ _ after-parts.to_timestamp_parts-parts.ensures after-instant.to_timestamp_text-instant.ensures c.to_date_text-day.ensures
 
 pub read_spec : {M : Type 1} → statement M
 read_spec = tie.close (tie.spec (λ c κs. search rules) (λ c κs. search rules) (λ c κs. search rules) returns)

@@ -17,23 +17,23 @@ use Rattle.read_input.proofs.Verdicts.{read_is, verdict-read, whole-went}
 use Rattle.read_input.proofs.dch_from_char.Statement.{statement}
 use Rattle.read_input.proofs.dch_from_char.Tie as tie
 
-abbrev invariant-loop : tie.invariant-loop
+abbrev invariant-loop : tie.invariant-loop-i
 invariant-loop c t s f₀ p₀ i₀ f p i = Turned t s (nodes_in c) (read_all t s (nodes_in c)) i (fields_of f) p
 
-abbrev decreases-loop : tie.decreases-loop
+abbrev decreases-loop : tie.decreases-loop-i
 decreases-loop c t s f₀ p₀ i₀ f p i = length c / 6 - i
 
-loop-holds : tie.Need-loop-init invariant-loop decreases-loop
+loop-holds : tie.Need-loop-i-init invariant-loop decreases-loop
 loop-holds c = rw c.before.before.before.requires.1 (begun _ _ _)
 
-lane-requires : tie.Need-lane-requires invariant-loop decreases-loop
+lane-requires : tie.Need-lane-passed-requires invariant-loop decreases-loop
 lane-requires c κs =
-    let inv = c.before.before.loop.invariant in
+    let inv = c.before.before.loop-i.invariant in
     (inv.within, inv.none, inv.payable, search rules)
 
 -- after the lane
-module _ (c : tie.After-lane invariant-loop decreases-loop) where
-  abbrev at-loop : tie.At-loop invariant-loop decreases-loop
+module _ (c : tie.After-lane-passed invariant-loop decreases-loop) where
+  abbrev at-loop : tie.At-loop-i invariant-loop decreases-loop
   at-loop = c.before.before.before
 
   abbrev start : tie.Start invariant-loop decreases-loop
@@ -43,86 +43,86 @@ module _ (c : tie.After-lane invariant-loop decreases-loop) where
   nodes = nodes_in start.args.c.now
 
   abbrev next : ℕ
-  next = c.lane.result.next
+  next = c.lane-passed.result.next
 
   -- the invariant holds there too
   after-lane
       : Turned start.args.t.now start.args.s.now nodes (read_all start.args.t.now start.args.s.now nodes) next
-      (fields_of c.lane.new.1.1.1.0) c.lane.result.place
-  after-lane = then-on _ _ _ _ _ _ _ at-loop.loop.inv c.lane.ensures.turned
+      (fields_of c.lane-passed.new.1.1.1.0) c.lane-passed.result.place-1
+  after-lane = then-on _ _ _ _ _ _ _ at-loop.loop-i.inv c.lane-passed.ensures.turned
 
   node-count : length nodes ≡ length start.args.c.now / 6
   node-count = nodes-length start.args.c.now
 
 -- at the node after it: it is a pattern
-module _ (c : tie.After-node-at invariant-loop decreases-loop) where
-  abbrev at-lane : tie.After-lane invariant-loop decreases-loop
+module _ (c : tie.After-node_at-n invariant-loop decreases-loop) where
+  abbrev at-lane : tie.After-lane-passed invariant-loop decreases-loop
   at-lane = c.before.before.before.before.before
 
   one_left : next at-lane < length (nodes at-lane)
-  one_left = omega (arith, node-count at-lane, c.before.before.before.if1.false)
+  one_left = omega (arith, node-count at-lane, c.before.before.before.if-c-next.false)
 
-  input-left : at-lane.lane.result.place.at < length (start at-lane).args.s.now
-  input-left = omega (arith, c.before.if2.false)
+  input-left : at-lane.lane-passed.result.place-1.at < length (start at-lane).args.s.now
+  input-left = omega (arith, c.before.if-s-place.false)
 
   pattern : c.Node-at.result.kind ≡ 1
-  pattern = ap (λ (n : Node). n.kind) c.Node-at.ensures ∙ at-lane.lane.ensures.stops one_left input-left
+  pattern = ap (λ (n : Node). n.kind) c.Node-at.ensures ∙ at-lane.lane-passed.ensures.stops one_left input-left
 
 -- the template ended in the lane
-returns : tie.Need-returns invariant-loop decreases-loop
+returns : tie.Need-returns-then-c-next invariant-loop decreases-loop
 returns c =
     let passed = c.before.before.before in
-    verdict-read (rw c.read.ensures (template-ends _ _ _ _ _ _ _ (after-lane passed) (omega (arith, c.before.if1.true, node-count passed))))
+    verdict-read (rw c.read.ensures (template-ends _ _ _ _ _ _ _ (after-lane passed) (omega (arith, c.before.if-c-next.true, node-count passed))))
 
 -- the input ended
-returns-2 : tie.Need-returns-2 invariant-loop decreases-loop
+returns-2 : tie.Need-returns-then-s-place invariant-loop decreases-loop
 returns-2 c =
     let passed = c.before.before.before.before.before in
-    verdict-read (rw c.read2.ensures (input-ends _ _ _ _ _ _ _ (after-lane passed) c.before.if2.true))
+    verdict-read (rw c.read-then-s-place.ensures (input-ends _ _ _ _ _ _ _ (after-lane passed) c.before.if-s-place.true))
 
-pattern-read-requires : tie.Need-pattern-read-requires invariant-loop decreases-loop
+pattern-read-requires : tie.Need-pattern_read-r-requires invariant-loop decreases-loop
 pattern-read-requires c κs =
     let at-node = c.before.before in
     ((after-lane (at-lane at-node)).payable, omega (arith, input-left at-node), (start (at-lane at-node)).pre.0)
 
 -- a pattern was refused
-returns-3 : tie.Need-returns-3 invariant-loop decreases-loop
+returns-3 : tie.Need-returns-in-Refused invariant-loop decreases-loop
 returns-3 c =
     let after-pattern = c.before.before in
     let at-node = after-pattern.before.before.before in
-    let went = after-pattern.pattern-read.ensures in
+    let went = after-pattern.pattern_read-r.ensures in
     whole-went went
     (stops _ _ _ _ _ _ _ (after-lane (at-lane at-node)) (one_left at-node) (input-left at-node) _ _ at-node.Node-at.ensures
-    after-pattern.before.before.node-at2.ensures (pattern at-node)
-    _ refl _ (sym went.verdict ∙ c.enum_told.given.1))
+    after-pattern.before.before.node_at-node_after.ensures (pattern at-node)
+    _ refl _ (sym went.verdict ∙ c.enum_told-1.given.1))
 
-loop-less : tie.Need-loop-smaller invariant-loop decreases-loop
+loop-less : tie.Need-loop-i-smaller invariant-loop decreases-loop
 loop-less c =
     let at-node = c.before.before.before.before.before.before in
     let passed = at-lane at-node in
-    omega (arith, one_left at-node, node-count passed, passed.lane.ensures.on)
+    omega (arith, one_left at-node, node-count passed, passed.lane-passed.ensures.on)
 
 -- a pattern was read: on to the nodes after it
-loop-again : tie.Need-loop-preserved invariant-loop decreases-loop
+loop-again : tie.Need-loop-i-preserved invariant-loop decreases-loop
 loop-again c =
     let after-pattern = c.before.before.before in
     let at-node = after-pattern.before.before.before in
-    let was_read = c.before.enum-told2.given.1 in
+    let was_read = c.before.enum_told-in_default-1.given.1 in
     goes_on _ _ _ _ _ _ _ (after-lane (at-lane at-node)) (one_left at-node) (input-left at-node) _ _ at-node.Node-at.ensures
-    after-pattern.before.before.node-at2.ensures (pattern at-node)
-    _ (read_is after-pattern.pattern-read.ensures was_read) was_read
+    after-pattern.before.before.node_at-node_after.ensures (pattern at-node)
+    _ (read_is after-pattern.pattern_read-r.ensures was_read) was_read
 
 -- the template ended with a pattern, or has no nodes
-returns-4 : tie.Need-returns-4 invariant-loop decreases-loop
+returns-4 : tie.Need-returns invariant-loop decreases-loop
 returns-4 c =
     let loop-end = c.before.before in
     let args = loop-end.before.before.before.before.args in
     verdict-read
-    (rw c.read3.ensures
-    (template-ends _ _ _ _ _ _ _ loop-end.loop.invariant (omega (arith, c.before.loop-test.false, nodes-length args.c.now))))
+    (rw c.read-2.ensures
+    (template-ends _ _ _ _ _ _ _ loop-end.loop-i.invariant (omega (arith, c.before.loop-i-test.false, nodes-length args.c.now))))
 
-pub dch-from-char-spec : {M : Type 1} → statement M
-dch-from-char-spec =
+pub dch_from_char_spec : {M : Type 1} → statement M
+dch_from_char_spec =
     tie.close
     (tie.spec
     invariant-loop

@@ -8,20 +8,20 @@ use Rattle.read_integers.proofs.from_char_set_int.Statement.{statement}
 use Rattle.read_integers.proofs.from_char_set_int.Tie as tie
 
 -- the field is absent
-returns : tie.Need-returns
+returns : tie.Need-returns-then-old-eq0
 returns c =
     let at-start = c.before in
-    rw (← same_bits at-start.args.old (pos 0) at-start.fits.old (omega arith), c.if1.taken)
+    rw (← same_bits at-start.args.old (pos 0) at-start.fits.old (omega arith), c.if-old-eq0.taken)
 
 -- it holds a value: whether that is another
-returns-2 : tie.Need-returns-2
+returns-2 : tie.Need-returns
 returns-2 c =
     let at-start = c.before in
     rw (
       ← same_bits at-start.args.old (pos 0) at-start.fits.old (omega arith),
-      ne_eqb _ _ c.if1.left,
+      ne_eqb _ _ c.if-old-eq0.left,
       same_bits _ _ at-start.fits.old at-start.fits.new,
     )
 
-pub from-char-set-int-spec : {M : Type 1} → statement M
-from-char-set-int-spec = tie.close (tie.spec returns returns-2)
+pub from_char_set_int_spec : {M : Type 1} → statement M
+from_char_set_int_spec = tie.close (tie.spec returns returns-2)

@@ -5,12 +5,12 @@ use Rattle.read_integers.proofs.is_free.Statement.{statement}
 use Rattle.read_integers.proofs.is_free.Tie as tie
 
 -- FM
-returns : tie.Need-returns
-returns c = rw (ne_eqb _ _ c.if1.true)
+returns : tie.Need-returns-then-n-ne0
+returns c = rw (ne_eqb _ _ c.if-n-ne0.true)
 
 -- without it, what comes after the pattern says it
-returns-2 : tie.Need-returns-2
-returns-2 c = rw c.before.if1.false c.is-next-separator.ensures
+returns-2 : tie.Need-returns
+returns-2 c = rw c.before.if-n-ne0.false c.is_next_separator.ensures
 
-pub is-free-spec : {M : Type 1} → statement M
-is-free-spec = tie.close (tie.spec returns (λ c κs. search rules) returns-2)
+pub is_free_spec : {M : Type 1} → statement M
+is_free_spec = tie.close (tie.spec returns (λ c κs. search rules) returns-2)

@@ -17,28 +17,28 @@ use Rattle.read_integers.proofs.parse_int_len.Statement.{statement}
 use Rattle.read_integers.proofs.parse_int_len.Tie as tie
 
 -- the short way gives nine digits at most
-small : (c : tie.After-short-number) → c.short-number.result.value < 1000000000
-small c = rw c.short-number.ensures (short-small _ _)
+small : (c : tie.After-short_number-short) → c.short_number-short.result.value < 1000000000
+small c = rw c.short_number-short.ensures (short-small _ _)
 
 -- where it moved on, strtol finds the same
-found : (c : tie.After-short-number) → let args = c.before.before.before.args in
-    (c.short-number.result.end ≡ args.at → ⊥)
-    → strtol args.s.now args.at ≡ answer (pos c.short-number.result.value) c.short-number.result.end false
-found c = rw c.short-number.ensures (short-strtol _ _)
+found : (c : tie.After-short_number-short) → let args = c.before.before.before.args in
+    (c.short_number-short.result.end ≡ args.at → ⊥)
+    → strtol args.s.now args.at ≡ answer (pos c.short_number-short.result.value) c.short_number-short.result.end false
+found c = rw c.short_number-short.ensures (short-strtol _ _)
 
 -- the number of the short way
-returns : tie.Need-returns
+returns : tie.Need-returns-then-short-at
 returns c =
     let moved_on = c.before in
     let after-short = moved_on.before.before in
     let if-free = after-short.before in
-    found-free _ _ _ _ if-free.before.before.requires _ _ if-free.if1.true
-    (simp (to_z_pos w32 {n = after-short.short-number.result.value} (omega (arith, small after-short)))
-    (accepted _ _ _ moved_on.if2.true refl (lt-ltb after-short.short-number.result.value (2 ^ 31) (omega (arith, small after-short)))
-    ∙ ap (checked _ _) (sym (found after-short moved_on.if2.true))))
+    found-free _ _ _ _ if-free.before.before.requires _ _ if-free.if-free.true
+    (simp (to_z_pos w32 {n = after-short.short_number-short.result.value} (omega (arith, small after-short)))
+    (accepted _ _ _ moved_on.if-short-at.true refl (lt-ltb after-short.short_number-short.result.value (2 ^ 31) (omega (arith, small after-short)))
+    ∙ ap (checked _ _) (sym (found after-short moved_on.if-short-at.true))))
 
-pub parse-int-len-spec : {M : Type 1} → statement M
-parse-int-len-spec =
+pub parse_int_len_spec : {M : Type 1} → statement M
+parse_int_len_spec =
     tie.close
     (tie.spec
     (λ c κs. search rules)

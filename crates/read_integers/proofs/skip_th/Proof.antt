@@ -8,45 +8,45 @@ use Rattle.read_integers.proofs.skip_th.Statement.{statement}
 use Rattle.read_integers.proofs.skip_th.Tie as tie
 
 -- no ordinal suffix
-returns : tie.Need-returns
+returns : tie.Need-returns-then-suffix-eq0
 unfolding past_ordinal
-returns c = record { is = rw c.if1.true; from = omega arith; within = omega arith }
+returns c = record { is = rw c.if-suffix-eq0.true; from = omega arith; within = omega arith }
 
 -- past two characters in the accents mode
-returns-2 : tie.Need-returns-2
+returns-2 : tie.Need-returns-then-accents
 unfolding past_ordinal
 returns-2 c =
     let first = c.before.whole.ensures in
-    let second = c.whole2.ensures in
+    let second = c.whole-then-accents.ensures in
     let at-mode = c.before.before in
     record {
-      is = rw (ne_eqb _ _ at-mode.before.if1.false, at-mode.if2.true, second.is, first.is);
+      is = rw (ne_eqb _ _ at-mode.before.if-suffix-eq0.false, at-mode.if-accents.true, second.is, first.is);
       from = omega arith;
       within = omega (arith, first.within, second.within);
     }
 
 -- and in the other
-returns-3 : tie.Need-returns-3
+returns-3 : tie.Need-returns
 unfolding past_ordinal measure_of
 returns-3 c =
-    let first = c.before.pg-mblen.ensures in
-    let second = c.pg-mblen2.ensures in
+    let first = c.before.pg_mblen.ensures in
+    let second = c.pg_mblen-2.ensures in
     let at-mode = c.before.before in
     record {
-      is = rw (ne_eqb _ _ at-mode.before.if1.false, at-mode.if2.false, second.is, first.is);
+      is = rw (ne_eqb _ _ at-mode.before.if-suffix-eq0.false, at-mode.if-accents.false, second.is, first.is);
       from = omega arith;
       within = omega arith;
     }
 
-pub skip-th-spec : {M : Type 1} → statement M
-skip-th-spec =
+pub skip_th_spec : {M : Type 1} → statement M
+skip_th_spec =
     tie.close
     (tie.spec
     returns
     (λ c κs. search rules)
     (λ c. omega (arith, c.whole.ensures.within))
     (λ c κs. search rules)
-    (λ c. omega (arith, c.whole2.ensures.within, c.before.whole.ensures.within))
+    (λ c. omega (arith, c.whole-then-accents.ensures.within, c.before.whole.ensures.within))
     returns-2
     (λ c κs. search rules)
     (λ c. search rules)

@@ -8,17 +8,17 @@ use Rattle.read_integers.proofs.strtol_number.Statement.{statement}
 use Rattle.read_integers.proofs.strtol_number.Tie as tie
 
 -- of any width
-returns : tie.Need-returns
+returns : tie.Need-returns-then-free
 returns c =
     let if-free = c.before.before in
-    found-free _ _ _ _ if-free.before.before.requires _ _ if-free.if1.true (c.checked.ensures ∙ ap (checked _ _) c.before.c-strtol.ensures)
+    found-free _ _ _ _ if-free.before.before.requires _ _ if-free.if-free.true (c.checked.ensures ∙ ap (checked _ _) c.before.c_strtol.ensures)
 
 -- of a fixed width
-returns-2 : tie.Need-returns-2
+returns-2 : tie.Need-returns
 returns-2 c =
     let not-Free = c.before in
-    found-fixed _ _ _ _ not-Free.before.before.requires _ _ not-Free.if1.false c.fixed.ensures
+    found-fixed _ _ _ _ not-Free.before.before.requires _ _ not-Free.if-free.false c.fixed.ensures
 
-pub strtol-number-spec : {M : Type 1} → statement M
-strtol-number-spec =
+pub strtol_number_spec : {M : Type 1} → statement M
+strtol_number_spec =
     tie.close (tie.spec (λ c κs. search rules) (λ c κs. search rules) returns (λ c κs. search rules) returns-2)

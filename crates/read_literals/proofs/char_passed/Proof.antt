@@ -11,5 +11,5 @@ returns c =
     let p = c.before.before.args.p in
     ap (λ (n : ℕ). at_place p (p.at + n)) c.measure.ensures.is
 
-pub char-passed-spec : {M : Type 1} → statement M
-char-passed-spec = tie.close (tie.spec (λ c κs. search rules) (λ c. search rules) returns)
+pub char_passed_spec : {M : Type 1} → statement M
+char_passed_spec = tie.close (tie.spec (λ c κs. search rules) (λ c. search rules) returns)

@@ -7,23 +7,23 @@ use Rattle.read_literals.proofs.entered.Statement.{statement}
 use Rattle.read_literals.proofs.entered.Tie as tie
 
 -- without FX no more spaces were skipped than the input has bytes
-spaces-skipped-requires : tie.Need-spaces-skipped-requires
+spaces-skipped-requires : tie.Need-spaces_skipped-requires
 spaces-skipped-requires c κs =
     let at-start = c.before.before.before.before in
-    let few = at-start.requires.0 (not-exact at-start.args.p c.before.if1.false) in
+    let few = at-start.requires.0 (not-exact at-start.args.p c.before.if-p-ne0.false) in
     omega arith
 
 -- past the spaces
-returns-2 : tie.Need-returns-2
+returns-2 : tie.Need-returns-then-skip
 returns-2 c =
     let no-fx = c.before.before in
-    rw (not-exact no-fx.before.before.before.args.p no-fx.if1.false, c.before.if2.true) c.spaces-skipped.ensures
+    rw (not-exact no-fx.before.before.before.args.p no-fx.if-p-ne0.false, c.before.if-skip.true) c.spaces_skipped.ensures
 
-pub entered-spec : {M : Type 1} → statement M
-entered-spec =
+pub entered_spec : {M : Type 1} → statement M
+entered_spec =
     tie.close
     (tie.spec
-    (λ c. rw (was-exact c.before.before.before.args.p c.if1.true))
+    (λ c. rw (was-exact c.before.before.before.args.p c.if-p-ne0.true))
     spaces-skipped-requires
     returns-2
-    (λ c. rw (not-exact c.before.before.before.before.args.p c.before.if1.false, c.if2.false)))
+    (λ c. rw (not-exact c.before.before.before.before.args.p c.before.if-p-ne0.false, c.if-skip.false)))

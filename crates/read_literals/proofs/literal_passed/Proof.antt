@@ -9,47 +9,47 @@ use Rattle.read_literals.proofs.literal_passed.Statement.{statement}
 use Rattle.read_literals.proofs.literal_passed.Tie as tie
 
 -- FX was read: one character
-returns : tie.Need-returns
+returns : tie.Need-returns-then-p-ne0
 returns c =
     let args = c.before.before.before.before.args in
-    c.char-passed.ensures ∙ with-exact args.s.now args.n args.p (was-exact args.p c.before.if1.true)
+    c.char_passed.ensures ∙ with-exact args.s.now args.n args.p (was-exact args.p c.before.if-p-ne0.true)
 
 -- a separator
-returns-2 : tie.Need-returns-2
+returns-2 : tie.Need-returns-then-n-eq-FN_SEPARATOR
 returns-2 c =
     let no-fx = c.before.before.before in
     let args = no-fx.before.before.before.args in
-    c.blank-passed.ensures ∙ as-separator args.s.now args.n args.p (not-exact args.p no-fx.if1.false) c.before.if2.true
+    c.blank_passed.ensures ∙ as-separator args.s.now args.n args.p (not-exact args.p no-fx.if-p-ne0.false) c.before.if-n-eq-FN_SEPARATOR.true
 
 -- a space
-returns-3 : tie.Need-returns-3
+returns-3 : tie.Need-returns-then-n-eq-FN_SPACE
 returns-3 c =
     let no-fx = c.before.before.before.before.before in
     let args = no-fx.before.before.before.args in
-    c.blank-passed2.ensures ∙ as-space args.s.now args.n args.p (not-exact args.p no-fx.if1.false) c.before.if3.true
+    c.blank_passed-then-n-eq-FN_SPACE.ensures ∙ as-space args.s.now args.n args.p (not-exact args.p no-fx.if-p-ne0.false) c.before.if-n-eq-FN_SPACE.true
 
 -- any other literal, for which no skipped space can pay: one character
-returns-4 : tie.Need-returns-4
+returns-4 : tie.Need-returns-then-extra-eq0
 returns-4 c =
     let no-blank = c.before.before in
     let no-fx = no-blank.before.before.before.before in
     let args = no-fx.before.before.before.args in
-    c.char-passed2.ensures
-    ∙ as-char args.s.now args.n args.p (not-exact args.p no-fx.if1.false) no-blank.before.before.if2.false no-blank.if3.false
-    c.before.if4.true
+    c.char_passed-then-extra-eq0.ensures
+    ∙ as-char args.s.now args.n args.p (not-exact args.p no-fx.if-p-ne0.false) no-blank.before.before.if-n-eq-FN_SEPARATOR.false no-blank.if-n-eq-FN_SPACE.false
+    c.before.if-extra-eq0.true
 
 -- any other literal, for which a skipped space pays
-returns-5 : tie.Need-returns-5
+returns-5 : tie.Need-returns
 returns-5 c =
     let no-blank = c.before in
     let no-fx = no-blank.before.before.before.before in
     let args = no-fx.before.before.before.args in
-    (λ i. record { at = args.p.at; extra = args.p.extra - 1; fx = no-fx.if1.false i })
-    ∙ paid args.s.now args.n args.p (not-exact args.p no-fx.if1.false) no-blank.before.before.if2.false no-blank.if3.false (args.p.extra - 1)
-    (omega (arith, c.if4.false))
+    (λ i. record { at = args.p.at; extra = args.p.extra - 1; fx = no-fx.if-p-ne0.false i })
+    ∙ paid args.s.now args.n args.p (not-exact args.p no-fx.if-p-ne0.false) no-blank.before.before.if-n-eq-FN_SEPARATOR.false no-blank.if-n-eq-FN_SPACE.false (args.p.extra - 1)
+    (omega (arith, c.if-extra-eq0.false))
 
-pub literal-passed-spec : {M : Type 1} → statement M
-literal-passed-spec =
+pub literal_passed_spec : {M : Type 1} → statement M
+literal_passed_spec =
     tie.close
     (tie.spec
     (λ c κs. search rules)

@@ -8,25 +8,25 @@ use Rattle.read_literals.proofs.literal_read.Statement.{statement}
 use Rattle.read_literals.proofs.literal_read.Tie as tie
 
 -- a plain character after the first node, for which no skipped space can pay
-returns : tie.Need-returns
+returns : tie.Need-returns-then-p-eq0
 returns c =
     let none-skipped = c.before in
     let is-char = none-skipped.before.before in
     let not_first = is-char.before.before in
     let args = not_first.before.before.args in
-    rw (not-true args.first not_first.if1.true)
-    (c.char-passed.ensures ∙ plain-char args.s.now args.n args.p is-char.if2.true none-skipped.if3.true)
+    rw (not-true args.first not_first.if-not-first.true)
+    (c.char_passed.ensures ∙ plain-char args.s.now args.n args.p is-char.if-n-eq-FN_CHAR.true none-skipped.if-p-eq0.true)
 
 -- past the spaces the place is still within the input
-literal-passed-requires : tie.Need-literal-passed-requires
+literal-passed-requires : tie.Need-literal_passed-requires
 literal-passed-requires c κs =
     let at-start = c.before.before.before in
     rw c.entered.ensures (entered-within at-start.args.s.now at-start.args.p at-start.args.first at-start.requires.1)
 
 -- any other literal, after the spaces before it
-returns-2 : tie.Need-returns-2
-returns-2 c = rw (← c.before.entered.ensures) c.literal-passed.ensures
+returns-2 : tie.Need-returns
+returns-2 c = rw (← c.before.entered.ensures) c.literal_passed.ensures
 
-pub literal-read-spec : {M : Type 1} → statement M
-literal-read-spec =
+pub literal_read_spec : {M : Type 1} → statement M
+literal_read_spec =
     tie.close (tie.spec (λ c κs. search rules) returns (λ c κs. search rules) literal-passed-requires returns-2)

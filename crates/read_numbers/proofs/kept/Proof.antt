@@ -8,35 +8,35 @@ use Rattle.read_numbers.proofs.kept.Statement.{statement}
 use Rattle.read_numbers.proofs.kept.Tie as tie
 
 -- milliseconds
-returns : tie.Need-returns
+returns : tie.Need-returns-in-2
 unfolding kept
-returns c = simp (c.before.match.keys1, returned c.scaled.type-inv c.scaled.ensures, to_z-of_z c.before.before.ranges.z)
+returns c = simp (c.before.in-2.keys1, returned c.scaled.type-inv c.scaled.ensures, to_z-of_z c.before.before.ranges.z)
 
 -- microseconds
-returns-2 : tie.Need-returns-2
+returns-2 : tie.Need-returns-in-3
 unfolding kept
-returns-2 c = simp (c.before.match.keys2, returned c.scaled2.type-inv c.scaled2.ensures, to_z-of_z c.before.before.ranges.z)
+returns-2 c = simp (c.before.in-2.keys2, returned c.scaled-in-3.type-inv c.scaled-in-3.ensures, to_z-of_z c.before.before.ranges.z)
 
 -- a fraction, in microseconds
-returns-3 : tie.Need-returns-3
+returns-3 : tie.Need-returns-in-4
 unfolding kept
-returns-3 c = simp (c.before.match.keys3, returned c.scaled3.type-inv c.scaled3.ensures, to_z-of_z c.before.before.ranges.z)
+returns-3 c = simp (c.before.in-2.keys3, returned c.scaled-in-4.type-inv c.scaled-in-4.ensures, to_z-of_z c.before.before.ranges.z)
 
 -- an ISO weekday
-returns-4 : tie.Need-returns-4
+returns-4 : tie.Need-returns-in-5
 unfolding kept
-returns-4 c = simp (c.before.match.keys4, returned c.sunday-first.type-inv c.sunday-first.ensures, to_z-of_z c.before.before.ranges.z)
+returns-4 c = simp (c.before.in-2.keys4, returned c.sunday_first.type-inv c.sunday_first.ensures, to_z-of_z c.before.before.ranges.z)
 
 -- a year of few digits
-returns-5 : tie.Need-returns-5
+returns-5 : tie.Need-returns-in-7
 unfolding kept
-returns-5 c = simp (c.before.match.keys5, returned c.near-if-short.type-inv c.near-if-short.ensures, to_z-of_z c.before.before.ranges.z)
+returns-5 c = simp (c.before.in-2.keys5, returned c.near_if_short.type-inv c.near_if_short.ensures, to_z-of_z c.before.before.ranges.z)
 
 -- any other rule: the number as it is
-returns-6 : tie.Need-returns-6
+returns-6 : tie.Need-returns-in_default
 unfolding kept
 returns-6 c =
-    let others = c.match.rest in
+    let others = c.in-2.rest in
     simp (
       to_z-of_z c.before.ranges.z,
       ne_eqb _ _ others.1,
@@ -46,8 +46,8 @@ returns-6 c =
       ne_eqb _ _ others.0.0.0.0.1,
     )
 
-pub kept-spec : {M : Type 1} → statement M
-kept-spec =
+pub kept_spec : {M : Type 1} → statement M
+kept_spec =
     tie.close
     (tie.spec
     (λ c κs. search rules)

@@ -9,21 +9,21 @@ use Rattle.read_numbers.proofs.missing.Statement.{statement}
 use Rattle.read_numbers.proofs.missing.Tie as tie
 
 -- no digit is missing
-returns-2 : tie.Need-returns-2
+returns-2 : tie.Need-returns-then-width-n
 returns-2 c =
     let args = c.before.before.args in
     let none : args.width - args.n ≡ 0 = omega arith in
-    rw (ne_eqb _ _ c.before.if1.false, none)
+    rw (ne_eqb _ _ c.before.if-n-eq0.false, none)
 
 -- some are
-returns-3 : tie.Need-returns-3
-returns-3 c = rw (ne_eqb _ _ c.before.before.if1.false) (returned c.power-of-ten.type-inv c.power-of-ten.ensures)
+returns-3 : tie.Need-returns
+returns-3 c = rw (ne_eqb _ _ c.before.before.if-n-eq0.false) (returned c.power_of_ten.type-inv c.power_of_ten.ensures)
 
-pub missing-spec : {M : Type 1} → statement M
-missing-spec =
+pub missing_spec : {M : Type 1} → statement M
+missing_spec =
     tie.close
     (tie.spec
-    (λ c. rw c.if1.true)
+    (λ c. rw c.if-n-eq0.true)
     returns-2
     (λ c. search rules)
     (λ c κs. search rules)

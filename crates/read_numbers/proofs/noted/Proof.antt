@@ -9,38 +9,38 @@ use Rattle.read_numbers.proofs.noted.Statement.{statement}
 use Rattle.read_numbers.proofs.noted.Tie as tie
 
 -- the 12-hour clock
-returns : tie.Need-returns
+returns : tie.Need-returns-in-1
 unfolding noted
-returns c = simp c.before.before.match.keys1 c.put.ensures
+returns c = simp c.before.before.in-1.keys1 c.put.ensures
 
 -- a whole year: four digits
-returns-2 : tie.Need-returns-2
+returns-2 : tie.Need-returns-in-6
 unfolding noted
-returns-2 c = simp c.before.before.match.keys2 c.put2.ensures
+returns-2 c = simp c.before.before.in-1.keys2 c.put-in-6.ensures
 
 -- a year of few digits: its width
-returns-3 : tie.Need-returns-3
+returns-3 : tie.Need-returns-in-7
 unfolding noted
 returns-3 c =
     let width_read = to_z_pos w32 {n = c.before.before.before.args.width} (omega arith) in
-    simp c.before.before.match.keys3 (simp width_read at c.put3.ensures)
+    simp c.before.before.in-1.keys3 (simp width_read at c.put-in-7.ensures)
 
 -- a fraction: its width
-returns-4 : tie.Need-returns-4
+returns-4 : tie.Need-returns-in-4
 unfolding noted
 returns-4 c =
     let width_read = to_z_pos w32 {n = c.before.before.before.args.width} (omega arith) in
-    simp c.before.before.match.keys4 (simp width_read at c.put4.ensures)
+    simp c.before.before.in-1.keys4 (simp width_read at c.put-in-4.ensures)
 
 -- any other rule: the fields stay
-returns-5 : tie.Need-returns-5
+returns-5 : tie.Need-returns-in_default
 unfolding noted
 returns-5 c =
-    let others = c.match.rest in
+    let others = c.in-1.rest in
     simp (ne_eqb _ _ others.1, ne_eqb _ _ others.0.1, ne_eqb _ _ others.0.0.1, ne_eqb _ _ others.0.0.0.1)
 
-pub noted-spec : {M : Type 1} → statement M
-noted-spec =
+pub noted_spec : {M : Type 1} → statement M
+noted_spec =
     tie.close
     (tie.spec
     (λ c κs. search rules)

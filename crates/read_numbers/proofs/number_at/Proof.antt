@@ -5,12 +5,12 @@ use Rattle.read_numbers.proofs.number_at.Statement.{statement}
 use Rattle.read_numbers.proofs.number_at.Tie as tie
 
 -- a year with a comma
-returns : tie.Need-returns
-returns c = rw (eq-eqb _ _ c.before.if1.true) c.comma-year.ensures
+returns : tie.Need-returns-then-task-eq-COMMA_YEAR
+returns c = rw (eq-eqb _ _ c.before.if-task-eq-COMMA_YEAR.true) c.comma_year.ensures
 
 -- any other number
-returns-2 : tie.Need-returns-2
-returns-2 c = rw (ne_eqb _ _ c.before.if1.false) c.parse-int-len.ensures
+returns-2 : tie.Need-returns
+returns-2 c = rw (ne_eqb _ _ c.before.if-task-eq-COMMA_YEAR.false) c.parse_int_len.ensures
 
-pub number-at-spec : {M : Type 1} → statement M
-number-at-spec = tie.close (tie.spec (λ c κs. search rules) returns (λ c κs. search rules) returns-2)
+pub number_at_spec : {M : Type 1} → statement M
+number_at_spec = tie.close (tie.spec (λ c κs. search rules) returns (λ c κs. search rules) returns-2)

@@ -10,18 +10,18 @@ five : (k : ℕ) → k < 6 → (k ≡ 0 → ⊥) → (k ≡ 1 → ⊥) → (k �
 five k h a b c d e = omega arith
 
 -- the last case
-returns-6 : tie.Need-returns-6
+returns-6 : tie.Need-returns-in_default
 returns-6 c =
-    let others = c.match.rest in
+    let others = c.in-0.rest in
     rw (five c.before.args.k c.before.requires others.0.0.0.0.1 others.0.0.0.1 others.0.0.1 others.0.1 others.1)
 
-pub power-of-ten-spec : {M : Type 1} → statement M
-power-of-ten-spec =
+pub power_of_ten_spec : {M : Type 1} → statement M
+power_of_ten_spec =
     tie.close
     (tie.spec
-    (λ c. rw c.match.keys1)
-    (λ c. rw c.match.keys2)
-    (λ c. rw c.match.keys3)
-    (λ c. rw c.match.keys4)
-    (λ c. rw c.match.keys5)
+    (λ c. rw c.in-0.keys1)
+    (λ c. rw c.in-0.keys2)
+    (λ c. rw c.in-0.keys3)
+    (λ c. rw c.in-0.keys4)
+    (λ c. rw c.in-0.keys5)
     returns-6)

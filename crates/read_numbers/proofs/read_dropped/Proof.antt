@@ -5,23 +5,23 @@ use Rattle.read_numbers.proofs.read_dropped.Statement.{statement}
 use Rattle.read_numbers.proofs.read_dropped.Tie as tie
 
 -- no number was read
-returns : tie.Need-returns
+returns : tie.Need-returns-in-Refused
 unfolding dropped_number
 returns c values =
     let at-refused = c.before.before in
-    rw (← at-refused.before.before.parse-int-len.ensures.is, at-refused.why.given.1, c.refuse.ensures)
+    rw (← at-refused.before.before.parse_int_len.ensures.is, at-refused.why-1.given.1, c.refuse.ensures)
 
 -- a number, and past its ordinal suffix
-returns-2 : tie.Need-returns-2
+returns-2 : tie.Need-returns-in-Read
 unfolding dropped_number
 returns-2 c values =
     let after-place = c.before in
     let at_read = after-place.before.before.before in
-    rw (← at_read.before.before.parse-int-len.ensures.is, at_read.next.given.1)
-    (simp (c.read.ensures, after-place.at_place.ensures, after-place.before.skip-th.ensures.is))
+    rw (← at_read.before.before.parse_int_len.ensures.is, at_read.next-1.given.1)
+    (simp (c.read.ensures, after-place.at_place.ensures, after-place.before.skip_th.ensures.is))
 
-pub read-dropped-spec : {M : Type 1} → statement M
-read-dropped-spec =
+pub read_dropped_spec : {M : Type 1} → statement M
+read_dropped_spec =
     tie.close
     (tie.spec
     (λ c κs. search rules)

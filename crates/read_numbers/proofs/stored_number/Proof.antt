@@ -12,34 +12,34 @@ use Rattle.read_numbers.proofs.stored_number.Statement.{statement}
 use Rattle.read_numbers.proofs.stored_number.Tie as tie
 
 -- the number that was read has 32 bits, and ends after its place
-value-fits : (c : tie.After-known-told2) → SFits w32 c.before.number2.given.0.0
+value-fits : (c : tie.In-Read) → SFits w32 c.before.number-in-Read-1.given.0.0
 value-fits c = search rules
 
-moved_on : (c : tie.After-known-told2) → c.before.before.before.before.args.p.at < c.before.number2.given.0.1.0
+moved_on : (c : tie.In-Read) → c.before.before.before.before.args.p.at < c.before.number-in-Read-1.given.0.1.0
 moved_on c =
     let at-start = c.before.before.before.before in
-    (rw c.before.number2.given.1 at at-start.requires.1).0
+    (rw c.before.number-in-Read-1.given.1 at at-start.requires.1).0
 
 -- the field was set to another value
-returns : tie.Need-returns
+returns : tie.Need-returns-then-holds_other
 unfolding stored_number
 returns c =
     let after_test_lem = c.before.before in
     let at_read = after_test_lem.before.before in
     let args = at_read.before.before.before.before.args in
     rw (
-      at_read.before.number2.given.1,
-      answered args.f.now args.task.field (value-fits at_read) after_test_lem.holds-other.ensures c.before.if1.true,
-      c.refuse2.ensures,
+      at_read.before.number-in-Read-1.given.1,
+      answered args.f.now args.task.field (value-fits at_read) after_test_lem.holds_other.ensures c.before.if-holds_other.true,
+      c.refuse-then-holds_other.ensures,
     )
 
 -- no number was read
-returns-2 : tie.Need-returns-2
+returns-2 : tie.Need-returns-in-Refused
 unfolding stored_number
-returns-2 c = rw (c.before.before.number.given.1, c.refuse.ensures)
+returns-2 c = rw (c.before.before.number-1.given.1, c.refuse.ensures)
 
 -- the number goes into its field
-returns-3 : tie.Need-returns-3
+returns-3 : tie.Need-returns-else-holds_other
 unfolding stored_number
 returns-3 c =
     let after-place = c.before in
@@ -49,17 +49,17 @@ returns-3 c =
     let at_read = after_test_lem.before.before in
     let args = at_read.before.before.before.before.args in
     simp (
-      at_read.before.number2.given.1,
-      answered args.f.now args.task.field (value-fits at_read) after_test_lem.holds-other.ensures not-other.if1.false,
+      at_read.before.number-in-Read-1.given.1,
+      answered args.f.now args.task.field (value-fits at_read) after_test_lem.holds_other.ensures not-other.if-holds_other.false,
       c.read.ensures,
       after-place.at_place.ensures,
-      after-place.before.skip-th.ensures.is,
-      after-put.put-number.ensures,
+      after-place.before.skip_th.ensures.is,
+      after-put.put_number.ensures,
       to_z-of_z (value-fits at_read),
     )
 
-pub stored-number-spec : {M : Type 1} → statement M
-stored-number-spec =
+pub stored_number_spec : {M : Type 1} → statement M
+stored_number_spec =
     tie.close
     (tie.spec
     (λ c. search rules)

@@ -5,12 +5,12 @@ use Rattle.read_offsets.proofs.is_zone_letter.Statement.{statement}
 use Rattle.read_offsets.proofs.is_zone_letter.Tie as tie
 
 -- TZ: whether the byte is a letter
-returns : tie.Need-returns
-returns c = rw c.before.if1.true c.is-alpha-c.ensures
+returns : tie.Need-returns-then-rule-eq-NO_LETTER
+returns c = rw c.before.if-rule-eq-NO_LETTER.true c.is_alpha_c.ensures
 
 -- any other pattern
-returns-2 : tie.Need-returns-2
-returns-2 c = rw (ne_eqb _ _ c.if1.false)
+returns-2 : tie.Need-returns
+returns-2 c = rw (ne_eqb _ _ c.if-rule-eq-NO_LETTER.false)
 
-pub is-zone-letter-spec : {M : Type 1} → statement M
-is-zone-letter-spec = tie.close (tie.spec (λ c κs. search rules) returns returns-2)
+pub is_zone_letter_spec : {M : Type 1} → statement M
+is_zone_letter_spec = tie.close (tie.spec (λ c κs. search rules) returns returns-2)

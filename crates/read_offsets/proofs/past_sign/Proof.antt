@@ -12,29 +12,29 @@ use Rattle.read_offsets.proofs.past_sign.Statement.{statement}
 use Rattle.read_offsets.proofs.past_sign.Tie as tie
 
 -- the test whether a sign is at the place
-tested : (c : tie.After-is-sign) →
+tested : (c : tie.After-is_sign) →
     let args = c.before.before.before.args in
-    c.is-sign.result ≡ is_sign (byte_at args.s.now args.at)
-tested c = rw c.before.byte_at.ensures at c.is-sign.ensures
+    c.is_sign.result ≡ is_sign (byte_at args.s.now args.at)
+tested c = rw c.before.byte_at.ensures at c.is_sign.ensures
 
 -- a sign is within the input
-inside : (c : tie.Then1) → let args = c.before.before.before.before.args in args.at < length args.s.now
+inside : (c : tie.Then-is_sign) → let args = c.before.before.before.before.args in args.at < length args.s.now
 inside c =
     let args = c.before.before.before.before.args in
-    byte-within args.s.now args.at (λ z. true≢false (sym c.if1.true ∙ tested c.before ∙ rw z))
+    byte-within args.s.now args.at (λ z. true≢false (sym c.if-is_sign.true ∙ tested c.before ∙ rw z))
 
 -- past a sign
-returns : tie.Need-returns
+returns : tie.Need-returns-then-is_sign
 returns c =
     let in-text = inside c in
-    record { is = rw (sym (tested c.before) ∙ c.if1.true); within = omega arith }
+    record { is = rw (sym (tested c.before) ∙ c.if-is_sign.true); within = omega arith }
 
 -- no sign: the place as it is
-returns-2 : tie.Need-returns-2
-returns-2 c = record { is = rw (sym (tested c.before) ∙ c.if1.false); within = search rules }
+returns-2 : tie.Need-returns
+returns-2 c = record { is = rw (sym (tested c.before) ∙ c.if-is_sign.false); within = search rules }
 
-pub past-sign-spec : {M : Type 1} → statement M
-past-sign-spec =
+pub past_sign_spec : {M : Type 1} → statement M
+past_sign_spec =
     tie.close
     (tie.spec
     (λ c κs. search rules)

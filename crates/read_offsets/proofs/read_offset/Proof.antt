@@ -15,20 +15,20 @@ use Rattle.read_offsets.proofs.read_offset.Statement.{statement}
 use Rattle.read_offsets.proofs.read_offset.Tie as tie
 
 -- the test whether a letter is refused
-tested : (c : tie.After-is-zone-letter) →
+tested : (c : tie.After-is_zone_letter) →
     let args = c.before.before.before.args in
-    c.is-zone-letter.result ≡ (eqb args.task.rule no_letter && is_letter (byte_at args.s.now args.p.at))
-tested c = rw c.before.byte_at.ensures at c.is-zone-letter.ensures
+    c.is_zone_letter.result ≡ (eqb args.task.rule no_letter && is_letter (byte_at args.s.now args.p.at))
+tested c = rw c.before.byte_at.ensures at c.is_zone_letter.ensures
 
 -- a letter
-returns : tie.Need-returns
+returns : tie.Need-returns-then-is_zone_letter
 unfolding read_offset
-returns c = rw (sym (tested c.before.before) ∙ c.before.if1.true, c.refuse.ensures)
+returns c = rw (sym (tested c.before.before) ∙ c.before.if-is_zone_letter.true, c.refuse.ensures)
 
 -- the hours: a sign that is stored, and a number
-hours : (c : tie.After-stored-offset) →
+hours : (c : tie.After-stored_offset-hours) →
     let args = c.before.before.before.before.before.before.before.before.before.before.before.args in
-    read_into c.stored-offset.result c.stored-offset.new.1.1.1.0
+    read_into c.stored_offset-hours.result c.stored_offset-hours.new.1.1.1.0
     ≡ stored_offset args.n tzh (number_at args.s.now (past_sign args.s.now args.p.at) 2 args.n.pattern args.free)
     (put (fields_of args.f.now) tzsign (sign_of args.s.now args.p)) args.p
 hours c =
@@ -37,31 +37,31 @@ hours c =
     let after-put = after-sign.before in
     let sign = after-put.before.sign_of in
     let signed = rw (returned sign.type-inv sign.ensures) at after-put.put.ensures in
-    rw (← after-sign.past-sign.ensures.is, ← after-number.strtol-number.ensures.is, ← signed) c.stored-offset.ensures
+    rw (← after-sign.past_sign.ensures.is, ← after-number.strtol_number-number.ensures.is, ← signed) c.stored_offset-hours.ensures
 
 -- where the letter was tested: there was none
-abbrev no-letter : tie.After-stored-offset → tie.Else1
+abbrev no-letter : tie.After-stored_offset-hours → tie.Else-is_zone_letter
 no-letter c = c.before.before.before.before.before.before.before
 
 -- the hours were refused
-returns-2 : tie.Need-returns-2
+returns-2 : tie.Need-returns-in-Refused
 unfolding read_offset then_minutes
 returns-2 c =
     let after-hours = c.before.before in
     let at_test = no-letter after-hours in
-    rw (sym (tested at_test.before) ∙ at_test.if1.left, ← hours after-hours, c.enum_told.given.1)
+    rw (sym (tested at_test.before) ∙ at_test.if-is_zone_letter.left, ← hours after-hours, c.enum_told-1.given.1)
 
 -- the hours were read: the minutes after them
-returns-3 : tie.Need-returns-3
+returns-3 : tie.Need-returns-in-Read
 unfolding read_offset then_minutes
 returns-3 c =
     let at-verdict = c.before.before.before in
     let after-hours = at-verdict.before.before in
     let at_test = no-letter after-hours in
-    rw (sym (tested at_test.before) ∙ at_test.if1.left, ← hours after-hours, at-verdict.enum-told2.given.1) c.colon-minutes.ensures
+    rw (sym (tested at_test.before) ∙ at_test.if-is_zone_letter.left, ← hours after-hours, at-verdict.enum_told-in-Read-1.given.1) c.colon_minutes.ensures
 
-pub read-offset-spec : {M : Type 1} → statement M
-read-offset-spec =
+pub read_offset_spec : {M : Type 1} → statement M
+read_offset_spec =
     tie.close
     (tie.spec
     (λ c κs. search rules)
@@ -71,7 +71,7 @@ read-offset-spec =
     (λ c κs. search rules)
     (λ c κs. search rules)
     (λ c κs. search rules)
-    (λ c κs. c.past-sign.ensures.within)
+    (λ c κs. c.past_sign.ensures.within)
     (λ c κs. search rules)
     (λ c. search rules)
     (λ c. search rules)

@@ -7,10 +7,10 @@ use Rattle.read_offsets.proofs.read_offset_minutes.Tie as tie
 returns : tie.Need-returns
 returns c =
     let after-sign = c.before.before in
-    rw (← after-sign.before.before.strtol-number.ensures.is, ← after-sign.with-sign.ensures) c.stored-offset.ensures
+    rw (← after-sign.before.before.strtol_number-number.ensures.is, ← after-sign.with_sign.ensures) c.stored_offset.ensures
 
-pub read-offset-minutes-spec : {M : Type 1} → statement M
-read-offset-minutes-spec =
+pub read_offset_minutes_spec : {M : Type 1} → statement M
+read_offset_minutes_spec =
     tie.close
     (tie.spec
     (λ c κs. search rules)

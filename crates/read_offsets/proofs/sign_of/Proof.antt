@@ -12,70 +12,70 @@ use Rattle.read_offsets.proofs.sign_of.Statement.{statement}
 use Rattle.read_offsets.proofs.sign_of.Tie as tie
 
 -- the test whether a sign is at the place
-tested : (c : tie.After-is-sign) →
+tested : (c : tie.After-is_sign) →
     let args = c.before.before.before.args in
-    c.is-sign.result ≡ is_sign (byte_at args.s.now args.p.at)
-tested c = rw c.before.byte_at.ensures at c.is-sign.ensures
+    c.is_sign.result ≡ is_sign (byte_at args.s.now args.p.at)
+tested c = rw c.before.byte_at-b.ensures at c.is_sign.ensures
 
 positive : (n : ℕ) → (n ≡ 0 → ⊥) → ltb 0 n ≡ true
 positive n h = lt-ltb 0 n (omega arith)
 
 -- a minus at the place
-returns : tie.Need-returns
+returns : tie.Need-returns-then-b-eq45
 unfolding sign_of
 returns c =
     let at_byte = c.before.before.before in
-    rw (sym at_byte.byte_at.ensures ∙ c.if2.true)
+    rw (sym at_byte.byte_at-b.ensures ∙ c.if-b-eq45.true)
 
 -- a plus or a space at the place
-returns-2 : tie.Need-returns-2
+returns-2 : tie.Need-returns-then-is_sign
 unfolding sign_of
 returns-2 c =
     let after_test_lem = c.before.before in
-    rw (sym (tested after_test_lem) ∙ c.before.if1.true, ne_eqb _ _ (λ e. c.if2.false (after_test_lem.before.byte_at.ensures ∙ e)))
+    rw (sym (tested after_test_lem) ∙ c.before.if-is_sign.true, ne_eqb _ _ (λ e. c.if-b-eq45.false (after_test_lem.before.byte_at-b.ensures ∙ e)))
 
 -- no sign, and no space was skipped: plus
-returns-3 : tie.Need-returns-3
+returns-3 : tie.Need-returns-then-p-eq0
 unfolding sign_of
 returns-3 c =
     let no_sign = c.before.before in
-    rw (sym (tested no_sign.before) ∙ no_sign.if1.false, c.if3.true)
+    rw (sym (tested no_sign.before) ∙ no_sign.if-is_sign.false, c.if-p-eq0.true)
 
 -- no sign, at the start of the input: plus
-returns-4 : tie.Need-returns-4
+returns-4 : tie.Need-returns-then-at-eq0
 unfolding sign_of
 returns-4 c =
     let no_sign = c.before.before.before in
-    rw (sym (tested no_sign.before) ∙ no_sign.if1.false, positive _ c.before.if3.false, c.if4.true)
+    rw (sym (tested no_sign.before) ∙ no_sign.if-is_sign.false, positive _ c.before.if-p-eq0.false, c.if-at-eq0.true)
 
 -- a minus one byte back
-returns-5 : tie.Need-returns-5
+returns-5 : tie.Need-returns-then-byte_at-eq45
 unfolding sign_of
 returns-5 c =
     let not_first = c.before.before in
     let no_sign = not_first.before.before.before in
     rw (
-      sym (tested no_sign.before) ∙ no_sign.if1.false,
-      positive _ not_first.before.if3.false,
-      positive _ not_first.if4.false,
-      sym c.before.byte-at2.ensures ∙ c.if5.true,
+      sym (tested no_sign.before) ∙ no_sign.if-is_sign.false,
+      positive _ not_first.before.if-p-eq0.false,
+      positive _ not_first.if-at-eq0.false,
+      sym c.before.byte_at.ensures ∙ c.if-byte_at-eq45.true,
     )
 
 -- no minus there either: plus
-returns-6 : tie.Need-returns-6
+returns-6 : tie.Need-returns
 unfolding sign_of
 returns-6 c =
     let not_first = c.before.before in
     let no_sign = not_first.before.before.before in
     rw (
-      sym (tested no_sign.before) ∙ no_sign.if1.false,
-      positive _ not_first.before.if3.false,
-      positive _ not_first.if4.false,
-      ne_eqb _ _ (λ e. c.if5.false (c.before.byte-at2.ensures ∙ e)),
+      sym (tested no_sign.before) ∙ no_sign.if-is_sign.false,
+      positive _ not_first.before.if-p-eq0.false,
+      positive _ not_first.if-at-eq0.false,
+      ne_eqb _ _ (λ e. c.if-byte_at-eq45.false (c.before.byte_at.ensures ∙ e)),
     )
 
-pub sign-of-spec : {M : Type 1} → statement M
-sign-of-spec =
+pub sign_of_spec : {M : Type 1} → statement M
+sign_of_spec =
     tie.close
     (tie.spec
     (λ c κs. search rules)

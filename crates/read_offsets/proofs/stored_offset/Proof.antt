@@ -9,29 +9,29 @@ use Rattle.read_offsets.proofs.stored_offset.Statement.{statement}
 use Rattle.read_offsets.proofs.stored_offset.Tie as tie
 
 -- the number that was read has 32 bits
-value-fits : (c : tie.After-known-told2) → SFits w32 c.before.number2.given.0.0
+value-fits : (c : tie.In-Read) → SFits w32 c.before.number-in-Read-1.given.0.0
 value-fits c = search rules
 
 -- the field was set to another value
-returns : tie.Need-returns
+returns : tie.Need-returns-then-holds_other
 unfolding stored_offset
 returns c =
     let after_test_lem = c.before.before in
     let at_read = after_test_lem.before.before in
     let args = at_read.before.before.before.args in
     rw (
-      at_read.before.number2.given.1,
-      answered args.f.now args.k (value-fits at_read) after_test_lem.holds-other.ensures c.before.if1.true,
-      c.refuse2.ensures,
+      at_read.before.number-in-Read-1.given.1,
+      answered args.f.now args.k (value-fits at_read) after_test_lem.holds_other.ensures c.before.if-holds_other.true,
+      c.refuse-then-holds_other.ensures,
     )
 
 -- no number was read
-returns-2 : tie.Need-returns-2
+returns-2 : tie.Need-returns-in-Refused
 unfolding stored_offset
-returns-2 c = rw (c.before.before.number.given.1, c.refuse.ensures)
+returns-2 c = rw (c.before.before.number-1.given.1, c.refuse.ensures)
 
 -- the number goes into its field
-returns-3 : tie.Need-returns-3
+returns-3 : tie.Need-returns-else-holds_other
 unfolding stored_offset
 returns-3 c =
     let after-put = c.before.before in
@@ -40,16 +40,16 @@ returns-3 c =
     let at_read = after_test_lem.before.before in
     let args = at_read.before.before.before.args in
     simp (
-      at_read.before.number2.given.1,
-      answered args.f.now args.k (value-fits at_read) after_test_lem.holds-other.ensures not-other.if1.false,
+      at_read.before.number-in-Read-1.given.1,
+      answered args.f.now args.k (value-fits at_read) after_test_lem.holds_other.ensures not-other.if-holds_other.false,
       c.read.ensures,
       c.before.at_place.ensures,
       after-put.put.ensures,
       to_z-of_z (value-fits at_read),
     )
 
-pub stored-offset-spec : {M : Type 1} → statement M
-stored-offset-spec =
+pub stored_offset_spec : {M : Type 1} → statement M
+stored_offset_spec =
     tie.close
     (tie.spec
     (λ c. search rules)

@@ -18,15 +18,15 @@ tested : (c : tie.After-get) → is_zero (get (fields_of c.before.before.args.f.
 tested c = rw (← c.get.ensures) (sym (same_bits c.get.result (pos 0) (sfits_of c.get.type-inv) (omega arith)))
 
 -- none was: plus
-returns : tie.Need-returns
-returns c = rw (tested c.before.before.before ∙ eq-eqb _ _ c.before.before.if1.true) c.put.ensures
+returns : tie.Need-returns-then-get-eq0
+returns c = rw (tested c.before.before.before ∙ eq-eqb _ _ c.before.before.if-get-eq0.true) c.put.ensures
 
 -- one was: it stays
-returns-2 : tie.Need-returns-2
-returns-2 c = rw (tested c.before ∙ ne_eqb _ _ c.if1.false)
+returns-2 : tie.Need-returns-else-get-eq0
+returns-2 c = rw (tested c.before ∙ ne_eqb _ _ c.if-get-eq0.false)
 
-pub with-sign-spec : {M : Type 1} → statement M
-with-sign-spec =
+pub with_sign_spec : {M : Type 1} → statement M
+with_sign_spec =
     tie.close
     (tie.spec
     (λ c κs. search rules)

@@ -5,15 +5,15 @@ use Rattle.read_words.proofs.kept_word.Statement.{statement}
 use Rattle.read_words.proofs.kept_word.Tie as tie
 
 -- a weekday
-returns : tie.Need-returns
-returns c = rw c.if1.true
+returns : tie.Need-returns-then-rule-eq-WEEKDAY
+returns c = rw c.if-rule-eq-WEEKDAY.true
 
 -- any other word
-returns-2 : tie.Need-returns-2
-returns-2 c = rw (ne_eqb _ _ c.if1.false)
+returns-2 : tie.Need-returns-else-rule-eq-WEEKDAY
+returns-2 c = rw (ne_eqb _ _ c.if-rule-eq-WEEKDAY.false)
 
-pub kept-word-spec : {M : Type 1} → statement M
-kept-word-spec =
+pub kept_word_spec : {M : Type 1} → statement M
+kept_word_spec =
     tie.close
     (tie.spec
     (λ c. search rules)

@@ -22,9 +22,9 @@ other (suc (suc (suc (suc (suc (suc (suc (suc zero)))))))) n1 n2 n3 n4 n5 n6 n7 
 other (suc (suc (suc (suc (suc (suc (suc (suc (suc k))))))))) n1 n2 n3 n4 n5 n6 n7 n8 = refl
 
 -- any other number
-returns-9 : tie.Need-returns-9
+returns-9 : tie.Need-returns-in_default
 returns-9 c =
-    let n8 = c.match.rest in
+    let n8 = c.in-1.rest in
     let n7 = n8.0 in
     let n6 = n7.0 in
     let n5 = n6.0 in
@@ -34,8 +34,8 @@ returns-9 c =
     let n1 = n2.0 in
     other c.before.args.k n1.1 n2.1 n3.1 n4.1 n5.1 n6.1 n7.1 n8.1
 
-pub list-of-spec : {M : Type 1} → statement M
-list-of-spec =
+pub list_of_spec : {M : Type 1} → statement M
+list_of_spec =
     tie.close
     (tie.spec
     (λ c. search rules)

@@ -7,29 +7,29 @@ use Rattle.read_words.proofs.meant.Statement.{statement}
 use Rattle.read_words.proofs.meant.Tie as tie
 
 -- a month
-returns : tie.Need-returns
+returns : tie.Need-returns-in-2
 unfolding meant
-returns c = (rw c.match.keys1, omega arith)
+returns c = (rw c.in-2.keys1, omega arith)
 
 -- a weekday
-returns-2 : tie.Need-returns-2
+returns-2 : tie.Need-returns-in-3
 unfolding meant
-returns-2 c = (rw c.match.keys2, omega arith)
+returns-2 c = (rw c.in-2.keys2, omega arith)
 
 -- a Roman month
-returns-3 : tie.Need-returns-3
+returns-3 : tie.Need-returns-in-4
 unfolding meant
-returns-3 c = (rw c.match.keys3, omega arith)
+returns-3 c = (rw c.in-2.keys3, omega arith)
 
 -- AM or PM, AD or BC
-returns-4 : tie.Need-returns-4
+returns-4 : tie.Need-returns-in_default
 unfolding meant
 returns-4 c =
-    let others = c.match.rest in
+    let others = c.in-2.rest in
     (rw (ne_eqb _ _ others.0.0.1, ne_eqb _ _ others.0.1, ne_eqb _ _ others.1), omega arith)
 
-pub meant-spec : {M : Type 1} → statement M
-meant-spec =
+pub meant_spec : {M : Type 1} → statement M
+meant_spec =
     tie.close
     (tie.spec
     (λ c. search rules)

@@ -5,15 +5,15 @@ use Rattle.read_words.proofs.noted_word.Statement.{statement}
 use Rattle.read_words.proofs.noted_word.Tie as tie
 
 -- the 12-hour clock is noted
-returns : tie.Need-returns
-returns c = rw c.before.before.if1.true c.put.ensures
+returns : tie.Need-returns-then-rule-eq-ODD_HOUR12
+returns c = rw c.before.before.if-rule-eq-ODD_HOUR12.true c.put.ensures
 
 -- nothing is
-returns-2 : tie.Need-returns-2
-returns-2 c = rw (ne_eqb _ _ c.if1.false)
+returns-2 : tie.Need-returns-else-rule-eq-ODD_HOUR12
+returns-2 c = rw (ne_eqb _ _ c.if-rule-eq-ODD_HOUR12.false)
 
-pub noted-word-spec : {M : Type 1} → statement M
-noted-word-spec =
+pub noted_word_spec : {M : Type 1} → statement M
+noted_word_spec =
     tie.close
     (tie.spec
     (λ c κs. search rules)

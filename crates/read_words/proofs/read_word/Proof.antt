@@ -11,30 +11,30 @@ use Rattle.read_words.proofs.read_word.Statement.{statement}
 use Rattle.read_words.proofs.read_word.Tie as tie
 
 -- the word is one of twelve, and ends within the input
-inside : (c : tie.After-known-told) →
+inside : (c : tie.In-At) →
     let args = c.before.before.before.before.before.before.args in
-    Inside args.s.now args.p.at (At c.before.index.given.0.0 c.before.index.given.0.1.0)
-inside c = rw c.before.index.given.1 at c.before.before.before.seq-search-ascii.ensures.inside
+    Inside args.s.now args.p.at (At c.before.index-1.given.0.0 c.before.index-1.given.0.1.0)
+inside c = rw c.before.index-1.given.1 at c.before.before.before.seq_search_ascii.ensures.inside
 
 -- no word of the list is there
-returns : tie.Need-returns
+returns : tie.Need-returns-in-Nothing
 unfolding stored_word
 returns c =
     let after-search = c.before.before.before in
-    rw (← after-search.before.list_of.ensures, ← after-search.seq-search-ascii.ensures.is, c.before.enum_told.given.1, c.refuse.ensures)
+    rw (← after-search.before.list_of.ensures, ← after-search.seq_search_ascii.ensures.is, c.before.enum_told-1.given.1, c.refuse.ensures)
 
 -- a word, whose number is stored
-returns-2 : tie.Need-returns-2
+returns-2 : tie.Need-returns-in-At
 unfolding stored_word
 returns-2 c =
     let after-meant = c.before.before in
     let at-word = after-meant.before.before in
     let after-search = at-word.before.before in
-    rw (← after-search.before.list_of.ensures, ← after-search.seq-search-ascii.ensures.is, at-word.index.given.1, ← after-meant.meant.ensures.0)
-    c.word-stored.ensures
+    rw (← after-search.before.list_of.ensures, ← after-search.seq_search_ascii.ensures.is, at-word.index-1.given.1, ← after-meant.meant.ensures.0)
+    c.word_stored.ensures
 
-pub read-word-spec : {M : Type 1} → statement M
-read-word-spec =
+pub read_word_spec : {M : Type 1} → statement M
+read_word_spec =
     tie.close
     (tie.spec
     (λ c κs. search rules)

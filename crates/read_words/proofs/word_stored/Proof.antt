@@ -34,17 +34,17 @@ number_fits : (c : tie.Start) → SFits w32 (pos c.args.z)
 number_fits c = omega arith
 
 -- the field was set to another value
-returns : tie.Need-returns
+returns : tie.Need-returns-then-holds_other
 returns c =
     let after_test_lem = c.before.before in
     let at-start = after_test_lem.before.before.before in
     rw (
-      answered at-start.args.f.now at-start.args.task.field (number_fits at-start) after_test_lem.holds-other.ensures c.before.if1.true,
+      answered at-start.args.f.now at-start.args.task.field (number_fits at-start) after_test_lem.holds_other.ensures c.before.if-holds_other.true,
       c.refuse.ensures,
     )
 
 -- the number goes into its field
-returns-2 : tie.Need-returns-2
+returns-2 : tie.Need-returns
 returns-2 c =
     let after-noted = c.before.before in
     let after-put = after-noted.before.before in
@@ -53,15 +53,15 @@ returns-2 c =
     let after_kept = after_test_lem.before.before in
     let at-start = after_kept.before in
     let args = at-start.args in
-    let kept = ap (λ (x : ℕ). put (fields_of args.f.now) args.task.field (pos x)) after_kept.kept_word.ensures in
-    let set = simp (to_z_pos w32 {n = after_kept.kept_word.result} (omega arith)) at after-put.put.ensures ∙ kept in
+    let kept = ap (λ (x : ℕ). put (fields_of args.f.now) args.task.field (pos x)) after_kept.kept_word-kept.ensures in
+    let set = simp (to_z_pos w32 {n = after_kept.kept_word-kept.result} (omega arith)) at after-put.put.ensures ∙ kept in
     stored args.n args.task args.z args.next (fields_of args.f.now) args.p
-    (answered args.f.now args.task.field (number_fits at-start) after_test_lem.holds-other.ensures not-other.if1.false)
+    (answered args.f.now args.task.field (number_fits at-start) after_test_lem.holds_other.ensures not-other.if-holds_other.false)
     (c.read.ensures ∙ ap (went Read) c.before.at_place.ensures)
-    (after-noted.noted-word.ensures ∙ ap (noted_word args.task.rule) set)
+    (after-noted.noted_word.ensures ∙ ap (noted_word args.task.rule) set)
 
-pub word-stored-spec : {M : Type 1} → statement M
-word-stored-spec =
+pub word_stored_spec : {M : Type 1} → statement M
+word_stored_spec =
     tie.close
     (tie.spec
     (λ c κs. search rules)

@@ -8,32 +8,32 @@ use Rattle.readback.proofs.write_and_read.Statement.{statement}
 use Rattle.readback.proofs.write_and_read.Tie as tie
 
 -- the part that is read is within the buffer
-slice-reshare-prefix-read-by-all : tie.Need-slice-reshare-prefix-read-by-all
+slice-reshare-prefix-read-by-all : tie.Need-slice_bounds-read_by_all-end
 slice-reshare-prefix-read-by-all c =
     let after_write = c.before.before.before.before.before in
-    room _ _ _ after_write.write.ensures c.before.n.given.1
+    room _ _ _ after_write.write.ensures c.before.n-1.given.1
 
 -- and is as long as the text
-slice-aggregate-read-by-all : tie.Need-slice-aggregate-read-by-all
+slice-aggregate-read-by-all : tie.Need-slice_bounds-read_by_all-end-in-Length
 slice-aggregate-read-by-all c =
     let after_write = c.before.before.before.before.before.before in
-    let is-length = c.before.before.n.given in
+    let is-length = c.before.before.n-1.given in
     omega (arith, room _ _ _ after_write.write.ensures is-length.1, length-take is-length.0.0 after_write.write.new.1.1.1.0)
 
 -- the text was written, and is read by each answer
-returns : tie.Need-returns
+returns : tie.Need-returns-in-Length
 returns c =
     let after_write = c.before.before.before.before.before.before.before in
-    read _ _ _ after_write.write.ensures c.before.before.before.n.given.1 _ c.read-by-all.ensures
+    read _ _ _ after_write.write.ensures c.before.before.before.n-1.given.1 _ c.read_by_all.ensures
 
 -- nothing was written
-returns-2 : tie.Need-returns-2
+returns-2 : tie.Need-returns-in-Refused
 returns-2 c =
     let after_write = c.before.before.before.before.before in
-    not_written _ _ _ after_write.write.ensures c.before.why.given.1
+    not_written _ _ _ after_write.write.ensures c.before.why-1.given.1
 
-pub write-and-read-spec : {M : Type 1} → statement M
-write-and-read-spec =
+pub write_and_read_spec : {M : Type 1} → statement M
+write_and_read_spec =
     tie.close
     (tie.spec
     (λ c κs. search rules)

@@ -7,15 +7,15 @@ use lib.ListN.{length}
 use Rattle.replay.proofs.answer_lines.Statement.{statement}
 use Rattle.replay.proofs.answer_lines.Tie as tie
 
-abbrev invariant-loop : tie.invariant-loop
+abbrev invariant-loop : tie.invariant-loop-end
 invariant-loop text long out₀ at s₀ end₀ out s end =
     (s.from ≤ end) × (end ≤ length text) × (s.at ≤ length out) × (length out ≡ length out₀)
 
-abbrev decreases-loop : tie.decreases-loop
+abbrev decreases-loop : tie.decreases-loop-end
 decreases-loop text long out₀ at s₀ end₀ out s end = length text - end
 
-pub answer-lines-spec : {M : Type 1} → statement M
-answer-lines-spec =
+pub answer_lines_spec : {M : Type 1} → statement M
+answer_lines_spec =
     tie.close
     (tie.spec
     invariant-loop

@@ -8,8 +8,8 @@ use Rattle.sorbilgan.proofs.sorbilgan_compile.Tie as tie
 
 returns : tie.Need-returns
 returns c =
-    let compiled = c.sorbilgan-compile-with in
+    let compiled = c.sorbilgan_compile_with in
     simp (to_z-of_z {w = w64} {z = compiled.result} (record { sfits = compiled.type-inv })) compiled.ensures
 
-pub sorbilgan-compile-spec : {M : Type 1} → statement M
-sorbilgan-compile-spec = tie.close (tie.spec (λ c κs. search rules) returns)
+pub sorbilgan_compile_spec : {M : Type 1} → statement M
+sorbilgan_compile_spec = tie.close (tie.spec (λ c κs. search rules) returns)

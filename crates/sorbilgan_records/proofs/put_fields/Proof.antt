@@ -9,20 +9,20 @@ use Rattle.sorbilgan_records.proofs.put_fields.Statement.{statement}
 use Rattle.sorbilgan_records.proofs.put_fields.Tie as tie
 
 -- plain fields in range
-returns : tie.Need-returns
+returns : tie.Need-returns-then-has_plain_moment
 unfolding parts_record plain_parts
 returns c =
     let after-parts = c.before.before in
     let plain = after-parts.before in
-    rw (plain-moment _ _ (sym plain.before.has-plain-moment.ensures ∙ plain.if1.true))
-    (rw after-parts.plain-parts.ensures at c.put-moment.ensures)
+    rw (plain-moment _ _ (sym plain.before.has_plain_moment.ensures ∙ plain.if-has_plain_moment.true))
+    (rw after-parts.plain_parts.ensures at c.put_moment.ensures)
 
 -- any others
-returns-2 : tie.Need-returns-2
-returns-2 c = rw c.before.before.moment-of.ensures at c.put-parts.ensures
+returns-2 : tie.Need-returns
+returns-2 c = rw c.before.before.moment_of.ensures at c.put_parts.ensures
 
-pub put-fields-spec : {M : Type 1} → statement M
-put-fields-spec =
+pub put_fields_spec : {M : Type 1} → statement M
+put_fields_spec =
     tie.close
     (tie.spec
     (λ c κs. search rules)

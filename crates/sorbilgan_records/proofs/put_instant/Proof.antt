@@ -10,26 +10,26 @@ use Rattle.sorbilgan_records.proofs.Values.{value-recorded}
 use Rattle.sorbilgan_records.proofs.put_instant.Statement.{statement}
 use Rattle.sorbilgan_records.proofs.put_instant.Tie as tie
 
-micros-fit : (c : tie.After-known-told) → SFits w64 c.before.instant.given.0.0
+micros-fit : (c : tie.In-Micros) → SFits w64 c.before.instant-1.given.0.0
 micros-fit c = search rules
 
 -- an instant
-returns : tie.Need-returns
+returns : tie.Need-returns-in-Micros
 unfolding instant_record
 returns c =
     let after-alone = c.before.before in
     let at-micros = after-alone.before in
-    value-recorded after-alone.alone.ensures (to_z-of_z (micros-fit at-micros)) (ap instant_record at-micros.before.instant.given.1) c.put-value.ensures
+    value-recorded after-alone.alone.ensures (to_z-of_z (micros-fit at-micros)) (ap instant_record at-micros.before.instant-1.given.1) c.put_value.ensures
 
 -- a refusal
-returns-2 : tie.Need-returns-2
+returns-2 : tie.Need-returns-in-Refused
 unfolding instant_record
 returns-2 c =
     let after-report = c.before.before in
-    value-recorded after-report.report-of.ensures refl (ap instant_record after-report.before.before.instant2.given.1) c.put-value2.ensures
+    value-recorded after-report.report_of.ensures refl (ap instant_record after-report.before.before.instant-in-Refused-1.given.1) c.put_value-in-Refused.ensures
 
-pub put-instant-spec : {M : Type 1} → statement M
-put-instant-spec =
+pub put_instant_spec : {M : Type 1} → statement M
+put_instant_spec =
     tie.close
     (tie.spec
     (λ c. search rules)

@@ -13,17 +13,17 @@ use Rattle.sorbilgan_records.proofs.put_moment.Statement.{statement}
 use Rattle.sorbilgan_records.proofs.put_moment.Tie as tie
 
 -- the numbers of the parts fit 32 bits
-ranged : (c : tie.After-struct-told) → Ranged c.before.before.args.p
+ranged : (c : tie.After-struct_told-1) → Ranged c.before.before.args.p
 ranged c = search rules
 
-marks-range : (c : tie.After-struct-told) → c.before.before.args.p.marks < 2 ^ 8
+marks-range : (c : tie.After-struct_told-1) → c.before.before.args.p.marks < 2 ^ 8
 marks-range c = search rules
 
 -- where the first field is read, as seen from where the fifth is read, and the last
-abbrev from-fifth : tie.After-struct-told5 → tie.After-struct-told
+abbrev from-fifth : tie.After-struct_told-5-1 → tie.After-struct_told-1
 from-fifth c = c.before.before.before.before.before.before.before.before
 
-abbrev from_last : tie.After-struct-told8 → tie.After-struct-told
+abbrev from_last : tie.After-struct_told-8-1 → tie.After-struct_told-1
 from_last c = from-fifth c.before.before.before.before.before.before
 
 returns : tie.Need-returns
@@ -53,8 +53,8 @@ returns c =
       number = refl;
     }
 
-pub put-moment-spec : {M : Type 1} → statement M
-put-moment-spec =
+pub put_moment_spec : {M : Type 1} → statement M
+put_moment_spec =
     tie.close
     (tie.spec
     (λ c. search rules)

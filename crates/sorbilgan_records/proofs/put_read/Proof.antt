@@ -5,18 +5,18 @@ use Rattle.sorbilgan_records.proofs.put_read.Statement.{statement}
 use Rattle.sorbilgan_records.proofs.put_read.Tie as tie
 
 -- all was read
-returns : tie.Need-returns
-returns c = rw c.before.before.enum_told.given.1 c.put-fields.ensures
+returns : tie.Need-returns-in-Read
+returns c = rw c.before.before.enum_told-1.given.1 c.put_fields.ensures
 
 -- a refusal
-returns-2 : tie.Need-returns-2
+returns-2 : tie.Need-returns-in-Refused
 unfolding parts_record
 returns-2 c =
     let after-report = c.before.before in
-    rw after-report.before.before.verdict.given.1 (rw after-report.report-of.ensures at c.put-refusal.ensures)
+    rw after-report.before.before.verdict-1.given.1 (rw after-report.report_of.ensures at c.put_refusal.ensures)
 
-pub put-read-spec : {M : Type 1} → statement M
-put-read-spec =
+pub put_read_spec : {M : Type 1} → statement M
+put_read_spec =
     tie.close
     (tie.spec
     (λ c. search rules)

@@ -6,11 +6,11 @@ use Rattle.sorbilgan_records.proofs.Stored.{Ranged, stored}
 use Rattle.sorbilgan_records.proofs.put_refusal.Statement.{statement}
 use Rattle.sorbilgan_records.proofs.put_refusal.Tie as tie
 
-ranged : (c : tie.After-out) → Ranged c.before.before.before.before.args.r
+ranged : (c : tie.After-out-1) → Ranged c.before.before.before.before.args.r
 ranged c = search rules
 
 returns : tie.Need-returns
 returns c = record { is = stored (ranged c) _; number = refl }
 
-pub put-refusal-spec : {M : Type 1} → statement M
-put-refusal-spec = tie.close (tie.spec (λ c. search rules) (λ c. search rules) returns)
+pub put_refusal_spec : {M : Type 1} → statement M
+put_refusal_spec = tie.close (tie.spec (λ c. search rules) (λ c. search rules) returns)

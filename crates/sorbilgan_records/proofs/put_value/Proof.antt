@@ -6,7 +6,7 @@ use Rattle.sorbilgan_records.proofs.Stored.{Ranged, stored}
 use Rattle.sorbilgan_records.proofs.put_value.Statement.{statement}
 use Rattle.sorbilgan_records.proofs.put_value.Tie as tie
 
-ranged : (c : tie.After-out) → Ranged c.before.before.before.before.args.r
+ranged : (c : tie.After-out-1) → Ranged c.before.before.before.before.args.r
 ranged c = search rules
 
 returns : tie.Need-returns
@@ -14,5 +14,5 @@ returns c =
     let at-start = c.before.before.before.before in
     record { is = rw (to_z-of_z at-start.ranges.value) (stored (ranged c) _); number = refl }
 
-pub put-value-spec : {M : Type 1} → statement M
-put-value-spec = tie.close (tie.spec (λ c. search rules) (λ c. search rules) returns)
+pub put_value_spec : {M : Type 1} → statement M
+put_value_spec = tie.close (tie.spec (λ c. search rules) (λ c. search rules) returns)

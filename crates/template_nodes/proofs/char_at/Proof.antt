@@ -10,12 +10,12 @@ use Rattle.template_nodes.proofs.char_at.Tie as tie
 returns : tie.Need-returns
 returns c =
     let args = c.before.before.args in
-    let measured = c.measure-usual.ensures in
+    let measured = c.measure_usual-n.ensures in
     record {
       is = ap (λ (n : ℕ). make (in_mode args.accents (literal args.kind args.at n)) (args.at + n) args.quoted) measured.is;
       on = omega (arith, measured.some);
     }
 
-pub char-at-spec : {M : Type 1} → statement M
-char-at-spec =
-    tie.close (tie.spec (λ c κs. search rules) (λ c. search rules) (λ c. omega (arith, c.measure-usual.ensures.within)) (λ c. search rules) returns)
+pub char_at_spec : {M : Type 1} → statement M
+char_at_spec =
+    tie.close (tie.spec (λ c κs. search rules) (λ c. search rules) (λ c. omega (arith, c.measure_usual-n.ensures.within)) (λ c. search rules) returns)

@@ -11,63 +11,63 @@ use Rattle.template_nodes.proofs.char_place.Statement.{statement}
 use Rattle.template_nodes.proofs.char_place.Tie as tie
 
 -- no backslash
-returns : tie.Need-returns
+returns : tie.Need-returns-then-t-at-ne92
 unfolding char_place
 returns c =
-    record { is = simp (ne_eqb _ _ c.if1.true); from = omega arith; near = omega arith; within = search rules }
+    record { is = simp (ne_eqb _ _ c.if-t-at-ne92.true); from = omega arith; near = omega arith; within = search rules }
 
 -- in quotes, a backslash and a character after it
-returns-2 : tie.Need-returns-2
+returns-2 : tie.Need-returns-then-at-t
 unfolding char_place
 returns-2 c =
     let at-backslash = c.before.before in
     record {
-      is = simp (at-backslash.if1.false, c.before.if2.true, lt-ltb _ _ c.if3.true);
+      is = simp (at-backslash.if-t-at-ne92.false, c.before.if-quoted.true, lt-ltb _ _ c.if-at-t.true);
       from = omega arith;
       near = omega arith;
-      within = c.if3.true;
+      within = c.if-at-t.true;
     }
 
 -- in quotes, a backslash as the last byte
-returns-3 : tie.Need-returns-3
+returns-3 : tie.Need-returns-then-quoted
 unfolding char_place
 returns-3 c =
     let at-backslash = c.before.before in
     record {
-      is = simp (at-backslash.if1.false, c.before.if2.true, le-ltb _ _ c.if3.false);
+      is = simp (at-backslash.if-t-at-ne92.false, c.before.if-quoted.true, le-ltb _ _ c.if-at-t.false);
       from = omega arith;
       near = omega arith;
       within = search rules;
     }
 
 -- outside quotes, a backslash before a quote
-returns-4 : tie.Need-returns-4
+returns-4 : tie.Need-returns-then-byte_at-eq34
 unfolding char_place
 returns-4 c =
     let at-backslash = c.before.before.before in
     let args = at-backslash.before.before.before.args in
-    let is-quote = sym c.before.byte_at.ensures ∙ c.if4.true in
+    let is-quote = sym c.before.byte_at.ensures ∙ c.if-byte_at-eq34.true in
     record {
-      is = simp (at-backslash.if1.false, c.before.before.if2.false, eq-eqb _ _ is-quote);
+      is = simp (at-backslash.if-t-at-ne92.false, c.before.before.if-quoted.false, eq-eqb _ _ is-quote);
       from = omega arith;
       near = omega arith;
       within = byte-within args.t.now _ (λ z. omega (arith, is-quote, z));
     }
 
 -- outside quotes, any other backslash
-returns-5 : tie.Need-returns-5
+returns-5 : tie.Need-returns
 unfolding char_place
 returns-5 c =
     let at-backslash = c.before.before.before in
     record {
-      is = simp (at-backslash.if1.false, c.before.before.if2.false, ne_eqb _ _ (λ z. c.if4.false (c.before.byte_at.ensures ∙ z)));
+      is = simp (at-backslash.if-t-at-ne92.false, c.before.before.if-quoted.false, ne_eqb _ _ (λ z. c.if-byte_at-eq34.false (c.before.byte_at.ensures ∙ z)));
       from = omega arith;
       near = omega arith;
       within = search rules;
     }
 
-pub char-place-spec : {M : Type 1} → statement M
-char-place-spec =
+pub char_place_spec : {M : Type 1} → statement M
+char_place_spec =
     tie.close
     (tie.spec
     (λ c. search rules)

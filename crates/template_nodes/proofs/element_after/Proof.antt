@@ -11,12 +11,12 @@ use Rattle.template_nodes.specs.declared.Element.{Element}
 use Rattle.template_nodes.proofs.element_after.Statement.{statement}
 use Rattle.template_nodes.proofs.element_after.Tie as tie
 
-abbrev at-start : tie.After-known-told → tie.Start
+abbrev at-start : tie.In-Pattern → tie.Start
 at-start c = c.before.before.before.before.before
 
 -- what the search found
-found : (c : tie.After-known-told) → pattern_at (at-start c).args.t.now (at-start c).args.at ≡ Pattern c.before.number.given.0.0 c.before.number.given.0.1.0
-found c = sym c.before.before.before.fmt-index-search.ensures ∙ c.before.number.given.1
+found : (c : tie.In-Pattern) → pattern_at (at-start c).args.t.now (at-start c).args.at ≡ Pattern c.before.number-1.given.0.0 c.before.number-1.given.0.1.0
+found c = sym c.before.before.before.fmt_index_search.ensures ∙ c.before.number-1.given.1
 
 -- its number is in the table, and its name has one to five bytes
 named-requires : tie.Need-named-requires
@@ -26,24 +26,24 @@ named-requires c κs =
     (search rules, in_table.0, in_table.1, in_table.2)
 
 -- a pattern
-returns : tie.Need-returns
+returns : tie.Need-returns-in-Pattern
 returns c =
     let made = c.named.ensures in
     record { is = rw (found c.before) made.is; from = made.from; on = made.on }
 
 -- none
-returns-2 : tie.Need-returns-2
+returns-2 : tie.Need-returns-in-Nothing
 returns-2 c =
     let after-search = c.before.before.before in
-    let next-is = ap (λ (e : Element). e.next) c.no-pattern.ensures in
+    let next-is = ap (λ (e : Element). e.next) c.no_pattern.ensures in
     record {
-      is = rw (sym after-search.fmt-index-search.ensures ∙ c.before.enum_told.given.1) c.no-pattern.ensures;
+      is = rw (sym after-search.fmt_index_search.ensures ∙ c.before.enum_told-1.given.1) c.no_pattern.ensures;
       from = omega (arith, next-is);
-      on = λ q. absurd (false≢true (sym (ap (λ (e : Element). e.found) c.no-pattern.ensures) ∙ q));
+      on = λ q. absurd (false≢true (sym (ap (λ (e : Element). e.found) c.no_pattern.ensures) ∙ q));
     }
 
-pub element-after-spec : {M : Type 1} → statement M
-element-after-spec =
+pub element_after_spec : {M : Type 1} → statement M
+element_after_spec =
     tie.close
     (tie.spec
     (λ c κs. search rules)

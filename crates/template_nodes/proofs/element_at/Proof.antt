@@ -10,45 +10,45 @@ use Rattle.template_nodes.proofs.element_at.Statement.{statement}
 use Rattle.template_nodes.proofs.element_at.Tie as tie
 
 -- in quotes
-returns : tie.Need-returns
+returns : tie.Need-returns-then-quoted
 returns c =
-    let next-is = ap (λ (e : Element). e.next) c.no-pattern.ensures in
+    let next-is = ap (λ (e : Element). e.next) c.no_pattern.ensures in
     record {
-      is = rw c.before.if1.true c.no-pattern.ensures;
+      is = rw c.before.if-quoted.true c.no_pattern.ensures;
       from = omega (arith, next-is);
-      on = λ q. absurd (false≢true (sym (ap (λ (e : Element). e.found) c.no-pattern.ensures) ∙ q));
+      on = λ q. absurd (false≢true (sym (ap (λ (e : Element). e.found) c.no_pattern.ensures) ∙ q));
     }
 
 -- a prefix, if there is one, and an element after it
-returns-2 : tie.Need-returns-2
+returns-2 : tie.Need-returns-then-start-t
 returns-2 c =
     let after-start = c.before.before in
-    let prefix = after-start.before.fmt-suffix-search in
-    let outside = after-start.before.before.if1.false in
-    let start_is = after-start.past-affix.ensures in
-    let made = c.element-after.ensures in
+    let prefix = after-start.before.fmt_suffix_search-prefix in
+    let outside = after-start.before.before.if-quoted.false in
+    let start_is = after-start.past_affix-start.ensures in
+    let made = c.element_after.ensures in
     record {
-      is = rw (outside, ← prefix.ensures, ← start_is, lt-ltb _ _ c.before.if2.true) made.is;
+      is = rw (outside, ← prefix.ensures, ← start_is, lt-ltb _ _ c.before.if-start-t.true) made.is;
       from = omega (arith, made.from, start_is);
       on = λ q. omega (arith, made.on q, start_is);
     }
 
 -- a prefix at the end: it is dropped
-returns-3 : tie.Need-returns-3
+returns-3 : tie.Need-returns
 returns-3 c =
     let after-start = c.before.before in
-    let prefix = after-start.before.fmt-suffix-search in
-    let outside = after-start.before.before.if1.false in
-    let start_is = after-start.past-affix.ensures in
-    let next-is = ap (λ (e : Element). e.next) c.no-pattern2.ensures in
+    let prefix = after-start.before.fmt_suffix_search-prefix in
+    let outside = after-start.before.before.if-quoted.false in
+    let start_is = after-start.past_affix-start.ensures in
+    let next-is = ap (λ (e : Element). e.next) c.no_pattern-2.ensures in
     record {
-      is = rw (outside, ← prefix.ensures, ← start_is, le-ltb _ _ c.before.if2.false) c.no-pattern2.ensures;
+      is = rw (outside, ← prefix.ensures, ← start_is, le-ltb _ _ c.before.if-start-t.false) c.no_pattern-2.ensures;
       from = omega (arith, next-is, start_is);
-      on = λ q. absurd (false≢true (sym (ap (λ (e : Element). e.found) c.no-pattern2.ensures) ∙ q));
+      on = λ q. absurd (false≢true (sym (ap (λ (e : Element). e.found) c.no_pattern-2.ensures) ∙ q));
     }
 
-pub element-at-spec : {M : Type 1} → statement M
-element-at-spec =
+pub element_at_spec : {M : Type 1} → statement M
+element_at_spec =
     tie.close
     (tie.spec
     (λ c κs. search rules)

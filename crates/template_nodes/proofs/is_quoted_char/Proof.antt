@@ -5,21 +5,21 @@ use Rattle.template_nodes.proofs.is_quoted_char.Statement.{statement}
 use Rattle.template_nodes.proofs.is_quoted_char.Tie as tie
 
 -- outside quotes
-returns : tie.Need-returns
-returns c = let args = c.before.args in rw (not-true args.quoted c.if1.true)
+returns : tie.Need-returns-then-not-quoted
+returns c = let args = c.before.args in rw (not-true args.quoted c.if-not-quoted.true)
 
 -- the quote that ends them
-returns-2 : tie.Need-returns-2
+returns-2 : tie.Need-returns-then-t-at-eq34
 returns-2 c =
     let in-quotes = c.before.before in
-    rw (not-false in-quotes.before.args.quoted in-quotes.if1.false, eq-eqb _ 34 c.if2.true)
+    rw (not-false in-quotes.before.args.quoted in-quotes.if-not-quoted.false, eq-eqb _ 34 c.if-t-at-eq34.true)
 
 -- any other byte in quotes
-returns-3 : tie.Need-returns-3
+returns-3 : tie.Need-returns
 returns-3 c =
     let in-quotes = c.before.before.before in
-    rw (not-false in-quotes.before.args.quoted in-quotes.if1.false, ne_eqb _ 34 c.before.if2.false)
+    rw (not-false in-quotes.before.args.quoted in-quotes.if-not-quoted.false, ne_eqb _ 34 c.before.if-t-at-eq34.false)
 
-pub is-quoted-char-spec : {M : Type 1} → statement M
-is-quoted-char-spec =
+pub is_quoted_char_spec : {M : Type 1} → statement M
+is_quoted_char_spec =
     tie.close (tie.spec returns (λ c. search rules) returns-2 (λ c. search rules) returns-3)

@@ -5,12 +5,12 @@ use Rattle.template_nodes.proofs.last_byte.Statement.{statement}
 use Rattle.template_nodes.proofs.last_byte.Tie as tie
 
 -- in the accents mode
-returns : tie.Need-returns
-returns c = rw c.if1.true (omega arith)
+returns : tie.Need-returns-then-accents
+returns c = rw c.if-accents.true (omega arith)
 
 -- in the other
-returns-2 : tie.Need-returns-2
-returns-2 c = rw c.if1.false (omega arith)
+returns-2 : tie.Need-returns-else-accents
+returns-2 c = rw c.if-accents.false (omega arith)
 
-pub last-byte-spec : {M : Type 1} → statement M
-last-byte-spec = tie.close (tie.spec (λ c. search rules) returns returns-2)
+pub last_byte_spec : {M : Type 1} → statement M
+last_byte_spec = tie.close (tie.spec (λ c. search rules) returns returns-2)

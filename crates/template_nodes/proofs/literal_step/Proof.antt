@@ -10,32 +10,32 @@ use Rattle.template_nodes.proofs.literal_step.Statement.{statement}
 use Rattle.template_nodes.proofs.literal_step.Tie as tie
 
 -- a quote
-returns : tie.Need-returns
+returns : tie.Need-returns-then-t-at-eq34
 returns c =
     let args = c.before.before.before.before.args in
     let next-is = ap (λ (s : Step). s.next) c.skipped.ensures in
     record {
-      is = c.skipped.ensures ∙ sym (at-quote args.accents args.t.now args.at args.quoted c.before.if1.true);
+      is = c.skipped.ensures ∙ sym (at-quote args.accents args.t.now args.at args.quoted c.before.if-t-at-eq34.true);
       on = omega arith;
     }
 
 -- a character
-returns-2 : tie.Need-returns-2
+returns-2 : tie.Need-returns
 returns-2 c =
     let after-kind = c.before in
     let after-place = after-kind.before.before in
     let args = after-place.before.before.before.before.args in
-    let step = c.char-at.ensures in
-    let placed = after-place.char-place.ensures in
+    let step = c.char_at.ensures in
+    let placed = after-place.char_place-place.ensures in
     record {
       is =
-          step.is ∙ ap (λ (k : ℕ). char_at args.accents args.t.now after-place.char-place.result k args.quoted) after-kind.literal-kind.ensures
-          ∙ sym (at_literal args.accents args.t.now args.at args.quoted after-place.before.if1.false after-place.char-place.result placed.is);
+          step.is ∙ ap (λ (k : ℕ). char_at args.accents args.t.now after-place.char_place-place.result k args.quoted) after-kind.literal_kind.ensures
+          ∙ sym (at_literal args.accents args.t.now args.at args.quoted after-place.before.if-t-at-eq34.false after-place.char_place-place.result placed.is);
       on = omega (arith, step.on, placed.from);
     }
 
-pub literal-step-spec : {M : Type 1} → statement M
-literal-step-spec =
+pub literal_step_spec : {M : Type 1} → statement M
+literal_step_spec =
     tie.close
     (tie.spec
     (λ c. search rules)
@@ -43,7 +43,7 @@ literal-step-spec =
     (λ c κs. search rules)
     returns
     (λ c κs. search rules)
-    (λ c. c.before.char-place.ensures.within)
+    (λ c. c.before.char_place-place.ensures.within)
     (λ c κs. search rules)
-    (λ c κs. (c.before.before.char-place.ensures.within, search rules))
+    (λ c κs. (c.before.before.char_place-place.ensures.within, search rules))
     returns-2)

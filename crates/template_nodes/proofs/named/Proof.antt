@@ -7,12 +7,12 @@ use Rattle.template_nodes.proofs.named.Tie as tie
 
 returns : tie.Need-returns
 returns c =
-    let suffix = c.before.fmt-suffix-search in
-    let next-is = c.past-affix.ensures in
+    let suffix = c.before.fmt_suffix_search-suffix in
+    let next-is = c.past_affix.ensures in
     record { is = rw (next-is, suffix.ensures); from = omega (arith, next-is); on = λ q. omega (arith, next-is) }
 
-pub named-spec : {M : Type 1} → statement M
-named-spec =
+pub named_spec : {M : Type 1} → statement M
+named_spec =
     tie.close
     (tie.spec
     (λ c. search rules)

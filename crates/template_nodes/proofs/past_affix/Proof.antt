@@ -6,12 +6,12 @@ use Rattle.template_nodes.proofs.past_affix.Statement.{statement}
 use Rattle.template_nodes.proofs.past_affix.Tie as tie
 
 -- none
-returns : tie.Need-returns
-returns c = rw c.if1.true (omega arith)
+returns : tie.Need-returns-then-bit-eq0
+returns c = rw c.if-bit-eq0.true (omega arith)
 
 -- an affix
-returns-2 : tie.Need-returns-2
-returns-2 c = rw (ne_eqb _ _ c.if1.false) (omega arith)
+returns-2 : tie.Need-returns-else-bit-eq0
+returns-2 c = rw (ne_eqb _ _ c.if-bit-eq0.false) (omega arith)
 
-pub past-affix-spec : {M : Type 1} → statement M
-past-affix-spec = tie.close (tie.spec (λ c. search rules) returns returns-2)
+pub past_affix_spec : {M : Type 1} → statement M
+past_affix_spec = tie.close (tie.spec (λ c. search rules) returns returns-2)

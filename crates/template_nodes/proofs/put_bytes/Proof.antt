@@ -12,8 +12,8 @@ returns c =
     let args = c.args in
     six-put args.out.now (6 * args.i) args.start (args.len / 256) (args.len % 256) args.kind args.pattern args.last
 
-pub put-bytes-spec : {M : Type 1} → statement M
-put-bytes-spec =
+pub put_bytes_spec : {M : Type 1} → statement M
+put_bytes_spec =
     tie.close
     (tie.spec
     (λ c. search rules)

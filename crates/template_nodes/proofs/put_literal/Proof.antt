@@ -4,10 +4,10 @@ use Rattle.template_nodes.proofs.put_literal.Statement.{statement}
 use Rattle.template_nodes.proofs.put_literal.Tie as tie
 
 returns : tie.Need-returns
-returns c = rw (c.before.before.put-bytes.ensures, c.before.before.before.last_byte.ensures)
+returns c = rw (c.before.before.put_bytes.ensures, c.before.before.before.last_byte.ensures)
 
-pub put-literal-spec : {M : Type 1} → statement M
-put-literal-spec =
+pub put_literal_spec : {M : Type 1} → statement M
+put_literal_spec =
     tie.close
     (tie.spec
     (λ c. search rules)

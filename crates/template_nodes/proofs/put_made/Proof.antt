@@ -4,17 +4,17 @@ use borrow.Author.Rules.{rules}
 use Rattle.template_nodes.proofs.put_made.Statement.{statement}
 use Rattle.template_nodes.proofs.put_made.Tie as tie
 
-returns : tie.Need-returns
+returns : tie.Need-returns-then-s
 returns c =
-    let made = c.before.before.before.before.before.before.if1.true in
-    let last = c.before.before.before.before.last_byte.ensures in
-    record { is = rw (c.before.before.put-bytes.ensures, last, made); count = rw made }
+    let made = c.before.before.before.before.before.before.if-s.true in
+    let last = c.before.before.before.before.last_byte-last.ensures in
+    record { is = rw (c.before.before.put_bytes.ensures, last, made); count = rw made }
 
-returns-2 : tie.Need-returns-2
-returns-2 c = record { is = rw c.if1.false; count = rw c.if1.false }
+returns-2 : tie.Need-returns
+returns-2 c = record { is = rw c.if-s.false; count = rw c.if-s.false }
 
-pub put-made-spec : {M : Type 1} → statement M
-put-made-spec =
+pub put_made_spec : {M : Type 1} → statement M
+put_made_spec =
     tie.close
     (tie.spec
     (λ c κs. search rules)

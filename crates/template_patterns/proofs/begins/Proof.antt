@@ -21,5 +21,5 @@ above c = rw (shifted c) (pow_pos (c.args.name / 2 ^ 40))
 returns : tie.Need-returns
 returns c = rw (shifted c)
 
-pub begins-spec : {M : Type 1} → statement M
-begins-spec = tie.close (tie.spec (λ c. search rules) above above returns)
+pub begins_spec : {M : Type 1} → statement M
+begins_spec = tie.close (tie.spec (λ c. search rules) above above returns)

@@ -7,8 +7,8 @@ use Rattle.template_patterns.proofs.last_four.Statement.{statement}
 use Rattle.template_patterns.proofs.last_four.Tie as tie
 
 -- the first is a byte
-first : (c : tie.After-shared-slice-known2) → let args = c.before.before.before.before.before.args in get_or args.t.now args.at 0 < 256
-first c = omega (arith, c.shared-slice-known2.given c.before.before.before.before.before.args.at)
+first : (c : tie.After-shared_slice_known-2-1) → let args = c.before.before.before.before.before.args in get_or args.t.now args.at 0 < 256
+first c = omega (arith, c.shared_slice_known-2-1.given c.before.before.before.before.before.args.at)
 
 returns : tie.Need-returns
 returns c =
@@ -18,12 +18,12 @@ returns c =
     let args = after-b.before.before.args in
     let past_end = get_or-eq_default args.t.now 0 {n = args.at + 4} (omega arith) in
     record {
-      is = omega (arith, c.four.ensures, after-d.byte-at3.ensures, after-c.byte-at2.ensures, after-b.byte_at.ensures, past_end);
-      bytes = λ i. omega (arith, c.before.shared-slice-known2.given i);
+      is = omega (arith, c.four.ensures, after-d.byte_at-d.ensures, after-c.byte_at-c.ensures, after-b.byte_at-b.ensures, past_end);
+      bytes = λ i. omega (arith, c.before.shared_slice_known-2-1.given i);
     }
 
-pub last-four-spec : {M : Type 1} → statement M
-last-four-spec =
+pub last_four_spec : {M : Type 1} → statement M
+last_four_spec =
     tie.close
     (tie.spec
     (λ c. search rules)

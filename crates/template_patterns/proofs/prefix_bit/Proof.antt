@@ -6,15 +6,15 @@ use Rattle.template_patterns.specs.Affixes.{bit_at}
 use Rattle.template_patterns.proofs.prefix_bit.Statement.{statement}
 use Rattle.template_patterns.proofs.prefix_bit.Tie as tie
 
-pub prefix-bit-spec : {M : Type 1} → statement M
+pub prefix_bit_spec : {M : Type 1} → statement M
 unfolding bit_at
-prefix-bit-spec =
+prefix_bit_spec =
     tie.close
     (tie.spec
-    (λ c. simp (c.before.if1.true, c.if2.true))
-    (λ c. simp (c.before.before.if1.true, c.if3.true))
-    (λ c. simp (c.before.before.if1.true, ne_eqb _ _ c.before.if2.false, ne_eqb _ _ c.if3.false, and-false))
-    (λ c. simp (c.before.if4.true, c.if5.true))
-    (λ c. simp (c.before.before.if4.true, c.if6.true))
-    (λ c. simp (c.before.before.if4.true, ne_eqb _ _ c.before.if5.false, ne_eqb _ _ c.if6.false, and-false))
-    (λ c. simp (ne_eqb _ _ c.before.if1.false, ne_eqb _ _ c.if4.false, and-false)))
+    (λ c. simp (c.before.if-b-eq77.true, c.if-a-eq70.true))
+    (λ c. simp (c.before.before.if-b-eq77.true, c.if-a-eq84.true))
+    (λ c. simp (c.before.before.if-b-eq77.true, ne_eqb _ _ c.before.if-a-eq70.false, ne_eqb _ _ c.if-a-eq84.false, and-false))
+    (λ c. simp (c.before.if-b-eq109.true, c.if-a-eq102.true))
+    (λ c. simp (c.before.before.if-b-eq109.true, c.if-a-eq116.true))
+    (λ c. simp (c.before.before.if-b-eq109.true, ne_eqb _ _ c.before.if-a-eq102.false, ne_eqb _ _ c.if-a-eq116.false, and-false))
+    (λ c. simp (ne_eqb _ _ c.before.if-b-eq77.false, ne_eqb _ _ c.if-b-eq109.false, and-false)))

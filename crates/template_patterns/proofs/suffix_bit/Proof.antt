@@ -7,15 +7,15 @@ use Rattle.template_patterns.specs.Affixes.{bit_at}
 use Rattle.template_patterns.proofs.suffix_bit.Statement.{statement}
 use Rattle.template_patterns.proofs.suffix_bit.Tie as tie
 
-pub suffix-bit-spec : {M : Type 1} → statement M
+pub suffix_bit_spec : {M : Type 1} → statement M
 unfolding bit_at
-suffix-bit-spec =
+suffix_bit_spec =
     tie.close
     (tie.spec
-    (λ c. simp (c.before.if1.true, c.if2.true))
-    (λ c. simp (c.before.if1.true, ne_eqb _ _ c.if2.false, and-false))
-    (λ c. simp (c.before.if3.true, c.if4.true))
-    (λ c. simp (c.before.if3.true, ne_eqb _ _ c.if4.false, and-false))
-    (λ c. simp (c.before.if5.true, c.if6.true))
-    (λ c. simp (c.before.if5.true, ne_eqb _ _ c.if6.false, and-false))
-    (λ c. simp (ne_eqb _ _ c.before.before.if1.false, ne_eqb _ _ c.before.if3.false, ne_eqb _ _ c.if5.false, and-false)))
+    (λ c. simp (c.before.if-b-eq72.true, c.if-a-eq84.true))
+    (λ c. simp (c.before.if-b-eq72.true, ne_eqb _ _ c.if-a-eq84.false, and-false))
+    (λ c. simp (c.before.if-b-eq104.true, c.if-a-eq116.true))
+    (λ c. simp (c.before.if-b-eq104.true, ne_eqb _ _ c.if-a-eq116.false, and-false))
+    (λ c. simp (c.before.if-b-eq80.true, c.if-a-eq83.true))
+    (λ c. simp (c.before.if-b-eq80.true, ne_eqb _ _ c.if-a-eq83.false, and-false))
+    (λ c. simp (ne_eqb _ _ c.before.before.if-b-eq72.false, ne_eqb _ _ c.before.if-b-eq104.false, ne_eqb _ _ c.if-b-eq80.false, and-false)))

@@ -11,35 +11,35 @@ use Rattle.write_pieces.proofs.piece_length.Statement.{statement}
 use Rattle.write_pieces.proofs.piece_length.Tie as tie
 
 -- there is such a month
-name-length-requires : tie.Need-name-length-requires
+name-length-requires : tie.Need-name_length-requires
 name-length-requires c κs =
     let at-start = c.before.before.before in
     let named = named-month at-start.args.m at-start.requires.1 in
     (named.1, named.2)
 
 -- the full name of a month
-returns : tie.Need-returns
+returns : tie.Need-returns-then-piece-eq-MONTH_NAME
 returns c =
     let at_test = c.before.before.before in
     let at-start = at_test.before in
     let args = at-start.args in
     let month = (named-month args.m at-start.requires.1).0 in
-    let measured = c.name-length.ensures in
-    (λ case. measured.0 case ∙ ap length (name-put case args.m args.piece _ month at_test.if1.true), measured.1)
+    let measured = c.name_length.ensures in
+    (λ case. measured.0 case ∙ ap length (name-put case args.m args.piece _ month at_test.if-piece-eq-MONTH_NAME.true), measured.1)
 
 -- any other piece
-returns-2 : tie.Need-returns-2
+returns-2 : tie.Need-returns
 returns-2 c =
     let at_test = c.before in
     let at-start = at_test.before in
     let args = at-start.args in
     let width = c.width_of_lem.ensures in (
-      λ case. width ∙ piece-size case args.m args.piece at-start.requires.1 at-start.requires.0 at_test.if1.false,
+      λ case. width ∙ piece-size case args.m args.piece at-start.requires.1 at-start.requires.0 at_test.if-piece-eq-MONTH_NAME.false,
       omega (arith, width, few_bytes args.piece at-start.requires.0),
     )
 
-pub piece-length-spec : {M : Type 1} → statement M
-piece-length-spec =
+pub piece_length_spec : {M : Type 1} → statement M
+piece_length_spec =
     tie.close
     (tie.spec
     (λ c. let at-start = c.before.before.before in cast (numbers _ at-start.requires.1).month w32 tt)

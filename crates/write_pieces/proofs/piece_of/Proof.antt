@@ -11,15 +11,15 @@ use Rattle.write_pieces.proofs.piece_of.Statement.{statement}
 use Rattle.write_pieces.proofs.piece_of.Tie as tie
 
 -- the entry that is read is the letter of the pattern's piece
-read : (c : tie.Else1) → get_or c.before.args.table.now c.before.args.pattern 0 ≡ letter_of (piece_of c.before.args.pattern)
+read : (c : tie.Else-pattern-ge112) → get_or c.before.args.table.now c.before.args.pattern 0 ≡ letter_of (piece_of c.before.args.pattern)
 read c = rw c.before.requires (letter_at _ (omega arith))
 
-pub piece-of-spec : {M : Type 1} → statement M
-piece-of-spec =
+pub piece_of_spec : {M : Type 1} → statement M
+piece_of_spec =
     tie.close
     (tie.spec
     -- past the table: none
-    (λ c. sym (none-past _ c.if1.true))
+    (λ c. sym (none-past _ c.if-pattern-ge112.true))
     -- in it: the entry less the letter for none
     (λ c. search rules)
     (λ c. omega (arith, read c.before))

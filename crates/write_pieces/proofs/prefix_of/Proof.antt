@@ -3,11 +3,11 @@ use borrow.Author.Tests.{eq-eqb, ne_eqb}
 use Rattle.write_pieces.proofs.prefix_of.Statement.{statement}
 use Rattle.write_pieces.proofs.prefix_of.Tie as tie
 
-pub prefix-of-spec : {M : Type 1} → statement M
-prefix-of-spec =
+pub prefix_of_spec : {M : Type 1} → statement M
+prefix_of_spec =
     tie.close
     (tie.spec
     -- any other piece
-    (λ c. rw (ne_eqb _ 16 c.if1.true))
+    (λ c. rw (ne_eqb _ 16 c.if-piece-ne-MONTH_NAME.true))
     -- the full name of a month
-    (λ c. rw (eq-eqb _ 16 c.if1.false)))
+    (λ c. rw (eq-eqb _ 16 c.if-piece-ne-MONTH_NAME.false)))

@@ -19,100 +19,100 @@ use Rattle.write_pieces.proofs.put_piece.Statement.{statement}
 use Rattle.write_pieces.proofs.put_piece.Tie as tie
 
 -- what is put for a marker, without and with dots, is the piece's text
-plain-is : (c : tie.Then1) → let args = c.before.before.args in
+plain-is : (c : tie.Then-piece-eq-MARKER) → let args = c.before.before.args in
     marker_text args.case false (lt_z (read args.m.hour) (pos 12)) ≡ piece_text args.piece args.case args.m
 plain-is c =
     let at-start = c.before.before in
     let args = at-start.args in
-    marker-put args.case args.m args.piece _ (morning args.m at-start.requires.1) c.if1.true
+    marker-put args.case args.m args.piece _ (morning args.m at-start.requires.1) c.if-piece-eq-MARKER.true
 
-dotted-is : (c : tie.Then2) → let args = c.before.before.before.args in
+dotted-is : (c : tie.Then-piece-eq-DOTTED_MARKER) → let args = c.before.before.before.args in
     marker_text args.case true (lt_z (read args.m.hour) (pos 12)) ≡ piece_text args.piece args.case args.m
 dotted-is c =
     let at-start = c.before.before.before in
     let args = at-start.args in
-    dotted-put args.case args.m args.piece _ (morning args.m at-start.requires.1) c.if2.true
+    dotted-put args.case args.m args.piece _ (morning args.m at-start.requires.1) c.if-piece-eq-DOTTED_MARKER.true
 
 -- and for a name, full and short
-name-is : (c : tie.Then3) → let args = c.before.before.before.before.args in
+name-is : (c : tie.Then-piece-eq-MONTH_NAME) → let args = c.before.before.before.before.args in
     month_text args.case true (nat_abs (read args.m.month)) ≡ piece_text args.piece args.case args.m
 name-is c =
     let at-start = c.before.before.before.before in
     let args = at-start.args in
-    name-put args.case args.m args.piece _ (named-month args.m at-start.requires.1).0 c.if3.true
+    name-put args.case args.m args.piece _ (named-month args.m at-start.requires.1).0 c.if-piece-eq-MONTH_NAME.true
 
-short-is : (c : tie.Then4) → let args = c.before.before.before.before.before.args in
+short-is : (c : tie.Then-piece-eq-SHORT_MONTH) → let args = c.before.before.before.before.before.args in
     month_text args.case false (nat_abs (read args.m.month)) ≡ piece_text args.piece args.case args.m
 short-is c =
     let at-start = c.before.before.before.before.before in
     let args = at-start.args in
-    short-put args.case args.m args.piece _ (named-month args.m at-start.requires.1).0 c.if4.true
+    short-put args.case args.m args.piece _ (named-month args.m at-start.requires.1).0 c.if-piece-eq-SHORT_MONTH.true
 
 -- any other piece is a number
-number : (c : tie.Else4) → c.before.before.before.before.before.args.piece < 14
+number : (c : tie.Else-piece-eq-SHORT_MONTH) → c.before.before.before.before.before.args.piece < 14
 number c =
     let at-start = c.before.before.before.before.before in
-    omega (arith, at-start.requires.0, c.if4.false, c.before.if3.false, c.before.before.if2.false, c.before.before.before.if1.false)
+    omega (arith, at-start.requires.0, c.if-piece-eq-SHORT_MONTH.false, c.before.if-piece-eq-MONTH_NAME.false, c.before.before.if-piece-eq-DOTTED_MARKER.false, c.before.before.before.if-piece-eq-MARKER.false)
 
 -- there is room for a marker without dots, and it is put
-put-marker-requires : tie.Need-put-marker-requires
+put-marker-requires : tie.Need-put_marker-requires
 put-marker-requires c κs =
     let at_test = c.before.before.before in
     omega (arith, ap length (plain-is at_test), at_test.before.before.requires.2)
 
-returns : tie.Need-returns
+returns : tie.Need-returns-then-piece-eq-MARKER
 returns c =
     let after-put = c.before.before in
-    put_same (plain-is after-put.before.before.before.before) after-put.put-marker.ensures
+    put_same (plain-is after-put.before.before.before.before) after-put.put_marker.ensures
 
 -- a marker with dots
-put-marker-requires-2 : tie.Need-put-marker-requires-2
+put-marker-requires-2 : tie.Need-put_marker-requires-then-piece-eq-DOTTED_MARKER
 put-marker-requires-2 c κs =
     let at_test = c.before.before.before in
     omega (arith, ap length (dotted-is at_test), at_test.before.before.before.requires.2)
 
-returns-2 : tie.Need-returns-2
+returns-2 : tie.Need-returns-then-piece-eq-DOTTED_MARKER
 returns-2 c =
     let after-put = c.before.before in
-    put_same (dotted-is after-put.before.before.before.before) after-put.put-marker2.ensures
+    put_same (dotted-is after-put.before.before.before.before) after-put.put_marker-then-piece-eq-DOTTED_MARKER.ensures
 
 -- a full name: there is such a month
-put-month-requires : tie.Need-put-month-requires
+put-month-requires : tie.Need-put_month-requires
 put-month-requires c κs =
     let at_test = c.before.before.before in
     let at-start = at_test.before.before.before.before in
     let named = named-month at-start.args.m at-start.requires.1 in
     (named.1, named.2, omega (arith, ap length (name-is at_test), at-start.requires.2))
 
-returns-3 : tie.Need-returns-3
+returns-3 : tie.Need-returns-then-piece-eq-MONTH_NAME
 returns-3 c =
     let after-put = c.before.before in
-    put_same (name-is after-put.before.before.before.before) after-put.put-month.ensures
+    put_same (name-is after-put.before.before.before.before) after-put.put_month.ensures
 
 -- a short name
-put-month-requires-2 : tie.Need-put-month-requires-2
+put-month-requires-2 : tie.Need-put_month-requires-then-piece-eq-SHORT_MONTH
 put-month-requires-2 c κs =
     let at_test = c.before.before.before in
     let at-start = at_test.before.before.before.before.before in
     let named = named-month at-start.args.m at-start.requires.1 in
     (named.1, named.2, omega (arith, ap length (short-is at_test), at-start.requires.2))
 
-returns-4 : tie.Need-returns-4
+returns-4 : tie.Need-returns-then-piece-eq-SHORT_MONTH
 returns-4 c =
     let after-put = c.before.before in
-    put_same (short-is after-put.before.before.before.before) after-put.put-month2.ensures
+    put_same (short-is after-put.before.before.before.before) after-put.put_month-then-piece-eq-SHORT_MONTH.ensures
 
 -- a number: there is room for its digits
-put-number-requires : tie.Need-put-number-requires
+put-number-requires : tie.Need-put_number-requires
 put-number-requires c κs =
     let after-width = c.before in
     let at_test = after-width.before.before in
     let at-start = at_test.before.before.before.before.before in
     let args = at-start.args in
-    let size = piece-size args.case args.m args.piece at-start.requires.1 at-start.requires.0 at_test.before.if3.false in
+    let size = piece-size args.case args.m args.piece at-start.requires.1 at-start.requires.0 at_test.before.if-piece-eq-MONTH_NAME.false in
     omega (arith, after-width.width_of_lem.ensures, size, at-start.requires.2)
 
-returns-5 : tie.Need-returns-5
+returns-5 : tie.Need-returns
 returns-5 c =
     let after-put = c.before.before in
     let after-width = after-put.before.before in
@@ -121,10 +121,10 @@ returns-5 c =
     let args = at_test.before.before.before.before.before.args in
     put_same
     (number_put args.case args.m args.piece (number at_test) _ _ after-width.width_of_lem.ensures after-number.number_of_lem.ensures)
-    after-put.put-number.ensures
+    after-put.put_number.ensures
 
-pub put-piece-spec : {M : Type 1} → statement M
-put-piece-spec =
+pub put_piece_spec : {M : Type 1} → statement M
+put_piece_spec =
     tie.close
     (tie.spec
     put-marker-requires

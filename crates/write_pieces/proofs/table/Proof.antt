@@ -9,5 +9,5 @@ returns : tie.Need-returns
 unfolding piece_table piece_of
 returns c = refl
 
-pub table-spec : {M : Type 1} → statement M
-table-spec = tie.close (tie.spec returns)
+pub table_spec : {M : Type 1} → statement M
+table_spec = tie.close (tie.spec returns)

@@ -5,27 +5,27 @@ use Rattle.write_pieces.proofs.Lengths.{no-width}
 use Rattle.write_pieces.proofs.width_of.Statement.{statement}
 use Rattle.write_pieces.proofs.width_of.Tie as tie
 
-pub width-of-spec : {M : Type 1} → statement M
-width-of-spec =
+pub width_of_spec : {M : Type 1} → statement M
+width_of_spec =
     tie.close
     (tie.spec
     -- the pieces 1 to 17
-    (λ c. rw c.match.keys1)
-    (λ c. rw c.match.keys2)
-    (λ c. rw c.match.keys3)
-    (λ c. rw c.match.keys4)
-    (λ c. rw c.match.keys5)
-    (λ c. rw c.match.keys6)
-    (λ c. rw c.match.keys7)
-    (λ c. rw c.match.keys8)
-    (λ c. rw c.match.keys9)
-    (λ c. rw c.match.keys10)
-    (λ c. rw c.match.keys11)
-    (λ c. rw c.match.keys12)
-    (λ c. rw c.match.keys13)
-    (λ c. rw c.match.keys14)
-    (λ c. rw c.match.keys15)
-    (λ c. rw c.match.keys16)
-    (λ c. rw c.match.keys17)
+    (λ c. rw c.in-1.keys1)
+    (λ c. rw c.in-1.keys2)
+    (λ c. rw c.in-1.keys3)
+    (λ c. rw c.in-1.keys4)
+    (λ c. rw c.in-1.keys5)
+    (λ c. rw c.in-1.keys6)
+    (λ c. rw c.in-1.keys7)
+    (λ c. rw c.in-1.keys8)
+    (λ c. rw c.in-1.keys9)
+    (λ c. rw c.in-1.keys10)
+    (λ c. rw c.in-1.keys11)
+    (λ c. rw c.in-1.keys12)
+    (λ c. rw c.in-1.keys13)
+    (λ c. rw c.in-1.keys14)
+    (λ c. rw c.in-1.keys15)
+    (λ c. rw c.in-1.keys16)
+    (λ c. rw c.in-1.keys17)
     -- any other
-    (λ c. sym (no-width c.before.args.piece c.match.rest)))
+    (λ c. sym (no-width c.before.args.piece c.in-1.rest)))

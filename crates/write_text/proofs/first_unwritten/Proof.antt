@@ -13,48 +13,48 @@ use Rattle.write_text.proofs.Turns.{node-left, none_left, unwritten-here, unwrit
 use Rattle.write_text.proofs.first_unwritten.Statement.{statement}
 use Rattle.write_text.proofs.first_unwritten.Tie as tie
 
-abbrev invariant-loop : tie.invariant-loop
+abbrev invariant-loop : tie.invariant-loop-i
 invariant-loop table c i₀ i = (i ≤ length c / 6) × (first_unwritten (drop i (nodes_in c)) ≡ first_unwritten (nodes_in c))
 
-abbrev decreases-loop : tie.decreases-loop
+abbrev decreases-loop : tie.decreases-loop-i
 decreases-loop table c i₀ i = length c / 6 - i
 
 -- the node here is not written
-returns : tie.Need-returns invariant-loop decreases-loop
+returns : tie.Need-returns-then-not-is_written invariant-loop decreases-loop
 returns c =
     let at_test = c.before in
     let after-is-written = at_test.before in
     let after-node = after-is-written.before in
     let at-loop = after-node.before.before in
     let ns = nodes_in at-loop.before.before.args.c.now in
-    let unwritten = rw after-node.Node-at.ensures at (sym after-is-written.is-written.ensures ∙ not-true _ at_test.if1.true) in
+    let unwritten = rw after-node.Node-at.ensures at (sym after-is-written.is_written.ensures ∙ not-true _ at_test.if-not-is_written.true) in
     c.named.ensures
     ∙ ap (λ (x : Node). named x.pattern) after-node.Node-at.ensures
-    ∙ sym (unwritten-here ns at-loop.loop.i (node-left _ _ after-node.before.loop-test.true) unwritten)
-    ∙ at-loop.loop.invariant.1
+    ∙ sym (unwritten-here ns at-loop.loop-i.i (node-left _ _ after-node.before.loop-i-test.true) unwritten)
+    ∙ at-loop.loop-i.invariant.1
 
 -- the node here is written
-loop-again : tie.Need-loop-preserved invariant-loop decreases-loop
+loop-again : tie.Need-loop-i-preserved invariant-loop decreases-loop
 loop-again c =
     let after-is-written = c.before in
     let after-node = after-is-written.before in
     let at-loop = after-node.before.before in
     let ns = nodes_in at-loop.before.before.args.c.now in
-    let written = rw after-node.Node-at.ensures at (sym after-is-written.is-written.ensures ∙ not-false _ c.if1.false) in (
-      omega (arith, after-node.before.loop-test.true),
-      sym (unwritten-next ns at-loop.loop.i (node-left _ _ after-node.before.loop-test.true) written)
-          ∙ at-loop.loop.invariant.1,
+    let written = rw after-node.Node-at.ensures at (sym after-is-written.is_written.ensures ∙ not-false _ c.if-not-is_written.false) in (
+      omega (arith, after-node.before.loop-i-test.true),
+      sym (unwritten-next ns at-loop.loop-i.i (node-left _ _ after-node.before.loop-i-test.true) written)
+          ∙ at-loop.loop-i.invariant.1,
     )
 
 -- every node is written
-returns-2 : tie.Need-returns-2 invariant-loop decreases-loop
+returns-2 : tie.Need-returns invariant-loop decreases-loop
 returns-2 c =
     let at-loop = c.before in
     let args = at-loop.before.before.args in
-    sym (unwritten-end (nodes_in args.c.now) at-loop.loop.i (none_left _ _ c.loop-test.false)) ∙ at-loop.loop.invariant.1
+    sym (unwritten-end (nodes_in args.c.now) at-loop.loop-i.i (none_left _ _ c.loop-i-test.false)) ∙ at-loop.loop-i.invariant.1
 
-pub first-unwritten-spec : {M : Type 1} → statement M
-first-unwritten-spec =
+pub first_unwritten_spec : {M : Type 1} → statement M
+first_unwritten_spec =
     tie.close
     (tie.spec
     invariant-loop

@@ -21,27 +21,27 @@ module _ (n : Node) (a : n.kind ≡ action) (p : ℕ) (e : p ≡ piece_of n.patt
   known some prefix is = rw (eq-eqb n.kind action a, ← e, ne_eqb p none some, is)
 
 -- a literal
-returns : tie.Need-returns
-returns c = rw (ne_eqb _ 1 c.if1.true)
+returns : tie.Need-returns-then-n-ne-FN_ACTION
+returns c = rw (ne_eqb _ 1 c.if-n-ne-FN_ACTION.true)
 
 -- a pattern that the writer does not know
-returns-2 : tie.Need-returns-2
+returns-2 : tie.Need-returns-then-piece-eq-NONE
 returns-2 c =
     let after-piece = c.before in
     let at_test = after-piece.before in
-    unknown at_test.before.before.args.n at_test.if1.false _ after-piece.piece_of.ensures c.if2.true
+    unknown at_test.before.before.args.n at_test.if-n-ne-FN_ACTION.false _ after-piece.piece_of-piece.ensures c.if-piece-eq-NONE.true
 
 -- a pattern that it knows: written with its piece's prefix
-returns-3 : tie.Need-returns-3
+returns-3 : tie.Need-returns
 returns-3 c =
     let after-prefix = c.before in
     let at-known = after-prefix.before in
     let after-piece = at-known.before in
     let at_test = after-piece.before in
-    known at_test.before.before.args.n at_test.if1.false _ after-piece.piece_of.ensures at-known.if2.false _ after-prefix.prefix-of.ensures
+    known at_test.before.before.args.n at_test.if-n-ne-FN_ACTION.false _ after-piece.piece_of-piece.ensures at-known.if-piece-eq-NONE.false _ after-prefix.prefix_of.ensures
 
-pub is-written-spec : {M : Type 1} → statement M
-is-written-spec =
+pub is_written_spec : {M : Type 1} → statement M
+is_written_spec =
     tie.close
     (tie.spec
     returns

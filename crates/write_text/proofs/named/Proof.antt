@@ -3,11 +3,11 @@ use borrow.Author.Tests.{le-ltb, lt-ltb}
 use Rattle.write_text.proofs.named.Statement.{statement}
 use Rattle.write_text.proofs.named.Tie as tie
 
-pub named-spec : {M : Type 1} → statement M
-named-spec =
+pub named_spec : {M : Type 1} → statement M
+named_spec =
     tie.close
     (tie.spec
     -- a pattern of the table
-    (λ c. rw (lt-ltb _ 112 c.if1.true))
+    (λ c. rw (lt-ltb _ 112 c.if-pattern-lt-NO_PATTERN.true))
     -- a number past it
-    (λ c. rw (le-ltb _ 112 c.if1.false)))
+    (λ c. rw (le-ltb _ 112 c.if-pattern-lt-NO_PATTERN.false)))

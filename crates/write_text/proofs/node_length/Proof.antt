@@ -11,32 +11,32 @@ use Rattle.write_text.proofs.node_length.Statement.{statement}
 use Rattle.write_text.proofs.node_length.Tie as tie
 
 -- the pattern has a piece, and the numbers are a moment
-piece-length-requires : tie.Need-piece-length-requires
+piece-length-requires : tie.Need-piece_length-requires
 piece-length-requires c κs =
     let at-start = c.before.before.before.before in
     (omega (arith, c.piece_of.ensures, piece-range at-start.args.n.pattern), at-start.requires.1)
 
 -- a pattern
-returns : tie.Need-returns
+returns : tie.Need-returns-then-n-eq-FN_ACTION
 returns c =
     let after-piece = c.before in
     let at_test = after-piece.before in
     let args = at_test.before.before.before.args in
-    let measured = c.piece-length.ensures in (
-      action-size args.t.now args.m args.n at_test.if1.true _ after-piece.piece_of.ensures _ (measured.0 (case_of args.n.pattern)),
+    let measured = c.piece_length.ensures in (
+      action-size args.t.now args.m args.n at_test.if-n-eq-FN_ACTION.true _ after-piece.piece_of.ensures _ (measured.0 (case_of args.n.pattern)),
       omega (arith, measured.1),
     )
 
 -- a literal
-returns-2 : tie.Need-returns-2
+returns-2 : tie.Need-returns
 returns-2 c =
     let at_test = c.before in
     let args = at_test.before.before.before.args in
-    let text = literal-text args.t.now args.m args.n at_test.if1.false in
-    (c.literal-length.ensures.0 ∙ sym (ap length text), c.literal-length.ensures.1)
+    let text = literal-text args.t.now args.m args.n at_test.if-n-eq-FN_ACTION.false in
+    (c.literal_length.ensures.0 ∙ sym (ap length text), c.literal_length.ensures.1)
 
-pub node-length-spec : {M : Type 1} → statement M
-node-length-spec =
+pub node_length_spec : {M : Type 1} → statement M
+node_length_spec =
     tie.close
     (tie.spec
     (λ c κs. search rules)

@@ -6,8 +6,8 @@ use Rattle.base_settings.proofs.Most.{template-most}
 use Rattle.write_text.proofs.nodes_limit.Statement.{statement}
 use Rattle.write_text.proofs.nodes_limit.Tie as tie
 
-mul-result : tie.Need-overflow-mul-result
+mul-result : tie.Need-overflow_mul-result
 mul-result c = omega (arith, template-most c.before.args.set)
 
-pub nodes-limit-spec : {M : Type 1} → statement M
-nodes-limit-spec = tie.close (tie.spec (λ c κs. search rules) mul-result (λ c. search rules))
+pub nodes_limit_spec : {M : Type 1} → statement M
+nodes_limit_spec = tie.close (tie.spec (λ c κs. search rules) mul-result (λ c. search rules))

@@ -15,47 +15,47 @@ use Rattle.write_text.proofs.put_node.Statement.{statement}
 use Rattle.write_text.proofs.put_node.Tie as tie
 
 -- the text of a pattern is its piece's, in its case
-piece : (c : tie.Then1) → let args = c.before.before.before.before.args in
+piece : (c : tie.Then-n-eq-FN_ACTION) → let args = c.before.before.before.before.args in
     node_text args.t.now args.m args.n ≡ piece_text (piece_of args.n.pattern) (case_of args.n.pattern) args.m
-piece c = let args = c.before.before.before.before.args in action-text args.t.now args.m args.n c.if1.true
+piece c = let args = c.before.before.before.before.args in action-text args.t.now args.m args.n c.if-n-eq-FN_ACTION.true
 
 -- there is room for the piece
-put-piece-requires : tie.Need-put-piece-requires
+put-piece-requires : tie.Need-put_piece-requires
 put-piece-requires c κs =
     let after-case = c.before in
     let after-piece = after-case.before in
     let at-start = after-piece.before.before.before.before.before in
-    rw (after-piece.piece_of.ensures, after-case.case-of.ensures)
+    rw (after-piece.piece_of-piece.ensures, after-case.case_of.ensures)
     (piece-range _, at-start.requires.1, rw (piece after-piece.before) at at-start.requires.2)
 
 -- a pattern
-returns : tie.Need-returns
+returns : tie.Need-returns-then-n-eq-FN_ACTION
 returns c =
     let after-put = c.before.before in
     let after-case = after-put.before.before in
     let after-piece = after-case.before in
-    rw (piece after-piece.before, ← after-piece.piece_of.ensures, ← after-case.case-of.ensures) after-put.put-piece.ensures
+    rw (piece after-piece.before, ← after-piece.piece_of-piece.ensures, ← after-case.case_of.ensures) after-put.put_piece.ensures
 
 -- the text of a literal that the template has nothing of
-nothing : (c : tie.Then2) → let args = c.before.before.before.before.before.before.args in
+nothing : (c : tie.Then-len-eq0) → let args = c.before.before.before.before.before.before.args in
     node_text args.t.now args.m args.n ≡ []
 nothing c =
     let after-length = c.before in
     let args = after-length.before.before.before.before.before.args in
-    literal-text args.t.now args.m args.n after-length.before.if1.false
-    ∙ no-literal args.t.now args.n _ after-length.literal-length.ensures.0 c.if2.true
+    literal-text args.t.now args.m args.n after-length.before.if-n-eq-FN_ACTION.false
+    ∙ no-literal args.t.now args.n _ after-length.literal_length-len.ensures.0 c.if-len-eq0.true
 
 -- the text of any other is a part of the template
-part : (c : tie.Else2) → let after-length = c.before in let args = after-length.before.before.before.before.before.args in
-    node_text args.t.now args.m args.n ≡ take (args.n.start + after-length.literal-length.result - args.n.start) (drop args.n.start args.t.now)
+part : (c : tie.Else-len-eq0) → let after-length = c.before in let args = after-length.before.before.before.before.before.args in
+    node_text args.t.now args.m args.n ≡ take (args.n.start + after-length.literal_length-len.result - args.n.start) (drop args.n.start args.t.now)
 part c =
     let after-length = c.before in
     let args = after-length.before.before.before.before.before.args in
-    literal-text args.t.now args.m args.n after-length.before.if1.false
-    ∙ sym (literal-part args.t.now args.n _ after-length.literal-length.ensures.0)
+    literal-text args.t.now args.m args.n after-length.before.if-n-eq-FN_ACTION.false
+    ∙ sym (literal-part args.t.now args.n _ after-length.literal_length-len.ensures.0)
 
 -- a literal that the template has nothing of
-returns-2 : tie.Need-returns-2
+returns-2 : tie.Need-returns-then-len-eq0
 returns-2 c = rw (nothing c) (put-nothing _ _)
 
 -- the part ends within the template
@@ -64,22 +64,22 @@ part-put-bytes-end c =
     let at_test = c.before in
     let after-length = at_test.before in
     let args = after-length.before.before.before.before.before.args in
-    literal-end args.t.now args.n _ after-length.literal-length.ensures.0 at_test.if2.false
+    literal-end args.t.now args.n _ after-length.literal_length-len.ensures.0 at_test.if-len-eq0.false
 
 -- there is room for the literal
-put-bytes-requires : tie.Need-put-bytes-requires
+put-bytes-requires : tie.Need-put_bytes-requires
 put-bytes-requires c κs =
     let at_test = c.before.before.before in
     rw (part at_test) at at_test.before.before.before.before.before.before.requires.2
 
 -- a literal
-returns-3 : tie.Need-returns-3
+returns-3 : tie.Need-returns
 returns-3 c =
     let after-put = c.before.before in
-    rw (part after-put.before.before.before.before) after-put.put-bytes.ensures
+    rw (part after-put.before.before.before.before) after-put.put_bytes.ensures
 
-pub put-node-spec : {M : Type 1} → statement M
-put-node-spec =
+pub put_node_spec : {M : Type 1} → statement M
+put_node_spec =
     tie.close
     (tie.spec
     (λ c κs. search rules)

@@ -14,48 +14,48 @@ use Rattle.write_text.proofs.Turns.{node-left, none_left, put_next, room-here, t
 use Rattle.write_text.proofs.put_nodes.Statement.{statement}
 use Rattle.write_text.proofs.put_nodes.Tie as tie
 
-abbrev invariant-loop : tie.invariant-loop
+abbrev invariant-loop : tie.invariant-loop-i
 invariant-loop table c t m out₀ at₀ i₀ out at i =
     let left = nodes_text t m (drop i (nodes_in c)) in
     (i ≤ length c / 6) × (length out ≡ length out₀) × (at + length left ≤ length out₀) × (sets out at left ≡ sets out₀ 0 (text_in c t m))
 
-abbrev decreases-loop : tie.decreases-loop
+abbrev decreases-loop : tie.decreases-loop-i
 decreases-loop table c t m out₀ at₀ i₀ out at i = length c / 6 - i
 
 -- there is room for the node
-put-node-requires : tie.Need-put-node-requires invariant-loop decreases-loop
+put-node-requires : tie.Need-put_node-at-requires invariant-loop decreases-loop
 put-node-requires c κs =
     let after-node = c.before in
     let at-loop = after-node.before.before in
     let at-start = at-loop.before.before.before.before in
     let args = at-start.args in
-    let left = node-left _ _ after-node.before.loop-test.true in
-    let room = room-here (nodes_in args.c.now) at-loop.loop.i left args.t.now args.m _ _ at-loop.loop.invariant.2 in
-    (at-start.requires.0, at-start.requires.1, rw after-node.Node-at.ensures (omega (arith, room, at-loop.loop.invariant.1)))
+    let left = node-left _ _ after-node.before.loop-i-test.true in
+    let room = room-here (nodes_in args.c.now) at-loop.loop-i.i left args.t.now args.m _ _ at-loop.loop-i.invariant.2 in
+    (at-start.requires.0, at-start.requires.1, rw after-node.Node-at.ensures (omega (arith, room, at-loop.loop-i.invariant.1)))
 
 -- the node is put
-loop-again : tie.Need-loop-preserved invariant-loop decreases-loop
+loop-again : tie.Need-loop-i-preserved invariant-loop decreases-loop
 loop-again c =
     let after-put = c.before.before in
     let after-node = after-put.before.before in
     let at-loop = after-node.before.before in
     let at-start = at-loop.before.before.before.before in
     let args = at-start.args in
-    let put = after-put.put-node.ensures in
-    let left = node-left _ _ after-node.before.loop-test.true in
+    let put = after-put.put_node-at.ensures in
+    let left = node-left _ _ after-node.before.loop-i-test.true in
     let here = rw after-node.Node-at.ensures at put in
-    let turn = put_next (nodes_in args.c.now) at-loop.loop.i left args.t.now args.m _ at-loop.loop.invariant.2 here in
-    (omega arith, put-length put ∙ at-loop.loop.invariant.1, turn.0, turn.1 ∙ at-loop.loop.invariant.3)
+    let turn = put_next (nodes_in args.c.now) at-loop.loop-i.i left args.t.now args.m _ at-loop.loop-i.invariant.2 here in
+    (omega arith, put-length put ∙ at-loop.loop-i.invariant.1, turn.0, turn.1 ∙ at-loop.loop-i.invariant.3)
 
 -- all nodes are put
 returns : tie.Need-returns invariant-loop decreases-loop
 returns c =
     let at-loop = c.before in
     let args = at-loop.before.before.before.before.args in
-    rw (text-end (nodes_in args.c.now) at-loop.loop.i (none_left _ _ c.loop-test.false) args.t.now args.m) at at-loop.loop.invariant.3
+    rw (text-end (nodes_in args.c.now) at-loop.loop-i.i (none_left _ _ c.loop-i-test.false) args.t.now args.m) at at-loop.loop-i.invariant.3
 
-pub put-nodes-spec : {M : Type 1} → statement M
-put-nodes-spec =
+pub put_nodes_spec : {M : Type 1} → statement M
+put_nodes_spec =
     tie.close
     (tie.spec
     invariant-loop
@@ -66,5 +66,5 @@ put-nodes-spec =
     (λ c. search rules)
     (λ c. search rules)
     loop-again
-    (λ c. c.before.loop.invariant.1)
+    (λ c. c.before.loop-i.invariant.1)
     returns)

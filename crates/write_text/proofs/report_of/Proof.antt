@@ -9,12 +9,12 @@ use Rattle.write_text.proofs.report_of.Statement.{statement}
 use Rattle.write_text.proofs.report_of.Tie as tie
 
 -- the figure is a number of 32 bits
-small : (c : tie.After-known-told2) → Fits w32 c.before.why2.given.0.0
+small : (c : tie.In-NoRoom) → Fits w32 c.before.why-in-NoRoom-1.given.0.0
 small c = search rules
 
-pub report-of-spec : {M : Type 1} → statement M
+pub report_of_spec : {M : Type 1} → statement M
 unfolding unwritten_report
-report-of-spec =
+report_of_spec =
     tie.close
     (tie.spec
     (λ c. search rules)
@@ -28,8 +28,8 @@ report-of-spec =
     (λ c. search rules)
     (λ c. search rules)
     -- TooLong, NotUtf8, NotWritten, NoMoment, NoRoom
-    (λ c. rw c.before.enum_told.given.1 c.alone.ensures)
-    (λ c. rw c.before.enum-told2.given.1 c.alone2.ensures)
-    (λ c. rw c.before.before.why.given.1 c.at.ensures)
-    (λ c. rw c.before.enum-told3.given.1 c.alone3.ensures)
-    (λ c. rw (c.before.why2.given.1, to_z_pos w64 {n = c.before.why2.given.0.0} (omega (arith, small c)))))
+    (λ c. rw c.before.enum_told-1.given.1 c.alone.ensures)
+    (λ c. rw c.before.enum_told-in-NotUtf8-1.given.1 c.alone-in-NotUtf8.ensures)
+    (λ c. rw c.before.before.why-1.given.1 c.at.ensures)
+    (λ c. rw c.before.enum_told-in-NoMoment-1.given.1 c.alone-in-NoMoment.ensures)
+    (λ c. rw (c.before.why-in-NoRoom-1.given.1, to_z_pos w64 {n = c.before.why-in-NoRoom-1.given.0.0} (omega (arith, small c)))))

@@ -12,23 +12,23 @@ use Rattle.write_text.proofs.Turns.{node-left, none_left, size-next, text-end}
 use Rattle.write_text.proofs.text_length.Statement.{statement}
 use Rattle.write_text.proofs.text_length.Tie as tie
 
-abbrev invariant-loop : tie.invariant-loop
+abbrev invariant-loop : tie.invariant-loop-i
 invariant-loop table c t m total₀ i₀ total i =
     (i ≤ length c / 6) × (total ≤ 65535 * i) × (total + length (nodes_text t m (drop i (nodes_in c))) ≡ length (text_in c t m))
 
-abbrev decreases-loop : tie.decreases-loop
+abbrev decreases-loop : tie.decreases-loop-i
 decreases-loop table c t m total₀ i₀ total i = length c / 6 - i
 
 -- the node's length is added
-loop-again : tie.Need-loop-preserved invariant-loop decreases-loop
+loop-again : tie.Need-loop-i-preserved invariant-loop decreases-loop
 loop-again c =
     let after-node = c.before in
     let at-loop = after-node.before.before in
     let args = at-loop.before.before.before.args in
-    let taken = after-node.before.loop-test.true in
-    let left_is = size-next (nodes_in args.c.now) at-loop.loop.i (node-left _ _ taken) args.t.now args.m in
-    let here-is = rw after-node.Node-at.ensures at c.node-length.ensures.0 in
-    (omega (arith, taken), omega (arith, c.node-length.ensures.1), omega (arith, left_is, here-is, at-loop.loop.invariant.2))
+    let taken = after-node.before.loop-i-test.true in
+    let left_is = size-next (nodes_in args.c.now) at-loop.loop-i.i (node-left _ _ taken) args.t.now args.m in
+    let here-is = rw after-node.Node-at.ensures at c.node_length-total.ensures.0 in
+    (omega (arith, taken), omega (arith, c.node_length-total.ensures.1), omega (arith, left_is, here-is, at-loop.loop-i.invariant.2))
 
 -- all nodes are measured; 256 nodes of 65,535 bytes at most are 16,776,960
 returns : tie.Need-returns invariant-loop decreases-loop
@@ -36,11 +36,11 @@ returns c =
     let at-loop = c.before in
     let at-start = at-loop.before.before.before in
     let args = at-start.args in
-    let nothing_left = text-end (nodes_in args.c.now) at-loop.loop.i (none_left _ _ c.loop-test.false) args.t.now args.m in
-    (omega (arith, ap length nothing_left, at-loop.loop.invariant.2), omega (arith, at-start.requires.2))
+    let nothing_left = text-end (nodes_in args.c.now) at-loop.loop-i.i (none_left _ _ c.loop-i-test.false) args.t.now args.m in
+    (omega (arith, ap length nothing_left, at-loop.loop-i.invariant.2), omega (arith, at-start.requires.2))
 
-pub text-length-spec : {M : Type 1} → statement M
-text-length-spec =
+pub text_length_spec : {M : Type 1} → statement M
+text_length_spec =
     tie.close
     (tie.spec
     invariant-loop

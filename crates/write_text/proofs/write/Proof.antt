@@ -20,11 +20,11 @@ use Rattle.write_text.proofs.write.Statement.{statement}
 use Rattle.write_text.proofs.write.Tie as tie
 
 -- the way back from the test of the template's limit to the start
-abbrev start : tie.Else1 → tie.Start
+abbrev start : tie.Else-template_limit-t → tie.Start
 start c = c.before.before.before.before
 
 -- the template is within its limit
-short : (c : tie.Else1) → length (start c).args.t.now ≤ template_limit (start c).args.set
+short : (c : tie.Else-template_limit-t) → length (start c).args.t.now ≤ template_limit (start c).args.set
 short c = omega arith
 
 -- the bytes of its nodes are six for each of its own at the most
@@ -34,36 +34,36 @@ few_bytes t {after = after} {r = r} short p =
     omega (arith, length-take-le (6 * r) after (parsed-room p), p.count, count-within false t)
 
 -- the template is over its limit
-returns : tie.Need-returns
+returns : tie.Need-returns-then-template_limit-t
 returns c = too_long _ _ _ _ (omega arith)
 
 -- the template is not UTF-8
-returns-2 : tie.Need-returns-2
+returns-2 : tie.Need-returns-then-not-is_utf8
 returns-2 c =
-    not-utf8 _ _ _ _ (short c.before.before) (sym c.before.is-utf8.ensures ∙ not-true _ c.if2.true)
+    not-utf8 _ _ _ _ (short c.before.before) (sym c.before.is_utf8.ensures ∙ not-true _ c.if-not-is_utf8.true)
 
 -- within its limit a template has at most 256 bytes
-parse-format-requires : tie.Need-parse-format-requires
+parse-format-requires : tie.Need-parse_format-end-requires
 parse-format-requires c κs =
     let within-limit = c.before.before.before in
     (omega (arith, short within-limit, template-most (start within-limit).args.set), omega arith)
 
 -- the slice of the buffer is as long as the bytes of the nodes
-slice-aggregate-write-by : tie.Need-slice-aggregate-write-by
-slice-aggregate-write-by c = sym (length-take-le _ _ (parsed-room c.before.before.parse-format.ensures))
+slice-aggregate-write-by : tie.Need-slice_bounds-write_by-end
+slice-aggregate-write-by c = sym (length-take-le _ _ (parsed-room c.before.before.parse_format-end.ensures))
 
 -- the answer by the template's nodes
-returns-3 : tie.Need-returns-3
+returns-3 : tie.Need-returns
 returns-3 c =
     let after_write = c.before.before in
     let after-parse = after_write.before.before.before.before in
     let after-utf8-test = after-parse.before.before in
     let within-limit = after-utf8-test.before.before in
     let args = (start within-limit).args in
-    by-nodes args.set args.t.now args.m args.out.now (short within-limit)
-    (sym after-utf8-test.before.is-utf8.ensures ∙ not-false _ after-utf8-test.if2.false)
-    _ (few_bytes args.t.now (short within-limit) after-parse.parse-format.ensures) (parsed-nodes after-parse.parse-format.ensures (small-nodes false args.t.now))
-    after_write.write-by.ensures
+    by-nodes args.set args.t.now args.m args.out-1.now (short within-limit)
+    (sym after-utf8-test.before.is_utf8.ensures ∙ not-false _ after-utf8-test.if-not-is_utf8.false)
+    _ (few_bytes args.t.now (short within-limit) after-parse.parse_format-end.ensures) (parsed-nodes after-parse.parse_format-end.ensures (small-nodes false args.t.now))
+    after_write.write_by.ensures
 
 pub write_spec : {M : Type 1} → statement M
 write_spec =

@@ -13,34 +13,34 @@ use Rattle.line_answers.proofs.answers.day.Statement.{statement}
 use Rattle.line_answers.proofs.answers.day.Tie as tie
 
 -- the answer is that of the exercise pages
-answer-is : (c : tie.After-to-date-text) → c.to-date-text.result ≡ date_of pages c.before.before.before.before.before.args.t.now c.before.before.before.before.before.args.s.now
-answer-is c = rw c.before.pages.ensures at c.to-date-text.ensures
+answer-is : (c : tie.After-to_date_text) → c.to_date_text.result ≡ date_of pages c.before.before.before.before.before.args.t.now c.before.before.before.before.before.args.s.now
+answer-is c = rw c.before.pages.ensures at c.to_date_text.ensures
 
-days-fit : (c : tie.After-known-told) → SFits w32 c.before.days.given.0.0
+days-fit : (c : tie.In-Number) → SFits w32 c.before.days-1.given.0.0
 days-fit c = search rules
 
 -- a day, an i32 that keeps its value as an i64
-returns : tie.Need-returns
+returns : tie.Need-returns-in-Number
 unfolding day_answer
 returns c =
     let after-put = c.before.before in
     let at-known = after-put.before.before in
     let at-days = at-known.before in
-    answered-as (ap day_answer (sym at-days.days.given.1 ∙ answer-is at-days.before.before))
-    (simp (wide (days-fit at-known)) at after-put.put-value.ensures)
+    answered-as (ap day_answer (sym at-days.days-1.given.1 ∙ answer-is at-days.before.before))
+    (simp (wide (days-fit at-known)) at after-put.put_value.ensures)
 
 -- a refusal
-returns-2 : tie.Need-returns-2
+returns-2 : tie.Need-returns-in-Refused
 unfolding day_answer
 returns-2 c =
     let after-put = c.before.before in
     let after-report = after-put.before.before in
     let at-refusal = after-report.before.before in
-    answered-as (ap report_text after-report.report-of.ensures ∙ ap day_answer (sym at-refusal.why.given.1 ∙ answer-is at-refusal.before.before))
-    after-put.put-report.ensures
+    answered-as (ap report_text after-report.report_of.ensures ∙ ap day_answer (sym at-refusal.why-1.given.1 ∙ answer-is at-refusal.before.before))
+    after-put.put_report.ensures
 
-pub day-spec : {M : Type 1} → statement M
-day-spec =
+pub day_spec : {M : Type 1} → statement M
+day_spec =
     tie.close
     (tie.spec
     (λ c κs. search rules)

@@ -10,29 +10,29 @@ use Rattle.line_answers.proofs.answers.parts.Statement.{statement}
 use Rattle.line_answers.proofs.answers.parts.Tie as tie
 
 -- the answer is that of the exercise pages
-answer-is : (c : tie.After-to-timestamp-parts) → c.to-timestamp-parts.result ≡ parts_of pages c.before.before.before.before.before.args.t.now c.before.before.before.before.before.args.s.now
-answer-is c = rw c.before.pages.ensures at c.to-timestamp-parts.ensures
+answer-is : (c : tie.After-to_timestamp_parts) → c.to_timestamp_parts.result ≡ parts_of pages c.before.before.before.before.before.args.t.now c.before.before.before.before.before.args.s.now
+answer-is c = rw c.before.pages.ensures at c.to_timestamp_parts.ensures
 
 -- a moment
-returns : tie.Need-returns
+returns : tie.Need-returns-in-Moment
 unfolding parts_answer
 returns c =
     let after-put = c.before.before in
     let at-moment = after-put.before.before.before in
-    answered-as (ap parts_answer (sym at-moment.p.given.1 ∙ answer-is at-moment.before.before)) after-put.put-moment.ensures
+    answered-as (ap parts_answer (sym at-moment.p-1.given.1 ∙ answer-is at-moment.before.before)) after-put.put_moment.ensures
 
 -- a refusal
-returns-2 : tie.Need-returns-2
+returns-2 : tie.Need-returns-in-Refused
 unfolding parts_answer
 returns-2 c =
     let after-put = c.before.before in
     let after-report = after-put.before.before in
     let at-refusal = after-report.before.before in
-    answered-as (ap report_text after-report.report-of.ensures ∙ ap parts_answer (sym at-refusal.why.given.1 ∙ answer-is at-refusal.before.before))
-    after-put.put-report.ensures
+    answered-as (ap report_text after-report.report_of.ensures ∙ ap parts_answer (sym at-refusal.why-1.given.1 ∙ answer-is at-refusal.before.before))
+    after-put.put_report.ensures
 
-pub parts-spec : {M : Type 1} → statement M
-parts-spec =
+pub parts_spec : {M : Type 1} → statement M
+parts_spec =
     tie.close
     (tie.spec
     (λ c κs. search rules)

@@ -13,12 +13,12 @@ returns c =
     let after-month = after-day.before.before.before.before in
     let after-year = after-month.before.before.before.before in
     let fits = after-year.before.before.before.ranges in
-    let year = put_back fits.year after-year.put-int.ensures in
-    let month = put_back fits.month after-month.put-int2.ensures in
-    let day = put_back fits.day after-day.put-int3.ensures in
+    let year = put_back fits.year after-year.put_int-after_year.ensures in
+    let month = put_back fits.month after-month.put_int-after_month.ensures in
+    let day = put_back fits.day after-day.put_int.ensures in
     rw append-nil (put_then _ _ year (put_then _ _ month day))
 
-pub put-date-spec : {M : Type 1} → statement M
-put-date-spec =
+pub put_date_spec : {M : Type 1} → statement M
+put_date_spec =
     tie.close
     (tie.spec (λ c κs. search rules) (λ c κs. search rules) (λ c κs. search rules) (λ c. search rules) returns)

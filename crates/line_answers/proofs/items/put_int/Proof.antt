@@ -9,9 +9,9 @@ returns : tie.Need-returns
 returns c =
     let after-number = c.before.before in
     let at-start = after-number.before.before.before in
-    rw (wide at-start.ranges.value) at after-number.put-number.ensures
+    rw (wide at-start.ranges.value) at after-number.put_number.ensures
 
-pub put-int-spec : {M : Type 1} → statement M
-put-int-spec =
+pub put_int_spec : {M : Type 1} → statement M
+put_int_spec =
     tie.close
     (tie.spec (λ c. wide_fits c.before.ranges.value) (λ c κs. search rules) (λ c. search rules) returns)

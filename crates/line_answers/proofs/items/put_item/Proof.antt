@@ -9,7 +9,7 @@ returns : tie.Need-returns
 returns c =
     let after_text = c.before.before in
     let after-space = after_text.before.before.before.before in
-    put_then _ _ after-space.put_byte.ensures after_text.put-bytes.ensures
+    put_then _ _ after-space.put_byte-next.ensures after_text.put_bytes.ensures
 
-pub put-item-spec : {M : Type 1} → statement M
-put-item-spec = tie.close (tie.spec (λ c κs. search rules) (λ c κs. search rules) (λ c. search rules) returns)
+pub put_item_spec : {M : Type 1} → statement M
+put_item_spec = tie.close (tie.spec (λ c κs. search rules) (λ c κs. search rules) (λ c. search rules) returns)

@@ -12,10 +12,10 @@ use Rattle.line_answers.proofs.items.put_moment.Statement.{statement}
 use Rattle.line_answers.proofs.items.put_moment.Tie as tie
 
 -- the numbers of the parts fit 32 bits
-ranged : (c : tie.After-struct-told) → Ranged c.before.before.before.before.before.before.before.args.p
+ranged : (c : tie.After-struct_told-1) → Ranged c.before.before.before.before.before.before.before.args.p
 ranged c = search rules
 
-marks-range : (c : tie.After-struct-told) → Fits w8 c.before.before.before.before.before.before.before.args.p.marks
+marks-range : (c : tie.After-struct_told-1) → Fits w8 c.before.before.before.before.before.before.before.args.p.marks
 marks-range c = search rules
 
 -- all ten
@@ -29,21 +29,21 @@ returns c =
     let at-year = after-date.before.before.before in
     let fits = ranged at-year in
     let start = at-year.before.before.before.before in
-    let date = simp (to_z-of_z fits.year, to_z-of_z fits.month, to_z-of_z fits.day) at after-date.put-date.ensures in
+    let date = simp (to_z-of_z fits.year, to_z-of_z fits.month, to_z-of_z fits.day) at after-date.put_date-date.ensures in
     let time =
-    simp (to_z-of_z fits.hour, to_z-of_z fits.minute, to_z-of_z fits.second, to_z-of_z fits.micros) at after-time.put-time.ensures in
-    let precision = simp (to_z-of_z fits.precision) at after-precision.put-int.ensures in
-    let offset = after-offset.put-offset.ensures in
-    let marks = simp (to_z_pos w64 {n = start.before.before.before.args.p.marks} (omega (arith, marks-range at-year))) at after-marks.put-number.ensures in
+    simp (to_z-of_z fits.hour, to_z-of_z fits.minute, to_z-of_z fits.second, to_z-of_z fits.micros) at after-time.put_time-time.ensures in
+    let precision = simp (to_z-of_z fits.precision) at after-precision.put_int-precision.ensures in
+    let offset = after-offset.put_offset-offset.ensures in
+    let marks = simp (to_z_pos w64 {n = start.before.before.before.args.p.marks} (omega (arith, marks-range at-year))) at after-marks.put_number.ensures in
     record {
       put =
           rw (moment-is start.before.before.before.args.p)
-          (put_then _ _ start.put-accepted.ensures (put_then _ _ date (put_then _ _ time (put_then _ _ precision (put_then _ _ offset.0 marks)))));
+          (put_then _ _ start.put_accepted-number.ensures (put_then _ _ date (put_then _ _ time (put_then _ _ precision (put_then _ _ offset.0 marks)))));
       short = moment-short _ fits (marks-range at-year) offset.1;
     }
 
-pub put-moment-spec : {M : Type 1} → statement M
-put-moment-spec =
+pub put_moment_spec : {M : Type 1} → statement M
+put_moment_spec =
     tie.close
     (tie.spec
     (λ c κs. search rules)

@@ -11,7 +11,7 @@ returns c =
     let after-number = c.before.before in
     let after-space = after-number.before.before.before.before in
     let at-start = after-space.before.before.before in
-    put_then _ _ after-space.put_byte.ensures (rw (to_z-of_z at-start.ranges.value) at after-number.put-decimal.ensures)
+    put_then _ _ after-space.put_byte-next.ensures (rw (to_z-of_z at-start.ranges.value) at after-number.put_decimal.ensures)
 
-pub put-number-spec : {M : Type 1} → statement M
-put-number-spec = tie.close (tie.spec (λ c κs. search rules) (λ c κs. search rules) (λ c. search rules) returns)
+pub put_number_spec : {M : Type 1} → statement M
+put_number_spec = tie.close (tie.spec (λ c κs. search rules) (λ c κs. search rules) (λ c. search rules) returns)

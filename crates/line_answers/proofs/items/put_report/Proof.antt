@@ -14,12 +14,12 @@ use Rattle.line_answers.proofs.items.put_report.Statement.{statement}
 use Rattle.line_answers.proofs.items.put_report.Tie as tie
 
 -- the start, as seen from where the first figure is read
-abbrev from_first : tie.After-struct-told → tie.Start
+abbrev from_first : tie.After-struct_told-1 → tie.Start
 from_first c =
     let after-pattern = c.before.before.before.before in
     after-pattern.before.before.before.before.before.before.before.before
 
-ranged : (c : tie.After-struct-told) → (Fits w8 (from_first c).args.r.number) × (SFits w64 (from_first c).args.r.first) × (SFits w64 (from_first c).args.r.second)
+ranged : (c : tie.After-struct_told-1) → (Fits w8 (from_first c).args.r.number) × (SFits w64 (from_first c).args.r.first) × (SFits w64 (from_first c).args.r.second)
 ranged c = search rules
 
 -- all four
@@ -31,16 +31,16 @@ returns c =
     let after-pattern = after_first.before.before.before.before.before in
     let after-number = after-pattern.before.before.before.before in
     let fits = ranged after_first.before in
-    let first = put_back fits.1 after_first.put-number.ensures in
-    let second = put_back fits.2 after-second.put-number2.ensures in
-    let number = rw (to_z_pos w64 {n = (from_first after_first.before).args.r.number} (omega (arith, fits.0))) at after-number.put-decimal.ensures in
+    let first = put_back fits.1 after_first.put_number-first.ensures in
+    let second = put_back fits.2 after-second.put_number.ensures in
+    let number = rw (to_z_pos w64 {n = (from_first after_first.before).args.r.number} (omega (arith, fits.0))) at after-number.put_decimal-number.ensures in
     record {
-      put = rw append-nil (put_then _ _ (put_then _ _ number after-pattern.put-pattern.ensures) (put_then _ _ first second));
+      put = rw append-nil (put_then _ _ (put_then _ _ number after-pattern.put_pattern-pattern.ensures) (put_then _ _ first second));
       short = report-short _ fits.0 fits.1 fits.2;
     }
 
-pub put-report-spec : {M : Type 1} → statement M
-put-report-spec =
+pub put_report_spec : {M : Type 1} → statement M
+put_report_spec =
     tie.close
     (tie.spec
     (λ c. search rules)

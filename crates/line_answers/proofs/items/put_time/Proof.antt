@@ -14,14 +14,14 @@ returns c =
     let after-minute = after-second.before.before.before.before in
     let after-hour = after-minute.before.before.before.before in
     let fits = after-hour.before.before.before.ranges in
-    let hour = put_back fits.hour after-hour.put-int.ensures in
-    let minute = put_back fits.minute after-minute.put-int2.ensures in
-    let second = put_back fits.second after-second.put-int3.ensures in
-    let micros = put_back fits.micros after-micros.put-int4.ensures in
+    let hour = put_back fits.hour after-hour.put_int-after_hour.ensures in
+    let minute = put_back fits.minute after-minute.put_int-after_minute.ensures in
+    let second = put_back fits.second after-second.put_int-after_second.ensures in
+    let micros = put_back fits.micros after-micros.put_int.ensures in
     rw append-nil (put_then _ _ hour (put_then _ _ minute (put_then _ _ second micros)))
 
-pub put-time-spec : {M : Type 1} → statement M
-put-time-spec =
+pub put_time_spec : {M : Type 1} → statement M
+put_time_spec =
     tie.close
     (tie.spec
     (λ c κs. search rules)

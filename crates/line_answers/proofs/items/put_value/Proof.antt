@@ -13,9 +13,9 @@ returns c =
     let after-accepted = after-number.before.before.before.before in
     let fits = after-accepted.before.before.before.ranges.value in
     record {
-      put = put_then _ _ after-accepted.put-accepted.ensures (rw (to_z-of_z fits) at after-number.put-number.ensures);
+      put = put_then _ _ after-accepted.put_accepted-next.ensures (rw (to_z-of_z fits) at after-number.put_number.ensures);
       short = value-short _ fits;
     }
 
-pub put-value-spec : {M : Type 1} → statement M
-put-value-spec = tie.close (tie.spec (λ c κs. search rules) (λ c κs. search rules) (λ c. search rules) returns)
+pub put_value_spec : {M : Type 1} → statement M
+put_value_spec = tie.close (tie.spec (λ c κs. search rules) (λ c κs. search rules) (λ c. search rules) returns)

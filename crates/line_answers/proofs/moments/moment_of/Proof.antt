@@ -16,7 +16,7 @@ returns : tie.Need-returns
 unfolding moment_of
 returns c =
     let after-seven = c.before.before.before.before.before.before.before.before in
-    let seven = after-seven.seven-of.result in
+    let seven = after-seven.seven_of-v.result in
     let year : SFits w32 (get_or seven 0 (pos 0)) = search rules in
     let month : SFits w32 (get_or seven 1 (pos 0)) = search rules in
     let day : SFits w32 (get_or seven 2 (pos 0)) = search rules in
@@ -24,12 +24,12 @@ returns c =
     let minute : SFits w32 (get_or seven 4 (pos 0)) = search rules in
     let second : SFits w32 (get_or seven 5 (pos 0)) = search rules in
     let micros : SFits w32 (get_or seven 6 (pos 0)) = search rules in
-    c.seven-numbers.ensures
-    ∙ rw (← after-seven.seven-of.ensures)
+    c.seven_numbers.ensures
+    ∙ rw (← after-seven.seven_of-v.ensures)
     (λ i. seven_numbers (to_z-of_z year i) (to_z-of_z month i) (to_z-of_z day i) (to_z-of_z hour i) (to_z-of_z minute i) (to_z-of_z second i) (to_z-of_z micros i))
 
-pub moment-of-spec : {M : Type 1} → statement M
-moment-of-spec =
+pub moment_of_spec : {M : Type 1} → statement M
+moment_of_spec =
     tie.close
     (tie.spec
     (λ c κs. search rules)

@@ -11,9 +11,9 @@ returns c =
     let after-item = c.before.before in
     let after-accepted = after-item.before.before.before.before in
     record {
-      put = put_then _ _ after-accepted.put-accepted.ensures after-item.put_item.ensures;
+      put = put_then _ _ after-accepted.put_accepted-next.ensures after-item.put_item.ensures;
       short = omega (arith, after-accepted.before.before.before.before.requires);
     }
 
-pub put-text-spec : {M : Type 1} → statement M
-put-text-spec = tie.close (tie.spec (λ c κs. search rules) (λ c κs. search rules) (λ c. search rules) returns)
+pub put_text_spec : {M : Type 1} → statement M
+put_text_spec = tie.close (tie.spec (λ c κs. search rules) (λ c κs. search rules) (λ c. search rules) returns)

@@ -11,48 +11,48 @@ use Rattle.line_answers.proofs.Sevens.{Read, begun, more, too_few, too_many, no_
 use Rattle.line_answers.proofs.moments.seven_of.Statement.{statement}
 use Rattle.line_answers.proofs.moments.seven_of.Tie as tie
 
-abbrev invariant-loop : tie.invariant-loop
+abbrev invariant-loop : tie.invariant-loop-i
 invariant-loop s values₀ at₀ i₀ values at i = Read s values at i
 
-abbrev decreases-loop : tie.decreases-loop
+abbrev decreases-loop : tie.decreases-loop-i
 decreases-loop s values₀ at₀ i₀ values at i = 7 - i
 
 -- the items end before the seventh
-returns : tie.Need-returns invariant-loop decreases-loop
-returns c = sym (too_few _ _ _ _ c.before.before.loop.invariant c.before.loop-test.true c.if1.true)
+returns : tie.Need-returns-then-s-at invariant-loop decreases-loop
+returns c = sym (too_few _ _ _ _ c.before.before.loop-i.invariant c.before.loop-i-test.true c.if-s-at.true)
 
 -- an item is no number
-returns-2 : tie.Need-returns-2 invariant-loop decreases-loop
+returns-2 : tie.Need-returns-in_default invariant-loop decreases-loop
 returns-2 c =
     let after_read = c.before.before in
     let after-find = after_read.before.before in
     let at_item = after-find.before in
     let in-loop = at_item.before in
-    let item-is = sym after_read.read_int.ensures ∙ c.enum_told.given.1 in
-    sym (no_number _ _ _ _ in-loop.before.loop.invariant _ in-loop.loop-test.true at_item.if1.false after-find.find.ensures.is item-is)
+    let item-is = sym after_read.read_int.ensures ∙ c.enum_told-1.given.1 in
+    sym (no_number _ _ _ _ in-loop.before.loop-i.invariant _ in-loop.loop-i-test.true at_item.if-s-at.false after-find.find-end.ensures.is item-is)
 
-loop-again : tie.Need-loop-preserved invariant-loop decreases-loop
+loop-again : tie.Need-loop-i-preserved invariant-loop decreases-loop
 loop-again c =
     let at-number = c.before in
     let after_read = at-number.before.before in
     let after-find = after_read.before.before in
     let at_item = after-find.before in
     let in-loop = at_item.before in
-    let fits : SFits w32 at-number.n.given.0.0 = search rules in
-    let item-is = sym after_read.read_int.ensures ∙ at-number.n.given.1 in
+    let fits : SFits w32 at-number.n-1.given.0.0 = search rules in
+    let item-is = sym after_read.read_int.ensures ∙ at-number.n-1.given.1 in
     rw (to_z-of_z fits)
-    (more _ _ _ _ in-loop.before.loop.invariant _ in-loop.loop-test.true at_item.if1.false after-find.find.ensures.is _ item-is)
+    (more _ _ _ _ in-loop.before.loop-i.invariant _ in-loop.loop-i-test.true at_item.if-s-at.false after-find.find-end.ensures.is _ item-is)
 
 -- an item is left after the seventh
-returns-3 : tie.Need-returns-3 invariant-loop decreases-loop
-returns-3 c = sym (too_many _ _ _ _ c.before.before.loop.invariant c.before.loop-test.false c.if2.true)
+returns-3 : tie.Need-returns-then-at-s invariant-loop decreases-loop
+returns-3 c = sym (too_many _ _ _ _ c.before.before.loop-i.invariant c.before.loop-i-test.false c.if-at-s.true)
 
 -- seven numbers
-returns-4 : tie.Need-returns-4 invariant-loop decreases-loop
-returns-4 c = sym (ended _ _ _ _ c.before.before.loop.invariant c.before.loop-test.false c.if2.false)
+returns-4 : tie.Need-returns invariant-loop decreases-loop
+returns-4 c = sym (ended _ _ _ _ c.before.before.loop-i.invariant c.before.loop-i-test.false c.if-at-s.false)
 
-pub seven-of-spec : {M : Type 1} → statement M
-seven-of-spec =
+pub seven_of_spec : {M : Type 1} → statement M
+seven_of_spec =
     tie.close
     (tie.spec
     invariant-loop

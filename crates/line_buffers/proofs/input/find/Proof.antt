@@ -12,34 +12,34 @@ use Rattle.line_buffers.proofs.input.find.Tie as tie
 use Rattle.line_buffers.proofs.input.find.Reads as reads
 use Rattle.line_buffers.proofs.input.find.Lts as lts
 
-abbrev invariant-loop : tie.invariant-loop
+abbrev invariant-loop : tie.invariant-loop-i
 invariant-loop s from b i₀ i = i + before b (drop i s) ≡ from + before b (drop from s)
 
-abbrev decreases-loop : tie.decreases-loop
+abbrev decreases-loop : tie.decreases-loop-i
 decreases-loop s from b i₀ i = length s - i
 
 -- the byte is here
-returns : tie.Need-returns invariant-loop decreases-loop
+returns : tie.Need-returns-then-s-i invariant-loop decreases-loop
 returns c =
     let at-loop = c.before.before.before in
     let args = at-loop.before.args in
     let s = args.s.now in
-    let none_passed = here s args.b at-loop.loop.i (omega arith) c.if1.true in
+    let none_passed = here s args.b at-loop.loop-i.i (omega arith) c.if-s-i.true in
     found s _ _ _ (omega arith)
 
-loop-again : tie.Need-loop-preserved invariant-loop decreases-loop
+loop-again : tie.Need-loop-i-preserved invariant-loop decreases-loop
 loop-again c =
     let at-loop = c.before.before.before in
     let args = at-loop.before.args in
-    omega (arith, passed args.s.now args.b at-loop.loop.i (omega arith) c.if1.false)
+    omega (arith, passed args.s.now args.b at-loop.loop-i.i (omega arith) c.if-s-i.false)
 
 -- the text ends
-returns-2 : tie.Need-returns-2 invariant-loop decreases-loop
+returns-2 : tie.Need-returns invariant-loop decreases-loop
 returns-2 c =
     let at-loop = c.before in
     let args = at-loop.before.args in
     let s = args.s.now in
-    let none_passed = nowhere s args.b at-loop.loop.i (omega arith) in
+    let none_passed = nowhere s args.b at-loop.loop-i.i (omega arith) in
     found s _ _ _ (omega arith)
 
 pub find_spec : {M : Type 1} → statement M

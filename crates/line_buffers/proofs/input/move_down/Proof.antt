@@ -9,10 +9,10 @@ use Rattle.line_buffers.proofs.input.move_down.Tie as tie
 use Rattle.line_buffers.proofs.input.move_down.Reads as reads
 use Rattle.line_buffers.proofs.input.move_down.Lts as lts
 
-abbrev invariant-loop : tie.invariant-loop
+abbrev invariant-loop : tie.invariant-loop-i
 invariant-loop buf₀ from to end i₀ n₀ buf i n = Moving buf₀ from to buf i n
 
-abbrev decreases-loop : tie.decreases-loop
+abbrev decreases-loop : tie.decreases-loop-i
 decreases-loop buf₀ from to end i₀ n₀ buf i n = end - i
 
 pub move_down_spec : {M : Type 1} → statement M
@@ -23,11 +23,11 @@ move_down_spec =
     decreases-loop
     (λ c κs. search rules)
     (λ c. begun _ _ _)
-    (λ c. omega (arith, size _ _ _ _ _ _ c.before.before.loop.invariant))
-    (λ c. omega (arith, size _ _ _ _ _ _ c.before.before.loop.invariant, c.before.before.loop.invariant.place))
+    (λ c. omega (arith, size _ _ _ _ _ _ c.before.before.loop-i.invariant))
+    (λ c. omega (arith, size _ _ _ _ _ _ c.before.before.loop-i.invariant, c.before.before.loop-i.invariant.place))
     (λ c. omega arith)
-    (λ c. omega (arith, c.before.before.loop.invariant.place))
+    (λ c. omega (arith, c.before.before.loop-i.invariant.place))
     (λ c. omega arith)
-    (λ c. more _ _ _ _ _ _ c.before.before.loop.invariant (omega arith))
-    (λ c. size _ _ _ _ _ _ c.before.loop.invariant)
-    (λ c. ended _ _ _ _ _ _ c.before.loop.invariant (omega arith)))
+    (λ c. more _ _ _ _ _ _ c.before.before.loop-i.invariant (omega arith))
+    (λ c. size _ _ _ _ _ _ c.before.loop-i.invariant)
+    (λ c. ended _ _ _ _ _ _ c.before.loop-i.invariant (omega arith)))

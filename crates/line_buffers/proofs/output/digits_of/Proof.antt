@@ -6,14 +6,14 @@ use Rattle.line_buffers.proofs.Digits.{Spelt, begun, place, more, ended}
 use Rattle.line_buffers.proofs.output.digits_of.Statement.{statement}
 use Rattle.line_buffers.proofs.output.digits_of.Tie as tie
 
-abbrev invariant-loop : tie.invariant-loop
+abbrev invariant-loop : tie.invariant-loop-rest
 invariant-loop n text₀ first₀ rest₀ text first rest = Spelt n text first rest
 
-abbrev decreases-loop : tie.decreases-loop
+abbrev decreases-loop : tie.decreases-loop-rest
 decreases-loop n text₀ first₀ rest₀ text first rest = first
 
-pub digits-of-spec : {M : Type 1} → statement M
-digits-of-spec =
+pub digits_of_spec : {M : Type 1} → statement M
+digits_of_spec =
     tie.close
     (tie.spec
     invariant-loop
@@ -22,11 +22,11 @@ digits-of-spec =
     (λ c. search rules)
     (λ c. search rules)
     (λ c. begun _ c.args.text.now (omega arith) c.requires)
-    (λ c. place _ _ _ _ c.before.loop.invariant (omega arith))
+    (λ c. place _ _ _ _ c.before.loop-rest.invariant (omega arith))
     (λ c. search rules)
     (λ c. search rules)
-    (λ c. omega (arith, c.before.loop.invariant.within, c.before.loop.invariant.size))
-    (λ c. omega (arith, place _ _ _ _ c.before.loop.invariant (omega arith)))
-    (λ c. more _ _ _ _ c.before.loop.invariant (omega arith))
-    (λ c. omega (arith, c.before.loop.invariant.size))
-    (λ c. (c.before.loop.invariant.within, ended _ _ _ _ c.before.loop.invariant (omega arith))))
+    (λ c. omega (arith, c.before.loop-rest.invariant.within, c.before.loop-rest.invariant.size))
+    (λ c. omega (arith, place _ _ _ _ c.before.loop-rest.invariant (omega arith)))
+    (λ c. more _ _ _ _ c.before.loop-rest.invariant (omega arith))
+    (λ c. omega (arith, c.before.loop-rest.invariant.size))
+    (λ c. (c.before.loop-rest.invariant.within, ended _ _ _ _ c.before.loop-rest.invariant (omega arith))))

@@ -4,12 +4,12 @@ use Rattle.line_buffers.proofs.Puts.{put-out}
 use Rattle.line_buffers.proofs.output.put_byte.Statement.{statement}
 use Rattle.line_buffers.proofs.output.put_byte.Tie as tie
 
-pub put-byte-spec : {M : Type 1} → statement M
-put-byte-spec =
+pub put_byte_spec : {M : Type 1} → statement M
+put_byte_spec =
     tie.close
     (tie.spec
     (λ c. search rules)
     (λ c. search rules)
     (λ c. search rules)
     (λ c. search rules)
-    (λ c. put-out _ _ _ c.if1.false))
+    (λ c. put-out _ _ _ c.if-at-out.false))

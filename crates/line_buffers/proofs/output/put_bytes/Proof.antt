@@ -9,32 +9,32 @@ use Rattle.line_buffers.proofs.Puts.{sets-suc, put-fitting}
 use Rattle.line_buffers.proofs.output.put_bytes.Statement.{statement}
 use Rattle.line_buffers.proofs.output.put_bytes.Tie as tie
 
-abbrev invariant-loop : tie.invariant-loop
+abbrev invariant-loop : tie.invariant-loop-i
 invariant-loop text out₀ at n i₀ out i = (i ≤ n) × (out ≡ sets out₀ at (take i text)) × (length out ≡ length out₀)
 
-abbrev decreases-loop : tie.decreases-loop
+abbrev decreases-loop : tie.decreases-loop-i
 decreases-loop text out₀ at n i₀ out i = n - i
 
-loop-holds : tie.Need-loop-init invariant-loop decreases-loop
+loop-holds : tie.Need-loop-i-init invariant-loop decreases-loop
 loop-holds c = (omega arith, refl, refl)
 
-loop-again : tie.Need-loop-preserved invariant-loop decreases-loop
+loop-again : tie.Need-loop-i-preserved invariant-loop decreases-loop
 loop-again c =
     let at-loop = c.before.before in
     let args = at-loop.before.before.before.before.args in
-    let one_more = sets-suc args.out.now args.at args.text.now at-loop.loop.i (omega arith) in
-    (omega arith, rw at-loop.loop.invariant.1 one_more, search rules)
+    let one_more = sets-suc args.out.now args.at args.text.now at-loop.loop-i.i (omega arith) in
+    (omega arith, rw at-loop.loop-i.invariant.1 one_more, search rules)
 
 returns : tie.Need-returns invariant-loop decreases-loop
 returns c =
     let at-loop = c.before in
     let after-fitting = at-loop.before in
     let args = after-fitting.before.before.before.args in
-    let done : at-loop.loop.i ≡ after-fitting.fitting.result = omega arith in
-    rw (at-loop.loop.invariant.1, done) (put-fitting args.out.now args.at args.text.now _ after-fitting.fitting.ensures)
+    let done : at-loop.loop-i.i ≡ after-fitting.fitting-n.result = omega arith in
+    rw (at-loop.loop-i.invariant.1, done) (put-fitting args.out.now args.at args.text.now _ after-fitting.fitting-n.ensures)
 
-pub put-bytes-spec : {M : Type 1} → statement M
-put-bytes-spec =
+pub put_bytes_spec : {M : Type 1} → statement M
+put_bytes_spec =
     tie.close
     (tie.spec
     invariant-loop

@@ -8,7 +8,7 @@ use Rattle.line_buffers.proofs.output.put_decimal.Statement.{statement}
 use Rattle.line_buffers.proofs.output.put_decimal.Tie as tie
 
 -- below 0
-returns : tie.Need-returns
+returns : tie.Need-returns-then-value-lt0
 returns c =
     let after-digits = c.before.before in
     let after-sign = after-digits.before.before.before.before in
@@ -16,22 +16,22 @@ returns c =
     let after-magnitude = at_test.before in
     let at-start = after-magnitude.before.before in
     let value-is = to_z-of_z at-start.ranges.value in
-    rw (negative-text at-start.args.value after-magnitude.magnitude.result (simp value-is at after-magnitude.magnitude.ensures) (simp value-is at at_test.if1.true))
-    (put_then _ _ after-sign.put_byte.ensures after-digits.put-digits.ensures)
+    rw (negative-text at-start.args.value after-magnitude.magnitude-n.result (simp value-is at after-magnitude.magnitude-n.ensures) (simp value-is at at_test.if-value-lt0.true))
+    (put_then _ _ after-sign.put_byte-next.ensures after-digits.put_digits.ensures)
 
 -- 0 or above
-returns-2 : tie.Need-returns-2
+returns-2 : tie.Need-returns
 returns-2 c =
     let after-digits = c.before.before in
     let at_test = after-digits.before.before in
     let after-magnitude = at_test.before in
     let at-start = after-magnitude.before.before in
     let value-is = to_z-of_z at-start.ranges.value in
-    rw (positive-text at-start.args.value after-magnitude.magnitude.result (simp value-is at after-magnitude.magnitude.ensures) (simp value-is at at_test.if1.false))
-    after-digits.put-digits2.ensures
+    rw (positive-text at-start.args.value after-magnitude.magnitude-n.result (simp value-is at after-magnitude.magnitude-n.ensures) (simp value-is at at_test.if-value-lt0.false))
+    after-digits.put_digits-2.ensures
 
-pub put-decimal-spec : {M : Type 1} → statement M
-put-decimal-spec =
+pub put_decimal_spec : {M : Type 1} → statement M
+put_decimal_spec =
     tie.close
     (tie.spec
     (λ c κs. search rules)

@@ -11,16 +11,16 @@ use Rattle.line_buffers.proofs.output.put_digits.Tie as tie
 
 returns : tie.Need-returns
 returns c =
-    let found = c.before.before.before.before.before.before.before.digits_of in
+    let found = c.before.before.before.before.before.before.before.digits_of-first in
     let text = found.new.1.0 in
     let size : length text ≡ 20 = search rules in
     rw (
       take_all (20 - found.result) (drop found.result text) (omega (arith, length-drop found.result text)),
       found.ensures.1,
-    ) at c.before.before.put-bytes.ensures
+    ) at c.before.before.put_bytes.ensures
 
-pub put-digits-spec : {M : Type 1} → statement M
-put-digits-spec =
+pub put_digits_spec : {M : Type 1} → statement M
+put_digits_spec =
     tie.close
     (tie.spec
     (λ c. search rules)

@@ -11,36 +11,36 @@ use Rattle.line_texts.proofs.modes.choice_of.Statement.{statement}
 use Rattle.line_texts.proofs.modes.choice_of.Tie as tie
 
 -- parts
-returns : tie.Need-returns
-returns c = chosen Parts (c.before.same.ensures.0 c.if1.true)
+returns : tie.Need-returns-then-same
+returns c = chosen Parts (c.before.same.ensures.0 c.if-same.true)
 
 -- instant
-returns-2 : tie.Need-returns-2
-returns-2 c = chosen Instant (c.before.same2.ensures.0 c.if2.true)
+returns-2 : tie.Need-returns-then-same-2
+returns-2 c = chosen Instant (c.before.same-2.ensures.0 c.if-same-2.true)
 
 -- date
-returns-3 : tie.Need-returns-3
-returns-3 c = chosen Date (c.before.same3.ensures.0 c.if3.true)
+returns-3 : tie.Need-returns-then-same-3
+returns-3 c = chosen Date (c.before.same-3.ensures.0 c.if-same-3.true)
 
 -- write
-returns-4 : tie.Need-returns-4
-returns-4 c = chosen Write (c.before.same4.ensures.0 c.if4.true)
+returns-4 : tie.Need-returns-then-same-4
+returns-4 c = chosen Write (c.before.same-4.ensures.0 c.if-same-4.true)
 
 -- none of them
-returns-5 : tie.Need-returns-5
+returns-5 : tie.Need-returns
 returns-5 c =
     let at-write = c.before in
     let at-date = at-write.before.before.before in
     let at-instant = at-date.before.before.before in
     let at-parts = at-instant.before.before.before in
     unknown
-    (another Parts c.before.before.before.before.before.before.before.before.before.if1.false at-parts.same.ensures.1)
-    (another Instant c.before.before.before.before.before.before.if2.false at-instant.same2.ensures.1)
-    (another Date c.before.before.before.if3.false at-date.same3.ensures.1)
-    (another Write c.if4.false at-write.same4.ensures.1)
+    (another Parts c.before.before.before.before.before.before.before.before.before.if-same.false at-parts.same.ensures.1)
+    (another Instant c.before.before.before.before.before.before.if-same-2.false at-instant.same-2.ensures.1)
+    (another Date c.before.before.before.if-same-3.false at-date.same-3.ensures.1)
+    (another Write c.if-same-4.false at-write.same-4.ensures.1)
 
-pub choice-of-spec : {M : Type 1} → statement M
-choice-of-spec =
+pub choice_of_spec : {M : Type 1} → statement M
+choice_of_spec =
     tie.close
     (tie.spec
     (λ c. search rules)

@@ -11,7 +11,7 @@ unfolding begun
 returns c =
     let at-start = c.before.before.before in
     let fields = known at-start.args.t1 _ at-start.well-formed.0 in
-    simp (to_z-of_z at-start.ranges.year, c.year-mask.ensures, fields.back)
+    simp (to_z-of_z at-start.ranges.year, c.year_mask-set.ensures, fields.back)
 
-pub begun-spec : {M : Type 1} → statement M
-begun-spec = tie.close (tie.spec (λ c. search rules) (λ c. search rules) (λ c κs. search rules) returns)
+pub begun_spec : {M : Type 1} → statement M
+begun_spec = tie.close (tie.spec (λ c. search rules) (λ c. search rules) (λ c κs. search rules) returns)

@@ -9,27 +9,27 @@ has : (c : tie.Start) → Fitting c.args.r
 has c = fitting c.args.r _ c.well-formed.0
 
 -- there is no day of the year
-returns : tie.Need-returns
-returns c = simp (absent (has c.before.before.before).ddd c.if1.true)
+returns : tie.Need-returns-then-r-eq0
+returns c = simp (absent (has c.before.before.before).ddd c.if-r-eq0.true)
 
 -- the month is not above 1
-returns-2 : tie.Need-returns-2
+returns-2 : tie.Need-returns-then-r-le1
 returns-2 c =
     let has-day = c.before.before.before in
     let fits = has has-day.before.before.before in
-    simp (present fits.ddd has-day.if1.false, simp (to_z-of_z fits.month) at c.if2.true)
+    simp (present fits.ddd has-day.if-r-eq0.false, simp (to_z-of_z fits.month) at c.if-r-le1.true)
 
 -- it is: the test of the day
-returns-3 : tie.Need-returns-3
+returns-3 : tie.Need-returns
 returns-3 c =
     let after-month = c.before.before in
     let has-day = after-month.before.before.before in
     let fits = has has-day.before.before.before in
     simp (
-      present fits.ddd has-day.if1.false,
-      simp (to_z-of_z fits.month) at after-month.if2.false,
+      present fits.ddd has-day.if-r-eq0.false,
+      simp (to_z-of_z fits.month) at after-month.if-r-le1.false,
       to_z-of_z fits.day,
     )
 
-pub counts-day-of-year-spec : {M : Type 1} → statement M
-counts-day-of-year-spec = tie.close (tie.spec returns returns-2 returns-3)
+pub counts_day_of_year_spec : {M : Type 1} → statement M
+counts_day_of_year_spec = tie.close (tie.spec returns returns-2 returns-3)

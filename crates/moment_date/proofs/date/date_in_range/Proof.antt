@@ -14,29 +14,29 @@ has : (c : tie.Start) → Fitting c.args.r
 has c = fitting c.args.r _ c.well-formed.0
 
 -- the month passed its test
-month : (c : tie.Else1) → let r = c.before.before.before.args.r in part_in_range r.set month_bit r.month (pos 12) ≡ true
+month : (c : tie.Else-not-part_in_range) → let r = c.before.before.before.args.r in part_in_range r.set month_bit r.month (pos 12) ≡ true
 month c =
-    simp (to_z-of_z (has c.before.before.before).month) at (sym c.before.part-in-range.ensures ∙ passed _ c.if1.false)
+    simp (to_z-of_z (has c.before.before.before).month) at (sym c.before.part_in_range.ensures ∙ passed _ c.if-not-part_in_range.false)
 
 -- the month is out of range
-returns : tie.Need-returns
+returns : tie.Need-returns-then-not-part_in_range
 unfolding date_in_range
 returns c =
-    rw (simp (to_z-of_z (has c.before.before.before).month) at (sym c.before.part-in-range.ensures ∙ failed _ c.if1.true))
+    rw (simp (to_z-of_z (has c.before.before.before).month) at (sym c.before.part_in_range.ensures ∙ failed _ c.if-not-part_in_range.true))
 
 -- the day is
-returns-2 : tie.Need-returns-2
+returns-2 : tie.Need-returns-then-not-part_in_range-2
 unfolding date_in_range
 returns-2 c =
     let after-month = c.before.before.before in
     let fits = has after-month.before.before.before in
     rw (
       month after-month,
-      simp (to_z-of_z fits.day) at (sym c.before.part-in-range2.ensures ∙ failed _ c.if2.true),
+      simp (to_z-of_z fits.day) at (sym c.before.part_in_range-2.ensures ∙ failed _ c.if-not-part_in_range-2.true),
     )
 
 -- both are in range: the test whether the month has the day
-returns-3 : tie.Need-returns-3
+returns-3 : tie.Need-returns
 unfolding date_in_range
 returns-3 c =
     let after-day = c.before in
@@ -44,11 +44,11 @@ returns-3 c =
     let fits = has after-month.before.before.before in
     rw (
       month after-month,
-      simp (to_z-of_z fits.day) at (sym after-day.before.part-in-range2.ensures ∙ passed _ after-day.if2.false),
+      simp (to_z-of_z fits.day) at (sym after-day.before.part_in_range-2.ensures ∙ passed _ after-day.if-not-part_in_range-2.false),
     )
-    c.day-in-month.ensures
+    c.day_in_month.ensures
 
-pub date-in-range-spec : {M : Type 1} → statement M
-date-in-range-spec =
+pub date_in_range_spec : {M : Type 1} → statement M
+date_in_range_spec =
     tie.close
     (tie.spec (λ c κs. search rules) returns (λ c κs. search rules) returns-2 (λ c κs. search rules) returns-3)

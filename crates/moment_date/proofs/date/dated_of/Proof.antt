@@ -10,27 +10,27 @@ use Rattle.moment_date.proofs.date.dated_of.Statement.{statement}
 use Rattle.moment_date.proofs.date.dated_of.Tie as tie
 
 -- the year, the date after the week of the year, and the date after the week of the month, as the matches find them
-year : (c : tie.After-year-of) {v : Value} → c.year-of.result ≡ v → year_of c.before.args.f ≡ v
-year c e = sym c.year-of.ensures ∙ e
+year : (c : tie.After-year_of) {v : Value} → c.year_of.result ≡ v → year_of c.before.args.f ≡ v
+year c e = sym c.year_of.ensures ∙ e
 
-week : (c : tie.After-with-week) {v : Dated} → c.with-week.result ≡ v
+week : (c : tie.After-with_week) {v : Dated} → c.with_week.result ≡ v
     → let at-year = c.before.before.before.before in
-    let f = at-year.before.before.before.args.f in with_week f (with_julian f (begun f at-year.year.given.0.0)) ≡ v
+    let f = at-year.before.before.before.args.f in with_week f (with_julian f (begun f at-year.year-1.given.0.0)) ≡ v
 week c e =
     let after-julian = c.before in
     let after-begun = after-julian.before in
     let year-known = after-begun.before in
-    let year-back = back year-known.before.year.given.0.0 year-known.known-told.given.0.1 in
-    sym (simp (after-julian.with-julian.ensures, after-begun.begun.ensures, year-back) at c.with-week.ensures) ∙ e
+    let year-back = back year-known.before.year-1.given.0.0 year-known.known_told-1.given.0.1 in
+    sym (simp (after-julian.with_julian.ensures, after-begun.begun.ensures, year-back) at c.with_week.ensures) ∙ e
 
-month-week : (c : tie.After-with-month-week) {v : Dated} → c.with-month-week.result ≡ v
+month-week : (c : tie.After-with_month_week) {v : Dated} → c.with_month_week.result ≡ v
     → let at-date = c.before.before in
     let at-start = at-date.before.before.before.before.before.before.before.before.before in
-    with_month_week at-start.args.f at-date.r.given.0.0 ≡ v
-month-week c e = sym c.with-month-week.ensures ∙ e
+    with_month_week at-start.args.f at-date.r-1.given.0.0 ≡ v
+month-week c e = sym c.with_month_week.ensures ∙ e
 
 -- no step before the last was refused
-returns : tie.Need-returns
+returns : tie.Need-returns-in-Date-with_month_week
 unfolding dated_of
 returns c =
     let after-month = c.before in
@@ -41,16 +41,16 @@ returns c =
     let after-week = at-week.before.before in
     let at-year = after-week.before.before.before.before in
     simp (
-      year at-year.before.before at-year.year.given.1,
-      week after-week at-week.r.given.1,
-      month-week after-month-week at-month-week.r2.given.1,
-      c.with-day-of-year.ensures,
-      after-month.with-month.ensures,
-      after-day.with-day.ensures,
+      year at-year.before.before at-year.year-1.given.1,
+      week after-week at-week.r-1.given.1,
+      month-week after-month-week at-month-week.r-in-Date-with_month_week-1.given.1,
+      c.with_day_of_year.ensures,
+      after-month.with_month.ensures,
+      after-day.with_day.ensures,
     )
 
 -- the week of the month was refused
-returns-2 : tie.Need-returns-2
+returns-2 : tie.Need-returns-in-Refused-with_month_week
 unfolding dated_of
 returns-2 c =
     let refused = c.before in
@@ -59,27 +59,27 @@ returns-2 c =
     let after-week = at-week.before.before in
     let at-year = after-week.before.before.before.before in
     simp (
-      year at-year.before.before at-year.year.given.1,
-      week after-week at-week.r.given.1,
-      month-week after-month-week refused.why.given.1,
+      year at-year.before.before at-year.year-1.given.1,
+      week after-week at-week.r-1.given.1,
+      month-week after-month-week refused.why-1.given.1,
     )
 
 -- the week of the year was refused
-returns-3 : tie.Need-returns-3
+returns-3 : tie.Need-returns-in-Refused
 unfolding dated_of
 returns-3 c =
     let refused = c.before in
     let after-week = refused.before.before in
     let at-year = after-week.before.before.before.before in
-    simp (year at-year.before.before at-year.year.given.1, week after-week refused.why2.given.1)
+    simp (year at-year.before.before at-year.year-1.given.1, week after-week refused.why-in-Refused-with_week-1.given.1)
 
 -- the year was refused
-returns-4 : tie.Need-returns-4
+returns-4 : tie.Need-returns-in-Not
 unfolding dated_of
-returns-4 c = let refused = c.before in simp (year refused.before.before refused.why3.given.1)
+returns-4 c = let refused = c.before in simp (year refused.before.before refused.why-in-Not-1.given.1)
 
-pub dated-of-spec : {M : Type 1} → statement M
-dated-of-spec =
+pub dated_of_spec : {M : Type 1} → statement M
+dated_of_spec =
     tie.close
     (tie.spec
     (λ c κs. search rules)

@@ -14,13 +14,13 @@ use Rattle.moment_date.proofs.date.day_in_month.Statement.{statement}
 use Rattle.moment_date.proofs.date.day_in_month.Tie as tie
 
 -- not all three are set
-returns : tie.Need-returns
+returns : tie.Need-returns-then-r
 returns c =
-    let not-all : eqb c.before.before.args.r.set 7 ≡ false = ne_eqb _ _ c.if1.true in
+    let not-all : eqb c.before.before.args.r.set 7 ≡ false = ne_eqb _ _ c.if-r.true in
     simp not-all
 
 -- they are: the test of the day
-returns-2 : tie.Need-returns-2
+returns-2 : tie.Need-returns
 returns-2 c =
     let after-length = c.before.before in
     let after-leap = after-length.before.before in
@@ -28,14 +28,14 @@ returns-2 c =
     let at-start = All-set.before.before in
     let fits = fitting at-start.args.r _ at-start.well-formed.0 in
     simp (
-      eq-eqb _ _ All-set.if1.false,
+      eq-eqb _ _ All-set.if-r.false,
       to_z-of_z fits.day,
-      returned after-length.month-length.type-inv after-length.month-length.ensures,
+      returned after-length.month_length.type-inv after-length.month_length.ensures,
       to_z-of_z fits.month,
-      after-leap.pg-is-leap.ensures,
+      after-leap.pg_is_leap.ensures,
       to_z-of_z fits.year,
     )
     (not-above at-start.args.r.day _)
 
-pub day-in-month-spec : {M : Type 1} → statement M
-day-in-month-spec = tie.close (tie.spec returns (λ c κs. search rules) (λ c κs. search rules) returns-2)
+pub day_in_month_spec : {M : Type 1} → statement M
+day_in_month_spec = tie.close (tie.spec returns (λ c κs. search rules) (λ c κs. search rules) returns-2)

@@ -7,42 +7,42 @@ use Rattle.moment_date.proofs.date.day_of_week.Statement.{statement}
 use Rattle.moment_date.proofs.date.day_of_week.Tie as tie
 
 -- no weekday was read
-returns : tie.Need-returns
+returns : tie.Need-returns-then-d-eq0
 returns c =
     let fits = c.before.ranges in
-    simp (absent fits.d c.if1.true, to_z-of_z fits.monday)
+    simp (absent fits.d c.if-d-eq0.true, to_z-of_z fits.monday)
 
 -- Monday to Saturday
-returns-2 : tie.Need-returns-2
+returns-2 : tie.Need-returns-then-d-gt1
 returns-2 c =
     let after-sub = c.before in
     let not-sunday = after-sub.before in
     let fits = not-sunday.before.before.ranges in
     let weekday-back = to_z-of_z fits.d in
     simp (
-      present fits.d not-sunday.before.if1.false,
-      simp weekday-back at not-sunday.if2.true,
+      present fits.d not-sunday.before.if-d-eq0.false,
+      simp weekday-back at not-sunday.if-d-gt1.true,
       c.wrapping_add.ensures,
-      after-sub.wrapping-sub.ensures,
+      after-sub.wrapping_sub.ensures,
       wrap-back,
       weekday-back,
       to_z-of_z fits.monday,
     )
 
 -- Sunday
-returns-3 : tie.Need-returns-3
+returns-3 : tie.Need-returns
 returns-3 c =
     let sunday = c.before in
     let fits = sunday.before.before.ranges in
     simp (
-      present fits.d sunday.before.if1.false,
-      simp (to_z-of_z fits.d) at sunday.if2.false,
-      c.wrapping-add2.ensures,
+      present fits.d sunday.before.if-d-eq0.false,
+      simp (to_z-of_z fits.d) at sunday.if-d-gt1.false,
+      c.wrapping_add-2.ensures,
       wrap-back,
       to_z-of_z fits.monday,
     )
 
-pub day-of-week-spec : {M : Type 1} → statement M
-day-of-week-spec =
+pub day_of_week_spec : {M : Type 1} → statement M
+day_of_week_spec =
     tie.close
     (tie.spec returns (λ c κs. search rules) (λ c κs. search rules) returns-2 (λ c κs. search rules) returns-3)

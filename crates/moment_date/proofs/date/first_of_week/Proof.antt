@@ -11,11 +11,11 @@ returns c =
     let after-mul = c.before in
     let after-add = after-mul.before in
     simp (
-      c.checked-add2.ensures,
-      after-mul.checked-mul.ensures,
-      after-add.checked-add.ensures,
+      c.checked_add-2.ensures,
+      after-mul.checked_mul.ensures,
+      after-add.checked_add.ensures,
       to_z-of_z after-add.before.ranges.week,
     )
 
-pub first-of-week-spec : {M : Type 1} → statement M
-first-of-week-spec = tie.close (tie.spec (λ c κs. search rules) (λ c κs. search rules) (λ c κs. search rules) returns)
+pub first_of_week_spec : {M : Type 1} → statement M
+first_of_week_spec = tie.close (tie.spec (λ c κs. search rules) (λ c κs. search rules) (λ c κs. search rules) returns)

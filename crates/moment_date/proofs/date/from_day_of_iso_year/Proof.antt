@@ -16,14 +16,14 @@ returns c =
     simp (
       c.whole.ensures,
       after-add.wrapping_add.ensures,
-      after-sub.wrapping-sub.ensures,
+      after-sub.wrapping_sub-before.ensures,
       wrap-back,
-      returned after-week.pg-isoweek2j.type-inv after-week.pg-isoweek2j.ensures,
+      returned after-week.pg_isoweek2j.type-inv after-week.pg_isoweek2j.ensures,
       to_z-of_z fits.ddd,
       to_z-of_z fits.year,
     )
 
-pub from-day-of-iso-year-spec : {M : Type 1} → statement M
-from-day-of-iso-year-spec =
+pub from_day_of_iso_year_spec : {M : Type 1} → statement M
+from_day_of_iso_year_spec =
     tie.close
     (tie.spec (λ c κs. search rules) (λ c κs. search rules) (λ c κs. search rules) (λ c κs. search rules) returns)

@@ -19,13 +19,13 @@ returns c =
     let at-start = after-leap.before.before in
     let fits = fitting at-start.args.r _ at-start.well-formed.0 in
     simp (
-      returned after-day.above-one2.type-inv after-day.above-one2.ensures,
-      returned after-month.above-one.type-inv after-month.above-one.ensures,
-      after-sub.wrapping-sub.ensures,
+      returned after-day.above_one-2.type-inv after-day.above_one-2.ensures,
+      returned after-month.above_one.type-inv after-month.above_one.ensures,
+      after-sub.wrapping_sub-day.ensures,
       wrap-back,
-      returned after-days-before.days-before.type-inv after-days-before.days-before.ensures,
-      returned after-month-of-day.month-of-day.type-inv after-month-of-day.month-of-day.ensures,
-      after-leap.pg-is-leap.ensures,
+      returned after-days-before.days_before.type-inv after-days-before.days_before.ensures,
+      returned after-month-of-day.month_of_day-month.type-inv after-month-of-day.month_of_day-month.ensures,
+      after-leap.pg_is_leap-leap.ensures,
       to_z-of_z fits.year,
       to_z-of_z fits.month,
       to_z-of_z fits.day,
@@ -33,8 +33,8 @@ returns c =
       to_z-of_z fits.ddd,
     )
 
-pub from-day-of-year-spec : {M : Type 1} → statement M
-from-day-of-year-spec =
+pub from_day_of_year_spec : {M : Type 1} → statement M
+from_day_of_year_spec =
     tie.close
     (tie.spec
     (λ c κs. search rules)

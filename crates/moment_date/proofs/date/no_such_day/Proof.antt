@@ -13,31 +13,31 @@ use Rattle.moment_date.proofs.date.no_such_day.Statement.{statement}
 use Rattle.moment_date.proofs.date.no_such_day.Tie as tie
 
 -- the switch is off
-returns : tie.Need-returns
-returns c = rw (failed c.before.args.strict c.if1.true)
+returns : tie.Need-returns-then-not-strict
+returns c = rw (failed c.before.args.strict c.if-not-strict.true)
 
 -- other marks than those of month and day
-returns-2 : tie.Need-returns-2
+returns-2 : tie.Need-returns-then-set
 unfolding no_such_day
 returns-2 c =
     let at-start = c.before.before.args in
-    let others : eqb at-start.set 6 ≡ false = ne_eqb _ _ c.if2.true in
-    rw (passed at-start.strict c.before.if1.false, others)
+    let others : eqb at-start.set 6 ≡ false = ne_eqb _ _ c.if-set.true in
+    rw (passed at-start.strict c.before.if-not-strict.false, others)
 
 -- these two: the test of the day
-returns-3 : tie.Need-returns-3
+returns-3 : tie.Need-returns
 unfolding no_such_day
 returns-3 c =
     let two-set = c.before in
     let at-start = two-set.before.before in
     let fits = at-start.ranges in
     simp (
-      passed at-start.args.strict two-set.before.if1.false,
-      eq-eqb _ _ two-set.if2.false,
+      passed at-start.args.strict two-set.before.if-not-strict.false,
+      eq-eqb _ _ two-set.if-set.false,
       to_z-of_z fits.day,
-      returned c.month-length.type-inv c.month-length.ensures,
+      returned c.month_length.type-inv c.month_length.ensures,
       to_z-of_z fits.month,
     )
 
-pub no-such-day-spec : {M : Type 1} → statement M
-no-such-day-spec = tie.close (tie.spec returns returns-2 (λ c κs. search rules) returns-3)
+pub no_such_day_spec : {M : Type 1} → statement M
+no_such_day_spec = tie.close (tie.spec returns returns-2 (λ c κs. search rules) returns-3)

@@ -6,27 +6,27 @@ use Rattle.moment_date.proofs.date.part_in_range.Statement.{statement}
 use Rattle.moment_date.proofs.date.part_in_range.Tie as tie
 
 -- the part is not set
-returns : tie.Need-returns
-returns c = simp (eq-eqb _ _ c.if1.true)
+returns : tie.Need-returns-then-set-bit-eq0
+returns c = simp (eq-eqb _ _ c.if-set-bit-eq0.true)
 
 -- it is below 1
-returns-2 : tie.Need-returns-2
+returns-2 : tie.Need-returns-then-value-lt1
 returns-2 c =
     let fits = c.before.before.ranges in
-    simp (ne_eqb _ _ c.before.if1.false, simp (to_z-of_z fits.value) at c.if2.true)
+    simp (ne_eqb _ _ c.before.if-set-bit-eq0.false, simp (to_z-of_z fits.value) at c.if-value-lt1.true)
 
 -- it is not: the test of the limit
-returns-3 : tie.Need-returns-3
+returns-3 : tie.Need-returns
 returns-3 c =
     let at-start = c.before.before in
     let value-back = to_z-of_z at-start.ranges.value in
     simp (
-      ne_eqb _ _ c.before.if1.false,
-      simp value-back at c.if2.false,
+      ne_eqb _ _ c.before.if-set-bit-eq0.false,
+      simp value-back at c.if-value-lt1.false,
       value-back,
       to_z-of_z at-start.ranges.limit,
     )
     (not-above at-start.args.value at-start.args.limit)
 
-pub part-in-range-spec : {M : Type 1} → statement M
-part-in-range-spec = tie.close (tie.spec returns returns-2 returns-3)
+pub part_in_range_spec : {M : Type 1} → statement M
+part_in_range_spec = tie.close (tie.spec returns returns-2 returns-3)

@@ -10,21 +10,21 @@ has : (c : tie.Start) → Fitting c.args.r
 has c = fitting c.args.r _ c.well-formed.0
 
 -- no day of the month was read
-returns : tie.Need-returns
-returns c = simp (absent (has c.before.before.before).dd c.if1.true)
+returns : tie.Need-returns-then-r-eq0
+returns c = simp (absent (has c.before.before.before).dd c.if-r-eq0.true)
 
 -- one was
-returns-2 : tie.Need-returns-2
+returns-2 : tie.Need-returns
 returns-2 c =
     let has-day = c.before.before.before.before.before.before in
     let fits = has has-day.before.before.before in
     simp (
-      present fits.dd has-day.if1.false,
+      present fits.dd has-day.if-r-eq0.false,
       to_z-of_z fits.year,
       to_z-of_z fits.month,
       to_z-of_z fits.dd,
       to_z-of_z fits.ddd,
     )
 
-pub with-day-spec : {M : Type 1} → statement M
-with-day-spec = tie.close (tie.spec returns returns-2)
+pub with_day_spec : {M : Type 1} → statement M
+with_day_spec = tie.close (tie.spec returns returns-2)

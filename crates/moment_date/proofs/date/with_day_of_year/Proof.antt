@@ -14,24 +14,24 @@ has : (c : tie.Start) → Known c.args.t1
 has c = known c.args.t1 _ c.well-formed.0
 
 -- past the first test the day of the year counts, past the second there is a year
-counts : (c : tie.Else1) → counts_day_of_year c.before.before.args.r ≡ true
-counts c = sym c.before.counts-day-of-year.ensures ∙ passed _ c.if1.false
+counts : (c : tie.Else-not-counts_day_of_year) → counts_day_of_year c.before.before.args.r ≡ true
+counts c = sym c.before.counts_day_of_year.ensures ∙ passed _ c.if-not-counts_day_of_year.false
 
-has-year : (c : tie.Else2) → let args = c.before.before.before.before.args in lacks_year args.t1 args.r ≡ false
-has-year c = sym c.before.lacks-year.ensures ∙ c.if2.false
+has-year : (c : tie.Else-lacks_year) → let args = c.before.before.before.before.args in lacks_year args.t1 args.r ≡ false
+has-year c = sym c.before.lacks_year.ensures ∙ c.if-lacks_year.false
 
 -- the day of the year does not count
-returns : tie.Need-returns
+returns : tie.Need-returns-then-not-counts_day_of_year
 unfolding with_day_of_year
-returns c = simp (sym c.before.counts-day-of-year.ensures ∙ failed _ c.if1.true)
+returns c = simp (sym c.before.counts_day_of_year.ensures ∙ failed _ c.if-not-counts_day_of_year.true)
 
 -- there is no year
-returns-2 : tie.Need-returns-2
+returns-2 : tie.Need-returns-then-lacks_year
 unfolding with_day_of_year
-returns-2 c = simp (counts c.before.before, sym c.before.lacks-year.ensures ∙ c.if2.true)
+returns-2 c = simp (counts c.before.before, sym c.before.lacks_year.ensures ∙ c.if-lacks_year.true)
 
 -- of an ISO year
-returns-3 : tie.Need-returns-3
+returns-3 : tie.Need-returns-then-f-eq-ISO_WEEKS
 unfolding with_day_of_year
 returns-3 c =
     let at-mode = c.before in
@@ -40,12 +40,12 @@ returns-3 c =
     simp (
       counts after-counts,
       has-year after-year,
-      equal (lit< tt) ((has after-counts.before.before).fits mode) at-mode.if3.true,
-      c.from-day-of-iso-year.ensures,
+      equal (lit< tt) ((has after-counts.before.before).fits mode) at-mode.if-f-eq-ISO_WEEKS.true,
+      c.from_day_of_iso_year.ensures,
     )
 
 -- of a Gregorian year
-returns-4 : tie.Need-returns-4
+returns-4 : tie.Need-returns
 unfolding with_day_of_year
 returns-4 c =
     let at-mode = c.before in
@@ -54,12 +54,12 @@ returns-4 c =
     simp (
       counts after-counts,
       has-year after-year,
-      unequal ((has after-counts.before.before).fits mode) at-mode.if3.false,
-      c.from-day-of-year.ensures,
+      unequal ((has after-counts.before.before).fits mode) at-mode.if-f-eq-ISO_WEEKS.false,
+      c.from_day_of_year.ensures,
     )
 
-pub with-day-of-year-spec : {M : Type 1} → statement M
-with-day-of-year-spec =
+pub with_day_of_year_spec : {M : Type 1} → statement M
+with_day_of_year_spec =
     tie.close
     (tie.spec
     (λ c κs. search rules)

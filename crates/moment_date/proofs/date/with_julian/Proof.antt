@@ -11,16 +11,16 @@ has : (c : tie.Start) → Known c.args.t1
 has c = known c.args.t1 _ c.well-formed.0
 
 -- no Julian day was read
-returns : tie.Need-returns
+returns : tie.Need-returns-then-j-eq0
 unfolding with_julian
-returns c = simp (absent ((has c.before.before).fits j) c.if1.true)
+returns c = simp (absent ((has c.before.before).fits j) c.if-j-eq0.true)
 
 -- one was
-returns-2 : tie.Need-returns-2
+returns-2 : tie.Need-returns
 unfolding with_julian
 returns-2 c =
     let fields = has c.before.before.before in
-    simp (present (fields.fits j) c.before.if1.false, c.whole.ensures, fields.back)
+    simp (present (fields.fits j) c.before.if-j-eq0.false, c.whole.ensures, fields.back)
 
-pub with-julian-spec : {M : Type 1} → statement M
-with-julian-spec = tie.close (tie.spec (λ c. search rules) returns (λ c κs. search rules) returns-2)
+pub with_julian_spec : {M : Type 1} → statement M
+with_julian_spec = tie.close (tie.spec (λ c. search rules) returns (λ c κs. search rules) returns-2)

@@ -13,18 +13,18 @@ has : (c : tie.Start) → Known c.args.t1
 has c = known c.args.t1 _ c.well-formed.0
 
 -- no month was read
-returns : tie.Need-returns
-returns c = simp (absent ((has c.before.before).fits mm) c.if1.true)
+returns : tie.Need-returns-then-month-eq0
+returns c = simp (absent ((has c.before.before).fits mm) c.if-month-eq0.true)
 
 -- one was
-returns-2 : tie.Need-returns-2
+returns-2 : tie.Need-returns
 returns-2 c =
     let has-month = c.before.before.before.before.before in
     let at-start = has-month.before.before in
     let fields = has at-start in
     let fits = fitting at-start.args.r _ at-start.well-formed.1.0 in
     simp (
-      present (fields.fits mm) has-month.if1.false,
+      present (fields.fits mm) has-month.if-month-eq0.false,
       fields.back,
       to_z-of_z fits.year,
       to_z-of_z fits.day,
@@ -32,5 +32,5 @@ returns-2 c =
       to_z-of_z fits.ddd,
     )
 
-pub with-month-spec : {M : Type 1} → statement M
-with-month-spec = tie.close (tie.spec (λ c. search rules) returns returns-2)
+pub with_month_spec : {M : Type 1} → statement M
+with_month_spec = tie.close (tie.spec (λ c. search rules) returns returns-2)

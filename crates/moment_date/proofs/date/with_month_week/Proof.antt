@@ -17,16 +17,16 @@ has : (c : tie.Start) → Known c.args.t1
 has c = known c.args.t1 _ c.well-formed.0
 
 -- the first day of the week, as the match found it
-first : (c : tie.After-first-of-week) {v : Value} → c.first-of-week.result ≡ v → first_of_week (get c.before.before.before.args.t1 w) ≡ v
-first c e = sym (simp (has c.before.before.before).back at c.first-of-week.ensures) ∙ e
+first : (c : tie.After-first_of_week) {v : Value} → c.first_of_week.result ≡ v → first_of_week (get c.before.before.before.args.t1 w) ≡ v
+first c e = sym (simp (has c.before.before.before).back at c.first_of_week.ensures) ∙ e
 
 -- no week was read
-returns : tie.Need-returns
+returns : tie.Need-returns-then-week-eq0
 unfolding with_month_week
-returns c = simp (absent ((has c.before.before).fits w) c.if1.true)
+returns c = simp (absent ((has c.before.before).fits w) c.if-week-eq0.true)
 
 -- its first day
-returns-2 : tie.Need-returns-2
+returns-2 : tie.Need-returns-in-Is
 unfolding with_month_week
 returns-2 c =
     let day-known = c.before.before.before.before in
@@ -36,9 +36,9 @@ returns-2 c =
     let at-start = has-week.before.before in
     let fits = fitting at-start.args.r _ at-start.well-formed.1.0 in
     simp (
-      present ((has at-start).ranges w) has-week.if1.false,
-      first after_first at-day.dd.given.1,
-      back at-day.dd.given.0.0 day-known.known-told.given.0.1,
+      present ((has at-start).ranges w) has-week.if-week-eq0.false,
+      first after_first at-day.dd-1.given.1,
+      back at-day.dd-1.given.0.0 day-known.known_told-1.given.0.1,
       to_z-of_z fits.year,
       to_z-of_z fits.month,
       to_z-of_z fits.day,
@@ -46,18 +46,18 @@ returns-2 c =
     )
 
 -- the first day was refused
-returns-3 : tie.Need-returns-3
+returns-3 : tie.Need-returns-in-Not
 unfolding with_month_week
 returns-3 c =
     let refused = c.before in
     let after_first = refused.before.before in
     let has-week = after_first.before in
     simp (
-      present ((has has-week.before.before).fits w) has-week.if1.false,
-      first after_first refused.why.given.1,
+      present ((has has-week.before.before).fits w) has-week.if-week-eq0.false,
+      first after_first refused.why-1.given.1,
     )
 
-pub with-month-week-spec : {M : Type 1} → statement M
-with-month-week-spec =
+pub with_month_week_spec : {M : Type 1} → statement M
+with_month_week_spec =
     tie.close
     (tie.spec (λ c. search rules) returns (λ c κs. search rules) (λ c. search rules) (λ c. search rules) returns-2 returns-3)

@@ -18,20 +18,20 @@ use Rattle.moment_date.proofs.date.with_week.Tie as tie
 has : (c : tie.Start) → Known c.args.t1
 has c = known c.args.t1 _ c.well-formed.0
 
-abbrev start : tie.After-first-of-week → tie.Start
+abbrev start : tie.After-first_of_week → tie.Start
 start c = c.before.before.before.before.before
 
 -- the first day of the week, as the match found it
-first : (c : tie.After-first-of-week) {v : Value} → c.first-of-week.result ≡ v → first_of_week (get (start c).args.t1 ww) ≡ v
-first c e = sym (simp (has (start c)).back at c.first-of-week.ensures) ∙ e
+first : (c : tie.After-first_of_week) {v : Value} → c.first_of_week.result ≡ v → first_of_week (get (start c).args.t1 ww) ≡ v
+first c e = sym (simp (has (start c)).back at c.first_of_week.ensures) ∙ e
 
 -- no week was read
-returns : tie.Need-returns
+returns : tie.Need-returns-then-week-eq0
 unfolding with_week
-returns c = simp (absent ((has c.before.before).fits ww) c.if1.true)
+returns c = simp (absent ((has c.before.before).fits ww) c.if-week-eq0.true)
 
 -- the date of a day of an ISO week
-returns-2 : tie.Need-returns-2
+returns-2 : tie.Need-returns-then-f-eq-ISO_WEEKS
 unfolding with_week
 returns-2 c =
     let after-day = c.before in
@@ -41,17 +41,17 @@ returns-2 c =
     let at-start = has-week.before.before in
     let fields = has at-start in
     simp (
-      present (fields.fits ww) has-week.if1.false,
-      equal (lit< tt) (fields.fits mode) iso-weeks.if2.true,
+      present (fields.fits ww) has-week.if-week-eq0.false,
+      equal (lit< tt) (fields.fits mode) iso-weeks.if-f-eq-ISO_WEEKS.true,
       c.whole.ensures,
-      returned after-day.day-of-week.type-inv after-day.day-of-week.ensures,
-      returned after-monday.pg-isoweek2j.type-inv after-monday.pg-isoweek2j.ensures,
+      returned after-day.day_of_week.type-inv after-day.day_of_week.ensures,
+      returned after-monday.pg_isoweek2j-monday.type-inv after-monday.pg_isoweek2j-monday.ensures,
       fields.back,
       to_z-of_z (fitting at-start.args.r _ at-start.well-formed.1.0).year,
     )
 
 -- the first day of another week
-returns-3 : tie.Need-returns-3
+returns-3 : tie.Need-returns-in-Is
 unfolding with_week
 returns-3 c =
     let day-known = c.before.before.before.before in
@@ -63,10 +63,10 @@ returns-3 c =
     let fields = has at-start in
     let fits = fitting at-start.args.r _ at-start.good.1.0 in
     simp (
-      present (fields.fits ww) has-week.if1.false,
-      unequal (fields.fits mode) other-weeks.if2.false,
-      first after_first at-day.ddd.given.1,
-      back at-day.ddd.given.0.0 day-known.known-told.given.0.1,
+      present (fields.fits ww) has-week.if-week-eq0.false,
+      unequal (fields.fits mode) other-weeks.if-f-eq-ISO_WEEKS.false,
+      first after_first at-day.ddd-1.given.1,
+      back at-day.ddd-1.given.0.0 day-known.known_told-1.given.0.1,
       to_z-of_z fits.year,
       to_z-of_z fits.month,
       to_z-of_z fits.day,
@@ -74,7 +74,7 @@ returns-3 c =
     )
 
 -- that day was refused
-returns-4 : tie.Need-returns-4
+returns-4 : tie.Need-returns-in-Not
 unfolding with_week
 returns-4 c =
     let refused = c.before in
@@ -83,13 +83,13 @@ returns-4 c =
     let has-week = other-weeks.before.before in
     let fields = has (start after_first) in
     simp (
-      present (fields.fits ww) has-week.if1.false,
-      unequal (fields.fits mode) other-weeks.if2.false,
-      first after_first refused.why.given.1,
+      present (fields.fits ww) has-week.if-week-eq0.false,
+      unequal (fields.fits mode) other-weeks.if-f-eq-ISO_WEEKS.false,
+      first after_first refused.why-1.given.1,
     )
 
-pub with-week-spec : {M : Type 1} → statement M
-with-week-spec =
+pub with_week_spec : {M : Type 1} → statement M
+with_week_spec =
     tie.close
     (tie.spec
     (λ c. search rules)

@@ -10,22 +10,22 @@ has : (c : tie.Start) → Known c.args.t1
 has c = known c.args.t1 _ c.well-formed.0
 
 -- a year was read
-returns : tie.Need-returns
-returns c = simp (present ((has c.before.before).fits year) c.if1.true)
+returns : tie.Need-returns-then-f-ne0
+returns c = simp (present ((has c.before.before).fits year) c.if-f-ne0.true)
 
 -- a century alone
-returns-2 : tie.Need-returns-2
+returns-2 : tie.Need-returns-then-f-ne0-2
 returns-2 c =
     let no-year = c.before.before in
     let fields = has no-year.before.before in
-    simp (absent (fields.fits year) no-year.if1.false, present (fields.fits cc) c.if2.true)
+    simp (absent (fields.fits year) no-year.if-f-ne0.false, present (fields.fits cc) c.if-f-ne0-2.true)
 
 -- neither
-returns-3 : tie.Need-returns-3
+returns-3 : tie.Need-returns
 returns-3 c =
     let no-year = c.before.before in
     let fields = has no-year.before.before in
-    simp (absent (fields.fits year) no-year.if1.false, absent (fields.fits cc) c.if2.false)
+    simp (absent (fields.fits year) no-year.if-f-ne0.false, absent (fields.fits cc) c.if-f-ne0-2.false)
 
-pub year-mask-spec : {M : Type 1} → statement M
-year-mask-spec = tie.close (tie.spec (λ c. search rules) returns (λ c. search rules) returns-2 returns-3)
+pub year_mask_spec : {M : Type 1} → statement M
+year_mask_spec = tie.close (tie.spec (λ c. search rules) returns (λ c. search rules) returns-2 returns-3)

@@ -11,92 +11,92 @@ use Rattle.moment_instants.proofs.epoch.added.Statement.{statement}
 use Rattle.moment_instants.proofs.epoch.added.Tie as tie
 
 -- b is positive
-module _ (c : tie.Then1) where
+module _ (c : tie.Then-b-gt0) where
   up : lt_z (pos 0) c.before.args.b ≡ true
-  up = rw (to_z-of_z c.before.ranges.b) at c.if1.true
+  up = rw (to_z-of_z c.before.ranges.b) at c.if-b-gt0.true
 
   room-above : SFits w64 (last -ℤ c.before.args.b)
   room-above = above-fits c.before.args.a c.before.args.b c.before.ranges.a c.before.ranges.b up
 
 -- the sum is not past the last number, and fits
-not-over : (c : tie.Else2) → lt_z (last -ℤ c.before.before.args.b) c.before.before.args.a ≡ false
+not-over : (c : tie.Else-b-a) → lt_z (last -ℤ c.before.before.args.b) c.before.before.args.a ≡ false
 not-over c =
     let at-start = c.before.before in
-    simp (to_z-of_z at-start.ranges.a, to_z-of_z at-start.ranges.b, to_z-of_z (room-above c.before)) at c.if2.false
+    simp (to_z-of_z at-start.ranges.a, to_z-of_z at-start.ranges.b, to_z-of_z (room-above c.before)) at c.if-b-a.false
 
-sum-above : (c : tie.Else2) → SFits w64 (c.before.before.args.a +ℤ c.before.before.args.b)
+sum-above : (c : tie.Else-b-a) → SFits w64 (c.before.before.args.a +ℤ c.before.before.args.b)
 sum-above c = let at-start = c.before.before in up_fits at-start.args.a at-start.args.b at-start.ranges.a at-start.ranges.b (up c.before) (not-over c)
 
 -- b is not positive
-module _ (c : tie.Else1) where
+module _ (c : tie.Else-b-gt0) where
   down : lt_z (pos 0) c.before.args.b ≡ false
-  down = rw (to_z-of_z c.before.ranges.b) at c.if1.false
+  down = rw (to_z-of_z c.before.ranges.b) at c.if-b-gt0.false
 
   room-below : SFits w64 (first -ℤ c.before.args.b)
   room-below = below-fits c.before.args.a c.before.args.b c.before.ranges.a c.before.ranges.b down
 
 -- the sum is not before the first number, and fits
-not-under : (c : tie.Else3) → lt_z c.before.before.args.a (first -ℤ c.before.before.args.b) ≡ false
+not-under : (c : tie.Else-a-b) → lt_z c.before.before.args.a (first -ℤ c.before.before.args.b) ≡ false
 not-under c =
     let at-start = c.before.before in
-    simp (to_z-of_z at-start.ranges.a, to_z-of_z at-start.ranges.b, to_z-of_z (room-below c.before)) at c.if3.false
+    simp (to_z-of_z at-start.ranges.a, to_z-of_z at-start.ranges.b, to_z-of_z (room-below c.before)) at c.if-a-b.false
 
-sum_below : (c : tie.Else3) → SFits w64 (c.before.before.args.a +ℤ c.before.before.args.b)
+sum_below : (c : tie.Else-a-b) → SFits w64 (c.before.before.args.a +ℤ c.before.before.args.b)
 sum_below c = let at-start = c.before.before in down_fits at-start.args.a at-start.args.b at-start.ranges.a at-start.ranges.b (down c.before) (not-under c)
 
 -- the difference that is compared fits 64 bits
-sub-if2 : tie.Need-overflow-sub-if2
+sub-if2 : tie.Need-overflow_sub-b
 sub-if2 c = rw (to_z-of_z c.before.ranges.b) (room-above c)
 
 -- b is positive, and the sum is past the last number
-returns : tie.Need-returns
+returns : tie.Need-returns-then-b-a
 returns c =
     let at-start = c.before.before in
     over at-start.args.a at-start.args.b at-start.ranges.a at-start.ranges.b (up c.before)
-    (simp (to_z-of_z at-start.ranges.a, to_z-of_z at-start.ranges.b, to_z-of_z (room-above c.before)) at c.if2.true)
+    (simp (to_z-of_z at-start.ranges.a, to_z-of_z at-start.ranges.b, to_z-of_z (room-above c.before)) at c.if-b-a.true)
 
-add-t4 : tie.Need-overflow-add-t4
+add-t4 : tie.Need-overflow_add-result
 add-t4 c = let at-start = c.before.before in rw (to_z-of_z at-start.ranges.a, to_z-of_z at-start.ranges.b) (sum-above c)
 
 -- b is positive, and the sum is in range
-returns-2 : tie.Need-returns-2
+returns-2 : tie.Need-returns-then-b-gt0
 returns-2 c =
     let at-start = c.before.before in
     rw (to_z-of_z at-start.ranges.a, to_z-of_z at-start.ranges.b, to_z-of_z (sum-above c))
     (up-within at-start.args.a at-start.args.b at-start.ranges.a at-start.ranges.b (up c.before) (not-over c))
 
 -- the difference that is compared fits 64 bits
-sub-if3 : tie.Need-overflow-sub-if3
+sub-if3 : tie.Need-overflow_sub-b-2
 sub-if3 c = rw (to_z-of_z c.before.ranges.b) (room-below c)
 
 -- b is not positive, and the sum is before the first number
-returns-3 : tie.Need-returns-3
+returns-3 : tie.Need-returns-then-a-b
 returns-3 c =
     let at-start = c.before.before in
     under at-start.args.a at-start.args.b at-start.ranges.a at-start.ranges.b (down c.before)
-    (simp (to_z-of_z at-start.ranges.a, to_z-of_z at-start.ranges.b, to_z-of_z (room-below c.before)) at c.if3.true)
+    (simp (to_z-of_z at-start.ranges.a, to_z-of_z at-start.ranges.b, to_z-of_z (room-below c.before)) at c.if-a-b.true)
 
-add-if4 : tie.Need-overflow-add-if4
+add-if4 : tie.Need-overflow_add-a
 add-if4 c = let at-start = c.before.before in rw (to_z-of_z at-start.ranges.a, to_z-of_z at-start.ranges.b) (sum_below c)
 
 -- b is 0, and a is the end past the last number
-returns-4 : tie.Need-returns-4
+returns-4 : tie.Need-returns-then-a-b-gt-LAST
 returns-4 c =
     let at-start = c.before.before.before in
     too-late (at-start.args.a +ℤ at-start.args.b)
-    (simp (to_z-of_z at-start.ranges.a, to_z-of_z at-start.ranges.b, to_z-of_z (sum_below c.before)) at c.if4.true)
+    (simp (to_z-of_z at-start.ranges.a, to_z-of_z at-start.ranges.b, to_z-of_z (sum_below c.before)) at c.if-a-b-gt-LAST.true)
 
-add-t7 : tie.Need-overflow-add-t7
+add-t7 : tie.Need-overflow_add-result-2
 add-t7 c = let at-start = c.before.before.before in rw (to_z-of_z at-start.ranges.a, to_z-of_z at-start.ranges.b) (sum_below c.before)
 
 -- b is not positive, and the sum is in range
-returns-5 : tie.Need-returns-5
+returns-5 : tie.Need-returns
 returns-5 c =
     let at-start = c.before.before.before in
-    let not_late = simp (to_z-of_z at-start.ranges.a, to_z-of_z at-start.ranges.b, to_z-of_z (sum_below c.before)) at c.if4.false in
+    let not_late = simp (to_z-of_z at-start.ranges.a, to_z-of_z at-start.ranges.b, to_z-of_z (sum_below c.before)) at c.if-a-b-gt-LAST.false in
     rw (to_z-of_z at-start.ranges.a, to_z-of_z at-start.ranges.b, to_z-of_z (sum_below c.before))
     (down-within at-start.args.a at-start.args.b at-start.ranges.a at-start.ranges.b (down c.before.before) (not-under c.before) not_late)
 
-pub added-spec : {M : Type 1} → statement M
-added-spec =
+pub added_spec : {M : Type 1} → statement M
+added_spec =
     tie.close (tie.spec sub-if2 returns add-t4 returns-2 sub-if3 returns-3 add-if4 returns-4 add-t7 returns-5)

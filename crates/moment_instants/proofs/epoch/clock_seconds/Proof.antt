@@ -22,8 +22,8 @@ module _ (c : tie.Start) where
   clock : SFits w64 (c.args.hour *ℤ pos 3600 +ℤ c.args.minute *ℤ pos 60 +ℤ c.args.second)
   clock = clock-fits c.ranges.hour c.ranges.minute c.ranges.second
 
-pub clock-seconds-spec : {M : Type 1} → statement M
-clock-seconds-spec =
+pub clock_seconds_spec : {M : Type 1} → statement M
+clock_seconds_spec =
     tie.close
     (tie.spec
     (λ c. wide_fits c.ranges.hour)

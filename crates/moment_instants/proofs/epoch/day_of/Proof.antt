@@ -15,40 +15,40 @@ use Rattle.moment_instants.proofs.epoch.day_of.Statement.{statement}
 use Rattle.moment_instants.proofs.epoch.day_of.Tie as tie
 
 -- what the call gives is the days of the parts
-days-are : (c : tie.After-days-of) → to_z w64 (of_z w64 c.days-of.result) ≡ days c.before.args.p
-days-are c = returned c.days-of.type-inv c.days-of.ensures
+days-are : (c : tie.After-days_of-days) → to_z w64 (of_z w64 c.days_of-days.result) ≡ days c.before.args.p
+days-are c = returned c.days_of-days.type-inv c.days_of-days.ensures
 
 -- both tests passed
-module _ (c : tie.Then2) where
+module _ (c : tie.Then-days-lt2147483647) where
   abbrev n : ℤ
   n = days c.before.before.before.args.p
 
   low : lt_z (negsuc 2147483647) n ≡ true
-  low = rw (days-are c.before.before) at c.before.if1.true
+  low = rw (days-are c.before.before) at c.before.if-days-gtminus2147483648.true
 
   high : lt_z n (pos 2147483647) ≡ true
-  high = rw (days-are c.before.before) at c.if2.true
+  high = rw (days-are c.before.before) at c.if-days-lt2147483647.true
 
   fits : SFits w32 n
   fits = day-fits n low high
 
 -- the day's number
-returns : tie.Need-returns
+returns : tie.Need-returns-then-days-lt2147483647
 unfolding day_of
 returns c = rw (days-are c.before.before, to_z-of_z (fits c), low c, high c)
 
 -- the day is too late
-returns-2 : tie.Need-returns-2
+returns-2 : tie.Need-returns-else-days-lt2147483647
 unfolding day_of
 returns-2 c =
     let days-known = days-are c.before.before in
-    rw (rw days-known at c.before.if1.true, rw days-known at c.if2.false)
+    rw (rw days-known at c.before.if-days-gtminus2147483648.true, rw days-known at c.if-days-lt2147483647.false)
 
 -- the day is too early
-returns-3 : tie.Need-returns-3
+returns-3 : tie.Need-returns-else-days-gtminus2147483648
 unfolding day_of
-returns-3 c = rw (rw (days-are c.before) at c.if1.false)
+returns-3 c = rw (rw (days-are c.before) at c.if-days-gtminus2147483648.false)
 
-pub day-of-spec : {M : Type 1} → statement M
-day-of-spec =
+pub day_of_spec : {M : Type 1} → statement M
+day_of_spec =
     tie.close (tie.spec (λ c κs. search rules) (λ c. rw (days-are c.before.before) (fits c)) returns returns-2 returns-3)

@@ -13,34 +13,34 @@ use Rattle.moment_instants.proofs.epoch.less_offset.Statement.{statement}
 use Rattle.moment_instants.proofs.epoch.less_offset.Tie as tie
 
 -- the offset fits 32 bits
-east : (c : tie.After-known-told) → SFits w32 c.before.offset.given.0.0
+east : (c : tie.In-East) → SFits w32 c.before.offset-1.given.0.0
 east c = search rules
 
 -- no offset: nothing is added
-returns : tie.Need-returns
+returns : tie.Need-returns-in-Absent
 unfolding less_offset
 returns c =
     let at-start = c.before.before.before in
-    rw c.before.enum_told.given.1 (simp (to_z-of_z at-start.ranges.wall, +ℤ_idr) at c.added.ensures)
+    rw c.before.enum_told-1.given.1 (simp (to_z-of_z at-start.ranges.wall, +ℤ_idr) at c.added.ensures)
 
 -- an offset: its negative is added
-returns-2 : tie.Need-returns-2
+returns-2 : tie.Need-returns-in-East
 unfolding less_offset
 returns-2 c =
     let at_offset = c.before in
     let at-start = at_offset.before.before.before in
-    rw at_offset.before.offset.given.1
-    (simp (to_z-of_z at-start.ranges.wall, wide (east at_offset), to_z-of_z (offset-fits (east at_offset)), +ℤ_idl, to_z-of_z (less-fits (east at_offset))) at c.added2.ensures)
+    rw at_offset.before.offset-1.given.1
+    (simp (to_z-of_z at-start.ranges.wall, wide (east at_offset), to_z-of_z (offset-fits (east at_offset)), +ℤ_idl, to_z-of_z (less-fits (east at_offset))) at c.added-in-East.ensures)
 
 -- the product and the difference fit
-mul-added : tie.Need-overflow-mul-added
+mul-added : tie.Need-overflow_mul-seconds
 mul-added c = rw (wide (east c)) (offset-fits (east c))
 
-sub-added : tie.Need-overflow-sub-added
+sub-added : tie.Need-overflow_sub-seconds
 sub-added c = rw (wide (east c), to_z-of_z (offset-fits (east c)), +ℤ_idl) (less-fits (east c))
 
-pub less-offset-spec : {M : Type 1} → statement M
-less-offset-spec =
+pub less_offset_spec : {M : Type 1} → statement M
+less_offset_spec =
     tie.close
     (tie.spec
     (λ c. search rules)

@@ -6,20 +6,20 @@ use Rattle.moment_instants.proofs.epoch.report_of.Statement.{statement}
 use Rattle.moment_instants.proofs.epoch.report_of.Tie as tie
 
 -- the refusal of the input, an instant out of range, a day out of range
-unread : tie.Need-returns
+unread : tie.Need-returns-in-Unread
 unfolding undated_report
-unread c = rw c.before.before.why.given.1 c.report-of.ensures
+unread c = rw c.before.before.why-1.given.1 c.report_of.ensures
 
-instant : tie.Need-returns-2
+instant : tie.Need-returns-in-InstantRange
 unfolding undated_report
-instant c = rw c.before.enum_told.given.1 c.alone.ensures
+instant c = rw c.before.enum_told-1.given.1 c.alone.ensures
 
-date : tie.Need-returns-3
+date : tie.Need-returns-in-DateRange
 unfolding undated_report
-date c = rw c.before.enum-told2.given.1 c.alone2.ensures
+date c = rw c.before.enum_told-in-DateRange-1.given.1 c.alone-in-DateRange.ensures
 
-pub report-of-spec : {M : Type 1} → statement M
-report-of-spec =
+pub report_of_spec : {M : Type 1} → statement M
+report_of_spec =
     tie.close
     (tie.spec
     (λ c. search rules)

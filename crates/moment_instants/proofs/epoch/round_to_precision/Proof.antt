@@ -18,25 +18,25 @@ use Rattle.moment_instants.proofs.epoch.round_to_precision.Statement.{statement}
 use Rattle.moment_instants.proofs.epoch.round_to_precision.Tie as tie
 
 -- no digits are asked for: as it is
-returns : tie.Need-returns
+returns : tie.Need-returns-then-precision-lt1
 unfolding rounded_to
 returns c =
     let at-start = c.before in
-    rw (to_z-of_z at-start.ranges.t, rw (to_z-of_z at-start.ranges.precision) at c.if1.true)
+    rw (to_z-of_z at-start.ranges.t, rw (to_z-of_z at-start.ranges.precision) at c.if-precision-lt1.true)
 
 -- more than five digits: as it is
-returns-2 : tie.Need-returns-2
+returns-2 : tie.Need-returns-then-precision-gt5
 unfolding rounded_to
 returns-2 c =
     let at-start = c.before.before in
-    rw (to_z-of_z at-start.ranges.t, rw (to_z-of_z at-start.ranges.precision) at c.if2.true, or-true (lt_z at-start.args.precision (pos 1)))
+    rw (to_z-of_z at-start.ranges.t, rw (to_z-of_z at-start.ranges.precision) at c.if-precision-gt5.true, or-true (lt_z at-start.args.precision (pos 1)))
 
 -- one to five digits
-module _ (c : tie.Else2) where
+module _ (c : tie.Else-precision-gt5) where
   few : Digits c.before.before.args.precision
   few =
       let same = to_z-of_z c.before.before.ranges.precision in
-      digits c.before.before.args.precision (rw same at c.before.if1.false) (rw same at c.if2.false)
+      digits c.before.before.args.precision (rw same at c.before.if-precision-lt1.false) (rw same at c.if-precision-gt5.false)
 
   abbrev scale : ℕ
   scale = 10 ^ (6 - nat_abs c.before.before.args.precision)
@@ -45,27 +45,27 @@ module _ (c : tie.Else2) where
   small = half_le (nat_abs c.before.before.args.precision) few.from few.to
 
 -- the scale, and the limit that the code compares with, as the definition has them
-scale-is : (c : tie.After-scale-of) → c.scale_of.result ≡ scale c.before
-scale-is c = rw (to_z-of_z c.before.before.before.ranges.precision) at c.scale_of.ensures
+scale-is : (c : tie.After-scale_of-scale) → c.scale_of-scale.result ≡ scale c.before
+scale-is c = rw (to_z-of_z c.before.before.before.ranges.precision) at c.scale_of-scale.ensures
 
-limit_is : (c : tie.After-scale-of) → negsuc 9222425352054775806 +ℤ to_z w64 (c.scale_of.result / 2) ≡ negsuc 9222425352054775806 +ℤ pos (scale c.before / 2)
+limit_is : (c : tie.After-scale_of-scale) → negsuc 9222425352054775806 +ℤ to_z w64 (c.scale_of-scale.result / 2) ≡ negsuc 9222425352054775806 +ℤ pos (scale c.before / 2)
 limit_is c = rw (scale-is c, to_z_pos w64 {n = scale c.before / 2} (omega (arith, small c.before)))
 
-limit : (c : tie.After-scale-of) → SFits w64 (negsuc 9222425352054775806 +ℤ pos (scale c.before / 2))
+limit : (c : tie.After-scale_of-scale) → SFits w64 (negsuc 9222425352054775806 +ℤ pos (scale c.before / 2))
 limit c = limit-fits (scale c.before / 2) (small c.before).1
 
 -- the count from 2000 with its half does not fit
-returns-3 : tie.Need-returns-3
+returns-3 : tie.Need-returns-then-t-scale
 unfolding rounded_to
 returns-3 c =
     let after-scale = c.before in
     let at-start = after-scale.before.before.before in
     let at-digits = after-scale.before in
-    let below = simp (to_z-of_z at-start.ranges.t, limit_is after-scale, to_z-of_z (limit after-scale)) at c.if3.true in
+    let below = simp (to_z-of_z at-start.ranges.t, limit_is after-scale, to_z-of_z (limit after-scale)) at c.if-t-scale.true in
     rw ((few at-digits).is, early (scale at-digits / 2) (small at-digits).1 at-start.args.t below)
 
 -- the count from 2000 fits, also with the half
-module _ (c : tie.Else3) where
+module _ (c : tie.Else-t-scale) where
   abbrev count : ℤ
   count = c.before.before.before.before.args.t -ℤ epoch2000
 
@@ -74,21 +74,21 @@ module _ (c : tie.Else3) where
       let after-scale = c.before in
       let at-start = after-scale.before.before.before in
       let at-digits = after-scale.before in
-      let not-below = simp (to_z-of_z at-start.ranges.t, limit_is after-scale, to_z-of_z (limit after-scale)) at c.if3.false in
+      let not-below = simp (to_z-of_z at-start.ranges.t, limit_is after-scale, to_z-of_z (limit after-scale)) at c.if-t-scale.false in
       counted (scale at-digits / 2) (small at-digits).1 at-start.args.t at-start.ranges.t not-below
 
   fits : SFits w64 count
   fits = sfits_of room.0
 
 -- what the call gives is the rounded count
-rounded-is : (c : tie.After-rounded-count) → to_z w64 (of_z w64 c.rounded-count.result) ≡ away (scale c.before.before.before) (count c.before)
+rounded-is : (c : tie.After-rounded_count) → to_z w64 (of_z w64 c.rounded_count.result) ≡ away (scale c.before.before.before) (count c.before)
 rounded-is c =
     let after-limit = c.before in
-    returned c.rounded-count.type-inv
-    (simp (to_z-of_z after-limit.before.before.before.before.ranges.t, to_z-of_z (fits after-limit), scale-is after-limit.before) at c.rounded-count.ensures)
+    returned c.rounded_count.type-inv
+    (simp (to_z-of_z after-limit.before.before.before.before.ranges.t, to_z-of_z (fits after-limit), scale-is after-limit.before) at c.rounded_count.ensures)
 
 -- rounded, and counted from 1970 again
-returns-4 : tie.Need-returns-4
+returns-4 : tie.Need-returns
 unfolding rounded_to
 returns-4 c =
     let after-limit = c.before.before in
@@ -100,8 +100,8 @@ returns-4 c =
     )
     (simp (rounded-is c.before) at c.added.ensures)
 
-pub round-to-precision-spec : {M : Type 1} → statement M
-round-to-precision-spec =
+pub round_to_precision_spec : {M : Type 1} → statement M
+round_to_precision_spec =
     tie.close
     (tie.spec
     returns

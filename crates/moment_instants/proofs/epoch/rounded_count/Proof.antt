@@ -28,35 +28,35 @@ module _ (c : tie.Start) where
   fits-turned = turned-fits c.args.scale (nat_abs c.args.count) c.requires.1
 
 -- a count before 2000 is turned positive
-before : (c : tie.Then1) → pos 0 -ℤ to_z w64 (of_z w64 c.before.args.count) ≡ pos (nat_abs c.before.args.count)
-before c = rw (to_z-of_z c.before.ranges.count) (turned c.before.args.count (rw (to_z-of_z c.before.ranges.count) at c.if1.true))
+before : (c : tie.Then-count-lt0) → pos 0 -ℤ to_z w64 (of_z w64 c.before.args.count) ≡ pos (nat_abs c.before.args.count)
+before c = rw (to_z-of_z c.before.ranges.count) (turned c.before.args.count (rw (to_z-of_z c.before.ranges.count) at c.if-count-lt0.true))
 
 -- a count from 2000 on is positive as it is
-after : (c : tie.Else1) → to_z w64 (of_z w64 c.before.args.count) ≡ pos (nat_abs c.before.args.count)
-after c = to_z-of_z c.before.ranges.count ∙ kept c.before.args.count (rw (to_z-of_z c.before.ranges.count) at c.if1.false)
+after : (c : tie.Else-count-lt0) → to_z w64 (of_z w64 c.before.args.count) ≡ pos (nat_abs c.before.args.count)
+after c = to_z-of_z c.before.ranges.count ∙ kept c.before.args.count (rw (to_z-of_z c.before.ranges.count) at c.if-count-lt0.false)
 
 -- what the call gives, for either
-result : (c : tie.After-rounded-magnitude) → c.rounded-magnitude.result ≡ answer c.before.before
-result c = rw (before c.before, to_z-of_z (magnitude c.before.before)) at c.rounded-magnitude.ensures
+result : (c : tie.After-rounded_magnitude) → c.rounded_magnitude.result ≡ answer c.before.before
+result c = rw (before c.before, to_z-of_z (magnitude c.before.before)) at c.rounded_magnitude.ensures
 
-result-2 : (c : tie.After-rounded-magnitude2) → c.rounded-magnitude2.result ≡ answer c.before.before
-result-2 c = rw (after c.before) at c.rounded-magnitude2.ensures
+result-2 : (c : tie.After-rounded_magnitude-else-count-lt0) → c.rounded_magnitude-else-count-lt0.result ≡ answer c.before.before
+result-2 c = rw (after c.before) at c.rounded_magnitude-else-count-lt0.ensures
 
 -- before 2000
-returns : tie.Need-returns
+returns : tie.Need-returns-then-count-lt0
 returns c =
     let at-start = c.before.before in
     rw (result c, to_z-of_z (fits at-start), +ℤ_idl, to_z-of_z (fits-turned at-start))
-    (away-before at-start.args.scale at-start.args.count (rw (to_z-of_z at-start.ranges.count) at c.before.if1.true))
+    (away-before at-start.args.scale at-start.args.count (rw (to_z-of_z at-start.ranges.count) at c.before.if-count-lt0.true))
 
 -- from 2000 on
-returns-2 : tie.Need-returns-2
+returns-2 : tie.Need-returns-else-count-lt0
 returns-2 c =
     let at-start = c.before.before in
-    rw (result-2 c, to_z-of_z (fits at-start)) (away-after at-start.args.scale at-start.args.count (rw (to_z-of_z at-start.ranges.count) at c.before.if1.false))
+    rw (result-2 c, to_z-of_z (fits at-start)) (away-after at-start.args.scale at-start.args.count (rw (to_z-of_z at-start.ranges.count) at c.before.if-count-lt0.false))
 
-pub rounded-count-spec : {M : Type 1} → statement M
-rounded-count-spec =
+pub rounded_count_spec : {M : Type 1} → statement M
+rounded_count_spec =
     tie.close
     (tie.spec
     (λ c. rw (before c) (magnitude c.before))

@@ -9,16 +9,16 @@ use Rattle.moment_instants.proofs.epoch.scale_of.Tie as tie
 five : (d : ℕ) → 1 ≤ d → d ≤ 5 → (d ≡ 1 → ⊥) → (d ≡ 2 → ⊥) → (d ≡ 3 → ⊥) → (d ≡ 4 → ⊥) → d ≡ 5
 five d h k a b e f = omega arith
 
-pub scale-of-spec : {M : Type 1} → statement M
-scale-of-spec =
+pub scale_of_spec : {M : Type 1} → statement M
+scale_of_spec =
     tie.close
     (tie.spec
     -- one to four digits
-    (λ c. rw c.match.keys1)
-    (λ c. rw c.match.keys2)
-    (λ c. rw c.match.keys3)
-    (λ c. rw c.match.keys4)
+    (λ c. rw c.in-1.keys1)
+    (λ c. rw c.in-1.keys2)
+    (λ c. rw c.in-1.keys3)
+    (λ c. rw c.in-1.keys4)
     -- five digits
     (λ c.
-    let others = c.match.rest in
+    let others = c.in-1.rest in
     rw (five c.before.args.digits c.before.requires.0 c.before.requires.1 others.0.0.0.1 others.0.0.1 others.0.1 others.1)))

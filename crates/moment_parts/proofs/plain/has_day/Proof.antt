@@ -9,26 +9,26 @@ use Rattle.moment_parts.proofs.plain.has_day.Statement.{statement}
 use Rattle.moment_parts.proofs.plain.has_day.Tie as tie
 
 -- below 1
-returns : tie.Need-returns
+returns : tie.Need-returns-then-day-lt1
 unfolding has_day
-returns c = simp (rw (to_z-of_z c.before.ranges.day) at c.if1.true)
+returns c = simp (rw (to_z-of_z c.before.ranges.day) at c.if-day-lt1.true)
 
 -- the test of the length
-returns-2 : tie.Need-returns-2
+returns-2 : tie.Need-returns
 unfolding has_day
 returns-2 c =
     let after-leap = c.before in
     let at-day = after-leap.before in
     let at-start = at-day.before in
     simp (
-      rw (to_z-of_z at-start.ranges.day) at at-day.if1.false,
-      returned c.month-length.type-inv c.month-length.ensures,
+      rw (to_z-of_z at-start.ranges.day) at at-day.if-day-lt1.false,
+      returned c.month_length.type-inv c.month_length.ensures,
       to_z-of_z at-start.ranges.day,
       to_z-of_z at-start.ranges.month,
       to_z-of_z at-start.ranges.year,
-      after-leap.pg-is-leap.ensures,
+      after-leap.pg_is_leap.ensures,
     )
     (not-above at-start.args.day _)
 
-pub has-day-spec : {M : Type 1} → statement M
-has-day-spec = tie.close (tie.spec returns (λ c κs. search rules) (λ c κs. search rules) returns-2)
+pub has_day_spec : {M : Type 1} → statement M
+has_day_spec = tie.close (tie.spec returns (λ c κs. search rules) (λ c κs. search rules) returns-2)

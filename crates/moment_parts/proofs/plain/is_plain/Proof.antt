@@ -13,16 +13,16 @@ use Rattle.moment_parts.proofs.plain.is_plain.Tie as tie
 returns : tie.Need-returns
 unfolding is_plain
 returns c =
-    let g10 = c.get10 in
-    let g9 = c.before.get9 in
-    let g8 = c.before.before.get8 in
-    let g7 = c.before.before.before.get7 in
-    let g6 = c.before.before.before.before.get6 in
+    let g10 = c.get-10 in
+    let g9 = c.before.get-9 in
+    let g8 = c.before.before.get-8 in
+    let g7 = c.before.before.before.get-7 in
+    let g6 = c.before.before.before.before.get-6 in
     let fifth = c.before.before.before.before.before in
-    let g5 = fifth.get5 in
-    let g4 = fifth.before.get4 in
-    let g3 = fifth.before.before.get3 in
-    let g2 = fifth.before.before.before.get2 in
+    let g5 = fifth.get-5 in
+    let g4 = fifth.before.get-4 in
+    let g3 = fifth.before.before.get-3 in
+    let g2 = fifth.before.before.before.get-2 in
     let g1 = fifth.before.before.before.before.get in
     all-zero g1.result
     (g2.result ∷ g3.result ∷ g4.result ∷ g5.result ∷ g6.result ∷ g7.result ∷ g8.result ∷ g9.result ∷ g10.result ∷ [])
@@ -36,8 +36,8 @@ returns c =
     && (is_zero (g6.ensures i)
     && (is_zero (g7.ensures i) && (is_zero (g8.ensures i) && (is_zero (g9.ensures i) && (is_zero (g10.ensures i) && true)))))))))
 
-pub is-plain-spec : {M : Type 1} → statement M
-is-plain-spec =
+pub is_plain_spec : {M : Type 1} → statement M
+is_plain_spec =
     tie.close
     (tie.spec
     (λ c κs. search rules)

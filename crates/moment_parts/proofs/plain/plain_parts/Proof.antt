@@ -8,10 +8,10 @@ use Rattle.moment_parts.proofs.plain.plain_parts.Tie as tie
 returns : tie.Need-returns
 unfolding plain_parts
 returns c =
-    let precision = c.before.get8 in
-    let micros = c.before.before.get7 in
-    let second = c.before.before.before.get6 in
-    let minute = c.before.before.before.before.get5 in
+    let precision = c.before.get-6 in
+    let micros = c.before.before.get-5 in
+    let second = c.before.before.before.get-4 in
+    let minute = c.before.before.before.before.get-3 in
     let after-hour = c.before.before.before.before.before in
     let after-day = after-hour.before in
     let after-month = after-day.before in
@@ -21,17 +21,17 @@ returns c =
       returned micros.type-inv micros.ensures,
       returned second.type-inv second.ensures,
       returned minute.type-inv minute.ensures,
-      returned after-hour.get4.type-inv after-hour.get4.ensures,
-      c.plain-marks.ensures,
-      returned after-day.or-first2.type-inv after-day.or-first2.ensures,
-      returned after-month.or-first.type-inv after-month.or-first.ensures,
-      returned after-year.get3.type-inv after-year.get3.ensures,
-      returned after-year.before.get2.type-inv after-year.before.get2.ensures,
-      returned after-year.before.before.get.type-inv after-year.before.before.get.ensures,
+      returned after-hour.get-2.type-inv after-hour.get-2.ensures,
+      c.plain_marks.ensures,
+      returned after-day.or_first-2.type-inv after-day.or_first-2.ensures,
+      returned after-month.or_first.type-inv after-month.or_first.ensures,
+      returned after-year.get.type-inv after-year.get.ensures,
+      returned after-year.before.get-dd.type-inv after-year.before.get-dd.ensures,
+      returned after-year.before.before.get-mm.type-inv after-year.before.before.get-mm.ensures,
     )
 
-pub plain-parts-spec : {M : Type 1} → statement M
-plain-parts-spec =
+pub plain_parts_spec : {M : Type 1} → statement M
+plain_parts_spec =
     tie.close
     (tie.spec
     (λ c κs. search rules)

@@ -5,8 +5,8 @@ use Rattle.read_fields.proofs.Assigned.{mode-is, mode_small}
 use Rattle.read_fields.proofs.table.mode_at.Statement.{statement}
 use Rattle.read_fields.proofs.table.mode_at.Tie as tie
 
-pub mode-at-spec : {M : Type 1} → statement M
-mode-at-spec =
+pub mode_at_spec : {M : Type 1} → statement M
+mode_at_spec =
     tie.close
     (tie.spec
     (λ c κs. search rules)

@@ -4,8 +4,8 @@ use Rattle.read_fields.proofs.Assigned.{assigned}
 use Rattle.read_fields.proofs.table.task_at.Statement.{statement}
 use Rattle.read_fields.proofs.table.task_at.Tie as tie
 
-pub task-at-spec : {M : Type 1} → statement M
-task-at-spec =
+pub task_at_spec : {M : Type 1} → statement M
+task_at_spec =
     tie.close
     (tie.spec
     (λ c κs. search rules)
@@ -13,4 +13,4 @@ task-at-spec =
     (λ c. search rules)
     (λ c. search rules)
     (λ c. search rules)
-    (λ c. rw c.row_of.ensures (assigned _)))
+    (λ c. rw c.row_of-x.ensures (assigned _)))

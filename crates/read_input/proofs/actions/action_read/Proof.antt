@@ -18,12 +18,12 @@ tested : (c : tie.After-mixes) →
     c.mixes.result ≡ mixes (pattern_of args.n.pattern).mode (get (fields_of args.f.now) mode)
 tested c =
     let set_before = c.before.get in
-    simp (returned set_before.type-inv set_before.ensures, c.before.before.before.mode-at.ensures) at c.mixes.ensures
+    simp (returned set_before.type-inv set_before.ensures, c.before.before.before.mode_at-mode.ensures) at c.mixes.ensures
 
 -- what was read
-is : (c : tie.After-performed) →
+is : (c : tie.After-performed-r) →
     let args = c.before.before.before.before.before.before.before.before.before.before.before.before.args in
-    read_into c.performed.result c.performed.new.1.1.1.1.0
+    read_into c.performed-r.result c.performed-r.new.1.1.1.1.0
     ≡ performed args.s.now args.n (is_free args.t.now args.n args.next) (task_of args.n.pattern)
     (with_mode (pattern_of args.n.pattern).mode (fields_of args.f.now)) args.p
 is c =
@@ -31,42 +31,42 @@ is c =
     let after_free = after-mode.before.before in
     let at-mode = after_free.before.before.before.before.before in
     let at-start = at-mode.before.before.before in
-    rw (← after_free.is_free.ensures, ← at-start.requires.0.is, ← at-mode.mode-at.ensures, ← after-mode.with_mode.ensures) c.performed.ensures
+    rw (← after_free.is_free-free.ensures, ← at-start.requires.0.is, ← at-mode.mode_at-mode.ensures, ← after-mode.with_mode.ensures) c.performed-r.ensures
 
 -- where the date mode was tested: it is not mixed with another
-abbrev not-mixed : tie.After-performed → tie.Else1
+abbrev not-mixed : tie.After-performed-r → tie.Else-mixes
 not-mixed c = c.before.before.before.before.before
 
 -- date modes are mixed
-returns : tie.Need-returns
+returns : tie.Need-returns-then-mixes
 unfolding action_read
-returns c = verdict-refused c.refuse.ensures (rw (sym (tested c.before.before) ∙ c.before.if1.true))
+returns c = verdict-refused c.refuse.ensures (rw (sym (tested c.before.before) ∙ c.before.if-mixes.true))
 
 -- what was read is refused
-returns-2 : tie.Need-returns-2
+returns-2 : tie.Need-returns-in-Refused
 returns-2 c =
     let at-verdict = c.before.before in
     let after_read = at-verdict.before.before in
     let at_test = not-mixed after_read in
     let args = at_test.before.before.before.before.before.before.before.args in
-    verdict-refused c.refuse2.ensures
-    (stopped args.t.now args.s.now args.n args.next (fields_of args.f.now) args.p (sym (tested at_test.before) ∙ at_test.if1.left) _ (is after_read) _
-    at-verdict.verdict.given.1)
+    verdict-refused c.refuse-in-Refused.ensures
+    (stopped args.t.now args.s.now args.n args.next (fields_of args.f.now) args.p (sym (tested at_test.before) ∙ at_test.if-mixes.left) _ (is after_read) _
+    at-verdict.verdict-1.given.1)
 
 -- it is read: past the spaces after the field
-returns-3 : tie.Need-returns-3
+returns-3 : tie.Need-returns-in-Read
 returns-3 c =
     let at-verdict = c.before.before.before in
     let after_read = at-verdict.before.before in
     let at_test = not-mixed after_read in
     let args = at_test.before.before.before.before.before.before.before.args in
     verdict-read
-    (rw (c.read.ensures, c.before.past-field.ensures)
-    (passed args.t.now args.s.now args.n args.next (fields_of args.f.now) args.p (sym (tested at_test.before) ∙ at_test.if1.left) _ (is after_read)
-    at-verdict.enum_told.given.1))
+    (rw (c.read.ensures, c.before.past_field.ensures)
+    (passed args.t.now args.s.now args.n args.next (fields_of args.f.now) args.p (sym (tested at_test.before) ∙ at_test.if-mixes.left) _ (is after_read)
+    at-verdict.enum_told-1.given.1))
 
-pub action-read-spec : {M : Type 1} → statement M
-action-read-spec =
+pub action_read_spec : {M : Type 1} → statement M
+action_read_spec =
     tie.close
     (tie.spec
     (λ c κs. search rules)

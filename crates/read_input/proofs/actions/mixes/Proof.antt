@@ -9,18 +9,18 @@ use Rattle.read_input.proofs.actions.mixes.Statement.{statement}
 use Rattle.read_input.proofs.actions.mixes.Tie as tie
 
 -- the pattern has no date mode
-returns : tie.Need-returns
-returns c = rw c.if1.true
+returns : tie.Need-returns-then-new-eq-MODE_NONE
+returns c = rw c.if-new-eq-MODE_NONE.true
 
 -- it has one: whether another was set before
-returns-2 : tie.Need-returns-2
+returns-2 : tie.Need-returns
 returns-2 c =
     let at-start = c.before.before in
-    rw (ne_eqb _ _ c.before.if1.false)
-    (simp (to_z-of_z at-start.ranges.old, to_z_pos w32 {n = at-start.args.new} (omega arith)) at c.from-char-set-int.ensures)
+    rw (ne_eqb _ _ c.before.if-new-eq-MODE_NONE.false)
+    (simp (to_z-of_z at-start.ranges.old, to_z_pos w32 {n = at-start.args.new} (omega arith)) at c.from_char_set_int.ensures)
 
-pub mixes-spec : {M : Type 1} → statement M
-mixes-spec =
+pub mixes_spec : {M : Type 1} → statement M
+mixes_spec =
     tie.close
     (tie.spec
     returns

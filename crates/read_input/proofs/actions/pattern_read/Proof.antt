@@ -8,22 +8,22 @@ use Rattle.read_literals.proofs.Literals.{entered-within}
 use Rattle.read_input.proofs.actions.pattern_read.Statement.{statement}
 use Rattle.read_input.proofs.actions.pattern_read.Tie as tie
 
-action-read-requires : tie.Need-action-read-requires
+action-read-requires : tie.Need-action_read-requires
 action-read-requires c κs =
     let after-spaces = c.before in
     let after-task = after-spaces.before.before in
     let at-start = after-task.before.before.before in
     let args = at-start.args in
-    let within = entered-within args.s.now args.p (not (eqb after-task.task-at.result.kind 1)) at-start.requires.1 in
-    (after-task.task-at.ensures, rw after-spaces.entered.ensures within, search rules)
+    let within = entered-within args.s.now args.p (not (eqb after-task.task_at-task.result.kind 1)) at-start.requires.1 in
+    (after-task.task_at-task.ensures, rw after-spaces.entered-q.ensures within, search rules)
 
 returns : tie.Need-returns
 returns c =
     let after-spaces = c.before.before in
-    rw (← after-spaces.before.before.task-at.ensures.is, ← after-spaces.entered.ensures) c.action-read.ensures
+    rw (← after-spaces.before.before.task_at-task.ensures.is, ← after-spaces.entered-q.ensures) c.action_read.ensures
 
-pub pattern-read-spec : {M : Type 1} → statement M
-pattern-read-spec =
+pub pattern_read_spec : {M : Type 1} → statement M
+pattern_read_spec =
     tie.close
     (tie.spec
     (λ c κs. search rules)

@@ -9,17 +9,17 @@ use Rattle.read_input.proofs.actions.with_mode.Statement.{statement}
 use Rattle.read_input.proofs.actions.with_mode.Tie as tie
 
 -- the pattern has a date mode
-returns : tie.Need-returns
+returns : tie.Need-returns-then-new-ne-MODE_NONE
 returns c =
     let at-start = c.before.before.before in
-    rw (ne_eqb _ _ c.before.before.if1.true) (simp (to_z_pos w32 {n = at-start.args.new} (omega arith)) at c.put.ensures)
+    rw (ne_eqb _ _ c.before.before.if-new-ne-MODE_NONE.true) (simp (to_z_pos w32 {n = at-start.args.new} (omega arith)) at c.put.ensures)
 
 -- it has none
-returns-2 : tie.Need-returns-2
-returns-2 c = rw c.if1.false
+returns-2 : tie.Need-returns-else-new-ne-MODE_NONE
+returns-2 c = rw c.if-new-ne-MODE_NONE.false
 
-pub with-mode-spec : {M : Type 1} → statement M
-with-mode-spec =
+pub with_mode_spec : {M : Type 1} → statement M
+with_mode_spec =
     tie.close
     (tie.spec
     (λ c. search rules)

@@ -21,27 +21,27 @@ use Rattle.read_input.proofs.Plainly.{of-character, settled}
 use Rattle.read_input.proofs.lane.chars_passed.Statement.{statement}
 use Rattle.read_input.proofs.lane.chars_passed.Tie as tie
 
-abbrev invariant-loop : tie.invariant-loop
+abbrev invariant-loop : tie.invariant-loop-i
 invariant-loop c s from count at₀ i₀ at i =
     (from ≤ i) × (i ≤ length (nodes_in c))
     × ((t : List ℕ) (f : Fields) (whole : Reading) → Turned t s (nodes_in c) whole from f (place at₀ 0 false) → Turned t s (nodes_in c) whole i f (place at 0 false))
 
-abbrev decreases-loop : tie.decreases-loop
+abbrev decreases-loop : tie.decreases-loop-i
 decreases-loop c s from count at₀ i₀ at i = count - i
 
-loop-holds : tie.Need-loop-init invariant-loop decreases-loop
+loop-holds : tie.Need-loop-i-init invariant-loop decreases-loop
 loop-holds c = (omega arith, c.before.before.requires.0, λ t f whole turned. turned)
 
 -- what the loop has read so far
-ends : (c : tie.At-loop invariant-loop decreases-loop) {r : Passed} → r ≡ passed_at c.loop.i c.loop.at
+ends : (c : tie.At-loop-i invariant-loop decreases-loop) {r : Passed} → r ≡ passed_at c.loop-i.i c.loop-i.at
     → let args = c.before.before.before.args in CharsRead args.s.now (nodes_in args.c.now) args.from args.place r
 ends c e =
     let at-start = c.before.before.before in
-    let inv = c.loop.invariant in
+    let inv = c.loop-i.invariant in
     let from_place = settled at-start.args.place at-start.requires.2 at-start.requires.3 in
     rw e (record { on = inv.0; turned = λ t f whole turned. inv.2 t f whole (rw (← from_place) turned) })
 
-loop-again : tie.Need-loop-preserved invariant-loop decreases-loop
+loop-again : tie.Need-loop-i-preserved invariant-loop decreases-loop
 loop-again c =
     let a-character = c.before in
     let at-node = a-character.before.before in
@@ -49,18 +49,18 @@ loop-again c =
     let at-loop = here.before.before in
     let at-start = at-loop.before.before.before in
     let nodes = nodes_in at-start.args.c.now in
-    let one_left : at-loop.loop.i < length nodes = omega (arith, here.before.loop-test.true, nodes-length at-start.args.c.now) in
-    let later : at-loop.loop.i ≡ 0 → ⊥ = λ z. at-start.requires.1 (omega (arith, at-loop.loop.invariant.0, z)) in (
-      omega (arith, at-loop.loop.invariant.0),
+    let one_left : at-loop.loop-i.i < length nodes = omega (arith, here.before.loop-i-test.true, nodes-length at-start.args.c.now) in
+    let later : at-loop.loop-i.i ≡ 0 → ⊥ = λ z. at-start.requires.1 (omega (arith, at-loop.loop-i.invariant.0, z)) in (
+      omega (arith, at-loop.loop-i.invariant.0),
       omega arith,
       λ t f whole turned.
-          rw c.measure-usual.ensures.is
-          (of-character t at-start.args.s.now nodes whole at-loop.loop.i f _ (at-loop.loop.invariant.2 t f whole turned) one_left (omega (arith, here.if1.false))
-          _ at-node.Node-at.ensures at-loop.loop.at refl a-character.if2.false later),
+          rw c.measure_usual-at.ensures.is
+          (of-character t at-start.args.s.now nodes whole at-loop.loop-i.i f _ (at-loop.loop-i.invariant.2 t f whole turned) one_left (omega (arith, here.if-s-at.false))
+          _ at-node.Node-at.ensures at-loop.loop-i.at refl a-character.if-n-ne-FN_CHAR.false later),
     )
 
-pub chars-passed-spec : {M : Type 1} → statement M
-chars-passed-spec =
+pub chars_passed_spec : {M : Type 1} → statement M
+chars_passed_spec =
     tie.close
     (tie.spec
     invariant-loop
@@ -70,11 +70,11 @@ chars-passed-spec =
     (λ c. ends c.before.before.before c.reached.ensures)
     (λ c κs. search rules)
     (λ c κs. search rules)
-    (λ c. ends c.before.before.before.before.before.before c.reached2.ensures)
+    (λ c. ends c.before.before.before.before.before.before c.reached-then-n-ne-FN_CHAR.ensures)
     (λ c κs. search rules)
-    (λ c. let within = c.measure-usual.ensures.within in search rules)
+    (λ c. let within = c.measure_usual-at.ensures.within in search rules)
     (λ c. search rules)
     (λ c. omega arith)
     loop-again
     (λ c κs. search rules)
-    (λ c. ends c.before.before c.reached3.ensures))
+    (λ c. ends c.before.before c.reached-2.ensures))

@@ -14,73 +14,73 @@ use Rattle.read_input.specs.Turn.{Turned}
 use Rattle.read_input.proofs.lane.lane.Statement.{statement}
 use Rattle.read_input.proofs.lane.lane.Tie as tie
 
-abbrev invariant-loop : tie.invariant-loop
+abbrev invariant-loop : tie.invariant-loop-i
 invariant-loop c t s f₀ from count p₀ i₀ f p i =
     (from ≤ i) × Turned t s (nodes_in c) (read_from t s (drop from (nodes_in c)) (eqb from 0) (fields_of f₀) p₀) i (fields_of f) p
 
-abbrev decreases-loop : tie.decreases-loop
+abbrev decreases-loop : tie.decreases-loop-i
 decreases-loop c t s f₀ from count p₀ i₀ f p i = count - i
 
-loop-holds : tie.Need-loop-init invariant-loop decreases-loop
+loop-holds : tie.Need-loop-i-init invariant-loop decreases-loop
 loop-holds c =
     let pre = c.before.before.before.requires in
     (omega arith, record { within = pre.0; none = pre.1; payable = pre.2; left = refl })
 
 -- the input ended
-returns : tie.Need-returns invariant-loop decreases-loop
+returns : tie.Need-returns-then-s-at invariant-loop decreases-loop
 returns c =
-    let inv = c.before.before.loop.invariant in
-    record { on = inv.0; turned = inv.1; stops = λ h l. absurd (omega (arith, c.if1.true, l)) }
+    let inv = c.before.before.loop-i.invariant in
+    record { on = inv.0; turned = inv.1; stops = λ h l. absurd (omega (arith, c.if-s-at.true, l)) }
 
 -- one node is left, and some input
-module _ (c : tie.Else1 invariant-loop decreases-loop) where
-  abbrev at-loop : tie.At-loop invariant-loop decreases-loop
+module _ (c : tie.Else-s-at invariant-loop decreases-loop) where
+  abbrev at-loop : tie.At-loop-i invariant-loop decreases-loop
   at-loop = c.before.before
 
-  one_left : at-loop.loop.i < length (nodes_in at-loop.before.before.before.before.args.c.now)
-  one_left = omega (arith, c.before.loop-test.true, nodes-length at-loop.before.before.before.before.args.c.now)
+  one_left : at-loop.loop-i.i < length (nodes_in at-loop.before.before.before.before.args.c.now)
+  one_left = omega (arith, c.before.loop-i-test.true, nodes-length at-loop.before.before.before.before.args.c.now)
 
-node-taken-requires : tie.Need-node-taken-requires invariant-loop decreases-loop
+node-taken-requires : tie.Need-node_taken-r-requires invariant-loop decreases-loop
 node-taken-requires c κs =
     let here = c.before in
-    let inv = (at-loop here).loop.invariant in
-    (one_left here, inv.1.none, inv.1.payable, omega (arith, here.if1.false), search rules)
+    let inv = (at-loop here).loop-i.invariant in
+    (one_left here, inv.1.none, inv.1.payable, omega (arith, here.if-s-at.false), search rules)
 
 -- a pattern that is left
-returns-2 : tie.Need-returns-2 invariant-loop decreases-loop
+returns-2 : tie.Need-returns-then-r-i invariant-loop decreases-loop
 returns-2 c =
     let after-node = c.before.before in
-    let inv = (at-loop after-node.before.before).loop.inv in
-    let took = after-node.node-taken.ensures in
-    record { on = omega (arith, inv.0, took.on); turned = took.turned _ inv.1; stops = λ h l. rw c.if2.true (took.left c.if2.true) }
+    let inv = (at-loop after-node.before.before).loop-i.inv in
+    let took = after-node.node_taken-r.ensures in
+    record { on = omega (arith, inv.0, took.on); turned = took.turned _ inv.1; stops = λ h l. rw c.if-r-i.true (took.left c.if-r-i.true) }
 
-loop-again : tie.Need-loop-preserved invariant-loop decreases-loop
+loop-again : tie.Need-loop-i-preserved invariant-loop decreases-loop
 loop-again c =
     let after-node = c.before.before.before in
-    let inv = (at-loop after-node.before.before).loop.inv in
-    let took = after-node.node-taken.ensures in
+    let inv = (at-loop after-node.before.before).loop-i.inv in
+    let took = after-node.node_taken-r.ensures in
     (omega (arith, inv.0, took.on), took.turned _ inv.1)
 
 -- the template ended
-returns-3 : tie.Need-returns-3 invariant-loop decreases-loop
+returns-3 : tie.Need-returns invariant-loop decreases-loop
 returns-3 c =
-    let inv = c.before.loop.invariant in
+    let inv = c.before.loop-i.invariant in
     let args = c.before.before.before.before.before.args in
     record {
       on = inv.0;
       turned = inv.1;
-      stops = λ h l. absurd (omega (arith, c.loop-test.false, nodes-length args.c.now, h));
+      stops = λ h l. absurd (omega (arith, c.loop-i-test.false, nodes-length args.c.now, h));
     }
 
-loop-less : tie.Need-loop-smaller invariant-loop decreases-loop
+loop-less : tie.Need-loop-i-smaller invariant-loop decreases-loop
 loop-less c =
     let not_left = c.before in
     let after-node = not_left.before.before in
     let in-loop = after-node.before.before.before in
-    omega (arith, not_left.if2.false, after-node.node-taken.ensures.on, in-loop.loop-test.true)
+    omega (arith, not_left.if-r-i.false, after-node.node_taken-r.ensures.on, in-loop.loop-i-test.true)
 
-pub lane-spec : {M : Type 1} → statement M
-lane-spec =
+pub lane_spec : {M : Type 1} → statement M
+lane_spec =
     tie.close
     (tie.spec
     invariant-loop

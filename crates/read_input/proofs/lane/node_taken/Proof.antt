@@ -10,7 +10,7 @@ use Rattle.read_input.proofs.lane.node_taken.Statement.{statement}
 use Rattle.read_input.proofs.lane.node_taken.Tie as tie
 
 -- a pattern that is taken
-returns : tie.Need-returns
+returns : tie.Need-returns-then-r
 returns c =
     let taken = c.before in
     let after-pattern = taken.before in
@@ -21,37 +21,37 @@ returns c =
       on = omega arith;
       left = λ z. absurd (omega (arith, z));
       turned = λ whole turned.
-          of-pattern _ _ _ whole _ _ _ turned pre.0 pre.3 _ at-node.Node-at.ensures pattern.if1.true
-          (after-pattern.pattern-taken.ensures.taken taken.if2.true);
+          of-pattern _ _ _ whole _ _ _ turned pre.0 pre.3 _ at-node.Node-at.ensures pattern.if-n-eq-FN_ACTION.true
+          (after-pattern.pattern_taken-r.ensures.taken taken.if-r.true);
     }
 
 -- a pattern that is left
-returns-2 : tie.Need-returns-2
+returns-2 : tie.Need-returns-then-n-eq-FN_ACTION
 returns-2 c =
     let after-pattern = c.before in
     let pattern = after-pattern.before.before in
-    let same = after-pattern.pattern-taken.ensures.left c.if2.false in
+    let same = after-pattern.pattern_taken-r.ensures.left c.if-r.false in
     record {
       on = omega arith;
-      left = λ z. ap (λ (n : Node). n.kind) (sym pattern.before.before.Node-at.ensures) ∙ pattern.if1.true;
+      left = λ z. ap (λ (n : Node). n.kind) (sym pattern.before.before.Node-at.ensures) ∙ pattern.if-n-eq-FN_ACTION.true;
       turned = λ whole turned. rw same turned;
     }
 
 -- a literal
-returns-3 : tie.Need-returns-3
+returns-3 : tie.Need-returns
 returns-3 c =
     let literal = c.before in
     let at-node = literal.before.before in
     let pre = at-node.before.before.before.before.requires in
-    let chars = c.literal-taken.ensures in
+    let chars = c.literal_taken.ensures in
     record {
       on = omega (arith, chars.on);
       left = λ z. absurd (omega (arith, chars.on, z));
-      turned = λ whole turned. chars.turned _ _ whole (of-literal _ _ _ whole _ _ _ turned pre.0 pre.3 _ at-node.Node-at.ensures literal.if1.false);
+      turned = λ whole turned. chars.turned _ _ whole (of-literal _ _ _ whole _ _ _ turned pre.0 pre.3 _ at-node.Node-at.ensures literal.if-n-eq-FN_ACTION.false);
     }
 
-pub node-taken-spec : {M : Type 1} → statement M
-node-taken-spec =
+pub node_taken_spec : {M : Type 1} → statement M
+node_taken_spec =
     tie.close
     (tie.spec
     (λ c κs. search rules)

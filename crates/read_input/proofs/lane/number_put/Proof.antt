@@ -29,11 +29,11 @@ unfolding kept noted
 plain task z n f e = rw e
 
 -- both tests passed, and the mode is put
-module _ (c : tie.After-with-mode) where
-  abbrev not-other : tie.Else2
+module _ (c : tie.After-with_mode) where
+  abbrev not-other : tie.Else-holds_other
   not-other = c.before.before
 
-  abbrev not-mixed : tie.Else1
+  abbrev not-mixed : tie.Else-mixes
   not-mixed = not-other.before.before.before
 
   abbrev at-start : tie.Start
@@ -44,29 +44,29 @@ module _ (c : tie.After-with-mode) where
   then-number is =
       record {
         left = λ e. absurd (true≢false e);
-        unmixed = λ e. sym (tested not-mixed.before) ∙ not-mixed.if1.left;
-        alone = λ e. answered at-start.args.f.now at-start.args.task.field at-start.fits.z not-other.before.holds-other.ensures not-other.if2.left;
+        unmixed = λ e. sym (tested not-mixed.before) ∙ not-mixed.if-mixes.left;
+        alone = λ e. answered at-start.args.f.now at-start.args.task.field at-start.fits.z not-other.before.holds_other.ensures not-other.if-holds_other.left;
         put = λ e. is ∙ ap (with_number at-start.args.task at-start.args.z at-start.args.n) c.with_mode.ensures;
       }
 
 -- a plain number
-returns-3 : tie.Need-returns-3
+returns-3 : tie.Need-returns-then-task-eq-PLAIN
 returns-3 c =
     let is_plain = c.before.before in
     let after-mode = is_plain.before.before in
     let args = (at-start after-mode).args in
     then-number after-mode
     (rw (to_z-of_z (at-start after-mode).ranges.z) at c.put.ensures
-    ∙ plain args.task args.z args.n (fields_of after-mode.with_mode.new.1.0) is_plain.if3.true)
+    ∙ plain args.task args.z args.n (fields_of after-mode.with_mode.new.1.0) is_plain.if-task-eq-PLAIN.true)
 
 -- any other
-returns-4 : tie.Need-returns-4
+returns-4 : tie.Need-returns
 returns-4 c =
     let after-mode = c.before.before.before.before in
-    then-number after-mode (rw (to_z-of_z (at-start after-mode).ranges.z) at c.put-number.ensures)
+    then-number after-mode (rw (to_z-of_z (at-start after-mode).ranges.z) at c.put_number.ensures)
 
-pub number-put-spec : {M : Type 1} → statement M
-number-put-spec =
+pub number_put_spec : {M : Type 1} → statement M
+number_put_spec =
     tie.close
     (tie.spec
     (λ c κs. search rules)

@@ -18,24 +18,24 @@ use Rattle.read_input.proofs.lane.number_taken.Statement.{statement}
 use Rattle.read_input.proofs.lane.number_taken.Tie as tie
 
 -- the digits end at the place or after it, and their number is small
-onward : (c : tie.After-short-number) → c.before.before.before.before.args.p.at ≤ c.short-number.result.end
-onward c = rw c.short-number.ensures (short-from _ _)
+onward : (c : tie.After-short_number-digits) → c.before.before.before.before.args.p.at ≤ c.short_number-digits.result.end
+onward c = rw c.short_number-digits.ensures (short-from _ _)
 
-small : (c : tie.After-short-number) → c.short-number.result.value < 1000000000
-small c = rw c.short-number.ensures (short-small _ _)
+small : (c : tie.After-short_number-digits) → c.short_number-digits.result.value < 1000000000
+small c = rw c.short_number-digits.ensures (short-small _ _)
 
 -- the number as the code hands it on
-as_is : (c : tie.After-short-number) → to_z w32 c.short-number.result.value ≡ pos c.short-number.result.value
+as_is : (c : tie.After-short_number-digits) → to_z w32 c.short_number-digits.result.value ≡ pos c.short_number-digits.result.value
 as_is c = to_z_pos w32 (omega (arith, small c))
 
 -- left after all
-returns-3 : tie.Need-returns-3
+returns-3 : tie.Need-returns-then-not-number_put
 returns-3 c =
     let refused = c.before in
-    is-left c.left3.ensures (refused.before.number_put.ensures.left (not-true _ refused.if3.true))
+    is-left c.left-then-not-number_put.ensures (refused.before.number_put.ensures.left (not-true _ refused.if-not-number_put.true))
 
 -- read
-returns-4 : tie.Need-returns-4
+returns-4 : tie.Need-returns
 returns-4 c =
     let not_left = c.before in
     let after-put = not_left.before in
@@ -49,13 +49,13 @@ returns-4 c =
     record {
       left = λ e. absurd (true≢false e);
       taken = λ e.
-          is-taken _ _ _ _ _ _ after-short.short-number.ensures pre.2.is after-mode.mode-at.ensures pre.3 pre.4 pre.5 some.if1.false
-          (sym after-takes.takes.ensures ∙ not-false _ wide.if2.false)
-          (rw (as_is after-short) at after-put.number_put.ensures) (not-false _ not_left.if3.false) c.past-field.ensures;
+          is-taken _ _ _ _ _ _ after-short.short_number-digits.ensures pre.2.is after-mode.mode_at.ensures pre.3 pre.4 pre.5 some.if-end-at.false
+          (sym after-takes.takes.ensures ∙ not-false _ wide.if-not-takes.false)
+          (rw (as_is after-short) at after-put.number_put.ensures) (not-false _ not_left.if-not-number_put.false) c.past_field-place.ensures;
     }
 
-pub number-taken-spec : {M : Type 1} → statement M
-number-taken-spec =
+pub number_taken_spec : {M : Type 1} → statement M
+number_taken_spec =
     tie.close
     (tie.spec
     (λ c κs. search rules)
@@ -65,7 +65,7 @@ number-taken-spec =
     (λ c. search rules)
     (λ c κs. search rules)
     (λ c κs. search rules)
-    (λ c. is-left c.left2.ensures refl)
+    (λ c. is-left c.left-then-not-takes.ensures refl)
     (λ c κs. search rules)
     (λ c. let few-digits = small c.before.before.before.before.before.before in search rules)
     (λ c κs. search rules)

@@ -20,72 +20,72 @@ test : {y : ℤ} (k : ℕ) {t : Bool} → SFits w32 y → lt_z (read y) (pos k) 
 test k f e = rw (to_z-of_z f) at e
 
 -- below 70: raised by 2000
-returns : tie.Need-returns
+returns : tie.Need-returns-then-year-lt70
 unfolding near2020
 returns c =
     let at-start = c.before in
     let fits = at-start.ranges.year in
-    rw (raised_is at-start.args.year 70 2000 fits c.if1.true (omega arith), test 70 fits c.if1.true)
+    rw (raised_is at-start.args.year 70 2000 fits c.if-year-lt70.true (omega arith), test 70 fits c.if-year-lt70.true)
 
 -- below 100: by 1900
-returns-2 : tie.Need-returns-2
+returns-2 : tie.Need-returns-then-year-lt100
 unfolding near2020
 returns-2 c =
     let at-start = c.before.before in
     let fits = at-start.ranges.year in
-    rw (raised_is at-start.args.year 100 1900 fits c.if2.true (omega arith), test 70 fits c.before.if1.false, test 100 fits c.if2.true)
+    rw (raised_is at-start.args.year 100 1900 fits c.if-year-lt100.true (omega arith), test 70 fits c.before.if-year-lt70.false, test 100 fits c.if-year-lt100.true)
 
 -- below 520: by 2000
-returns-3 : tie.Need-returns-3
+returns-3 : tie.Need-returns-then-year-lt520
 unfolding near2020
 returns-3 c =
     let at-start = c.before.before.before in
     let fits = at-start.ranges.year in
     rw (
-      raised_is at-start.args.year 520 2000 fits c.if3.true (omega arith),
-      test 70 fits c.before.before.if1.false,
-      test 100 fits c.before.if2.false,
-      test 520 fits c.if3.true,
+      raised_is at-start.args.year 520 2000 fits c.if-year-lt520.true (omega arith),
+      test 70 fits c.before.before.if-year-lt70.false,
+      test 100 fits c.before.if-year-lt100.false,
+      test 520 fits c.if-year-lt520.true,
     )
 
 -- below 1000: by 1000
-returns-4 : tie.Need-returns-4
+returns-4 : tie.Need-returns-then-year-lt1000
 unfolding near2020
 returns-4 c =
     let at-start = c.before.before.before.before in
     let fits = at-start.ranges.year in
     rw (
-      raised_is at-start.args.year 1000 1000 fits c.if4.true (omega arith),
-      test 70 fits c.before.before.before.if1.false,
-      test 100 fits c.before.before.if2.false,
-      test 520 fits c.before.if3.false,
-      test 1000 fits c.if4.true,
+      raised_is at-start.args.year 1000 1000 fits c.if-year-lt1000.true (omega arith),
+      test 70 fits c.before.before.before.if-year-lt70.false,
+      test 100 fits c.before.before.if-year-lt100.false,
+      test 520 fits c.before.if-year-lt520.false,
+      test 1000 fits c.if-year-lt1000.true,
     )
 
 -- from 1000 on: as it is
-returns-5 : tie.Need-returns-5
+returns-5 : tie.Need-returns
 unfolding near2020
 returns-5 c =
     let at-start = c.before.before.before.before in
     let fits = at-start.ranges.year in
     rw (
       to_z-of_z fits,
-      test 70 fits c.before.before.before.if1.false,
-      test 100 fits c.before.before.if2.false,
-      test 520 fits c.before.if3.false,
-      test 1000 fits c.if4.false,
+      test 70 fits c.before.before.before.if-year-lt70.false,
+      test 100 fits c.before.before.if-year-lt100.false,
+      test 520 fits c.before.if-year-lt520.false,
+      test 1000 fits c.if-year-lt1000.false,
     )
 
-pub adjust-partial-year-spec : {M : Type 1} → statement M
-adjust-partial-year-spec =
+pub adjust_partial_year_spec : {M : Type 1} → statement M
+adjust_partial_year_spec =
     tie.close
     (tie.spec
-    (λ c. raised _ 70 2000 c.before.ranges.year c.if1.true (omega arith))
+    (λ c. raised _ 70 2000 c.before.ranges.year c.if-year-lt70.true (omega arith))
     returns
-    (λ c. raised _ 100 1900 c.before.before.ranges.year c.if2.true (omega arith))
+    (λ c. raised _ 100 1900 c.before.before.ranges.year c.if-year-lt100.true (omega arith))
     returns-2
-    (λ c. raised _ 520 2000 c.before.before.before.ranges.year c.if3.true (omega arith))
+    (λ c. raised _ 520 2000 c.before.before.before.ranges.year c.if-year-lt520.true (omega arith))
     returns-3
-    (λ c. raised _ 1000 1000 c.before.before.before.before.ranges.year c.if4.true (omega arith))
+    (λ c. raised _ 1000 1000 c.before.before.before.before.ranges.year c.if-year-lt1000.true (omega arith))
     returns-4
     returns-5)

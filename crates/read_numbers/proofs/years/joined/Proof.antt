@@ -15,21 +15,21 @@ use Rattle.read_numbers.proofs.years.joined.Statement.{statement}
 use Rattle.read_numbers.proofs.years.joined.Tie as tie
 
 -- too many thousands below 0
-returns : tie.Need-returns
+returns : tie.Need-returns-then-thousands-ltminus2147483
 unfolding joined
 returns c =
     let at-start = c.before in
-    rw (thousands-low at-start.args.thousands (simp (to_z-of_z at-start.ranges.thousands) at c.if1.true))
+    rw (thousands-low at-start.args.thousands (simp (to_z-of_z at-start.ranges.thousands) at c.if-thousands-ltminus2147483.true))
 
 -- too many above it
-returns-2 : tie.Need-returns-2
+returns-2 : tie.Need-returns-then-thousands-gt2147483
 unfolding joined
 returns-2 c =
     let at-start = c.before.before in
-    rw (thousands-high at-start.args.thousands (simp (to_z-of_z at-start.ranges.thousands) at c.if2.true))
+    rw (thousands-high at-start.args.thousands (simp (to_z-of_z at-start.ranges.thousands) at c.if-thousands-gt2147483.true))
 
 -- the thousands have 32 bits
-module _ (c : tie.Else2) where
+module _ (c : tie.Else-thousands-gt2147483) where
   abbrev start : tie.Start
   start = c.before.before
 
@@ -39,42 +39,42 @@ module _ (c : tie.Else2) where
   whole_is : fits32 whole ≡ true
   whole_is =
       let fits = start.fits.thousands in
-      thousands-fit start.args.thousands (simp (to_z-of_z fits) at c.before.if1.false) (simp (to_z-of_z fits) at c.if2.false)
+      thousands-fit start.args.thousands (simp (to_z-of_z fits) at c.before.if-thousands-ltminus2147483.false) (simp (to_z-of_z fits) at c.if-thousands-gt2147483.false)
 
   whole-fits : SFits w32 whole
   whole-fits = fits-of whole whole_is
 
-mul-whole : tie.Need-overflow-mul-whole
+mul-whole : tie.Need-overflow_mul-whole
 mul-whole c = simp (to_z-of_z (start c).ranges.thousands) (whole-fits c)
 
 -- what the test of the sum said
-sum_is : (c : tie.After-sum-fits) → let at-whole = c.before in c.sum_fits.result ≡ fits32 ((start at-whole).args.years +ℤ whole at-whole)
+sum_is : (c : tie.After-sum_fits) → let at-whole = c.before in c.sum_fits.result ≡ fits32 ((start at-whole).args.years +ℤ whole at-whole)
 sum_is c =
     let at-whole = c.before in
     simp (to_z-of_z (start at-whole).ranges.thousands, to_z-of_z (start at-whole).ranges.years, to_z-of_z (whole-fits at-whole)) at c.sum_fits.ensures
 
-sum_fits : (c : tie.Then3) → let at-whole = c.before.before in SFits w32 ((start at-whole).args.years +ℤ whole at-whole)
-sum_fits c = fits-of _ (sym (sum_is c.before) ∙ c.if3.true)
+sum_fits : (c : tie.Then-sum_fits) → let at-whole = c.before.before in SFits w32 ((start at-whole).args.years +ℤ whole at-whole)
+sum_fits c = fits-of _ (sym (sum_is c.before) ∙ c.if-sum_fits.true)
 
-add-t10 : tie.Need-overflow-add-t10
+add-t10 : tie.Need-overflow_add-result
 add-t10 c =
     let at-whole = c.before.before in
     simp (to_z-of_z (start at-whole).ranges.thousands, to_z-of_z (start at-whole).ranges.years, to_z-of_z (whole-fits at-whole)) (sum_fits c)
 
 -- the sum has 32 bits
-returns-3 : tie.Need-returns-3
+returns-3 : tie.Need-returns-then-sum_fits
 unfolding joined
 returns-3 c =
     let at-whole = c.before.before in
     simp (to_z-of_z (start at-whole).ranges.thousands, to_z-of_z (start at-whole).ranges.years, to_z-of_z (whole-fits at-whole), to_z-of_z (sum_fits c))
-    (rw (whole_is at-whole, ← sum_is c.before, c.if3.true))
+    (rw (whole_is at-whole, ← sum_is c.before, c.if-sum_fits.true))
 
 -- it has not
-returns-4 : tie.Need-returns-4
+returns-4 : tie.Need-returns
 unfolding joined
 returns-4 c =
     let at-whole = c.before.before in
-    rw (whole_is at-whole, ← sum_is c.before, c.if3.false)
+    rw (whole_is at-whole, ← sum_is c.before, c.if-sum_fits.false)
 
-pub joined-spec : {M : Type 1} → statement M
-joined-spec = tie.close (tie.spec returns returns-2 mul-whole (λ c κs. search rules) add-t10 returns-3 returns-4)
+pub joined_spec : {M : Type 1} → statement M
+joined_spec = tie.close (tie.spec returns returns-2 mul-whole (λ c κs. search rules) add-t10 returns-3 returns-4)

@@ -22,72 +22,72 @@ use Rattle.read_numbers.proofs.years.scan_yyyy.Statement.{statement}
 use Rattle.read_numbers.proofs.years.scan_yyyy.Tie as tie
 
 -- no first number
-returns : tie.Need-returns
-returns c = no-first _ _ c.before.c-strtol.ensures c.if1.true
+returns : tie.Need-returns-then-end-eq0
+returns c = no-first _ _ c.before.c_strtol-a.ensures c.if-end-eq0.true
 
 -- no comma after it
-returns-2 : tie.Need-returns-2
+returns-2 : tie.Need-returns-then-byte_at-ne44
 returns-2 c =
     let Some-number = c.before.before in
-    no-comma _ _ Some-number.before.c-strtol.ensures Some-number.if1.false (λ q. c.if2.true (c.before.byte_at.ensures ∙ q))
+    no-comma _ _ Some-number.before.c_strtol-a.ensures Some-number.if-end-eq0.false (λ q. c.if-byte_at-ne44.true (c.before.byte_at.ensures ∙ q))
 
 -- a comma follows the first number
-module _ (c : tie.Else2) where
+module _ (c : tie.Else-byte_at-ne44) where
   abbrev a : Strtol
-  a = c.before.before.before.c-strtol.result
+  a = c.before.before.before.c_strtol-a.result
 
   abbrev t : List ℕ
   t = c.before.before.before.before.before.args.t.now
 
   first : a ≡ strtol t 0
-  first = c.before.before.before.c-strtol.ensures
+  first = c.before.before.before.c_strtol-a.ensures
 
   comma : byte_at t a.end ≡ code ","
-  comma = sym c.before.byte_at.ensures ∙ c.if2.false
+  comma = sym c.before.byte_at.ensures ∙ c.if-byte_at-ne44.false
 
   within : a.end < length t
   within = comma-within t a first comma
 
-add-past-spaces : tie.Need-overflow-add-past-spaces
+add-past-spaces : tie.Need-overflow_add-end
 add-past-spaces c = omega (arith, within c)
 
 -- the spaces after the comma end within the text
-within-three-requires : tie.Need-within-three-requires
+within-three-requires : tie.Need-within_three-b-requires
 within-three-requires c κs =
     let at-comma = c.before in
-    omega (arith, within at-comma, leading-place is_space (t at-comma) ((a at-comma).end + 1), c.past-spaces.ensures)
+    omega (arith, within at-comma, leading-place is_space (t at-comma) ((a at-comma).end + 1), c.past_spaces-from.ensures)
 
 -- no second number
-returns-3 : tie.Need-returns-3
+returns-3 : tie.Need-returns-then-b-from
 returns-3 c =
     let after-second = c.before.before in
     let at-comma = after-second.before.before in
-    no_second _ _ (first at-comma) at-comma.before.before.if1.false (comma at-comma) _ after-second.before.past-spaces.ensures _ after-second.within-three.ensures
-    c.if3.true
+    no_second _ _ (first at-comma) at-comma.before.before.if-end-eq0.false (comma at-comma) _ after-second.before.past_spaces-from.ensures _ after-second.within_three-b.ensures
+    c.if-b-from.true
 
 -- both numbers have 64 bits
-first_fits : (c : tie.After-c-strtol) → SFits w64 c.c-strtol.result.value
+first_fits : (c : tie.After-c_strtol-a) → SFits w64 c.c_strtol-a.result.value
 first_fits c = search rules
 
-second_fits : (c : tie.After-within-three) → SFits w64 c.within-three.result.value
+second_fits : (c : tie.After-within_three-b) → SFits w64 c.within_three-b.result.value
 second_fits c = search rules
 
 -- both numbers, cut to 32 bits
-returns-4 : tie.Need-returns-4
+returns-4 : tie.Need-returns
 returns-4 c =
     let both-there = c.before.before.before.before in
     let after-second = both-there.before.before in
     let at-comma = after-second.before.before in
-    let cut-first = c.before.before.wrapping-cut in
-    let cut-second = c.wrapping-cut2 in
-    both_read _ _ (first at-comma) at-comma.before.before.if1.false (comma at-comma) _ after-second.before.past-spaces.ensures _ after-second.within-three.ensures
-    both-there.if3.false
+    let cut-first = c.before.before.wrapping_cut in
+    let cut-second = c.wrapping_cut-2 in
+    both_read _ _ (first at-comma) at-comma.before.before.if-end-eq0.false (comma at-comma) _ after-second.before.past_spaces-from.ensures _ after-second.within_three-b.ensures
+    both-there.if-b-from.false
     _ _
     (returned cut-first.type-inv (cut-first.ensures ∙ ap wrap32 (to_z-of_z (first_fits at-comma.before.before.before))))
     (returned cut-second.type-inv (cut-second.ensures ∙ ap wrap32 (to_z-of_z (second_fits after-second))))
 
-pub scan-yyyy-spec : {M : Type 1} → statement M
-scan-yyyy-spec =
+pub scan_yyyy_spec : {M : Type 1} → statement M
+scan_yyyy_spec =
     tie.close
     (tie.spec
     (λ c κs. search rules)

@@ -9,15 +9,15 @@ use Rattle.read_numbers.proofs.years.within_three.Statement.{statement}
 use Rattle.read_numbers.proofs.years.within_three.Tie as tie
 
 -- three bytes or fewer are left
-returns : tie.Need-returns
-returns c = let args = c.before.before.before.args in rw (take_all (args.from + 3) args.t.now (omega arith)) c.c-strtol.ensures
+returns : tie.Need-returns-then-t-from-le3
+returns c = let args = c.before.before.before.args in rw (take_all (args.from + 3) args.t.now (omega arith)) c.c_strtol.ensures
 
 -- the slice up to three bytes on is as long as its end says
-slice-aggregate : tie.Need-slice-aggregate-c-strtol
+slice-aggregate : tie.Need-slice_bounds-c_strtol-end
 slice-aggregate c = sym (length-take-le _ _ (omega arith))
 
-pub within-three-spec : {M : Type 1} → statement M
-within-three-spec =
+pub within_three_spec : {M : Type 1} → statement M
+within_three_spec =
     tie.close
     (tie.spec
     (λ c. search rules)

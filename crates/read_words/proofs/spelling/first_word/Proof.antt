@@ -14,50 +14,50 @@ use Rattle.read_words.proofs.Words.{no-space, from, over, found, next}
 use Rattle.read_words.proofs.spelling.first_word.Statement.{statement}
 use Rattle.read_words.proofs.spelling.first_word.Tie as tie
 
-abbrev invariant-loop : tie.invariant-loop
+abbrev invariant-loop : tie.invariant-loop-k
 invariant-loop table start first k₀ k = (k ≤ 12) × ((list : WordList) → table ≡ word_table list → word_in list start ≡ from start list k)
 
-abbrev decreases-loop : tie.decreases-loop
+abbrev decreases-loop : tie.decreases-loop-k
 decreases-loop table start first k₀ k = 12 - k
 
 -- no word begins with a space
-returns : tie.Need-returns invariant-loop decreases-loop
-returns c list e = no-space _ list c.if1.true
+returns : tie.Need-returns-then-first-eq32 invariant-loop decreases-loop
+returns c list e = no-space _ list c.if-first-eq32.true
 
-loop-holds : tie.Need-loop-init invariant-loop decreases-loop
+loop-holds : tie.Need-loop-k-init invariant-loop decreases-loop
 unfolding word_in
 loop-holds c = (search rules, λ list e. refl)
 
 -- the word of row k is there
-returns-2 : tie.Need-returns-2 invariant-loop decreases-loop
+returns-2 : tie.Need-returns-then-n-gt0 invariant-loop decreases-loop
 returns-2 c list e =
     let in-loop = c.before.before.before.before in
-    found _ list _ _ in-loop.loop-test.true (rw e at c.before.spelled.ensures) c.if3.true (in-loop.before.loop.invariant.1 list e)
+    found _ list _ _ in-loop.loop-k-test.true (rw e at c.before.spelled-n.ensures) c.if-n-gt0.true (in-loop.before.loop-k.invariant.1 list e)
 
 -- the word is not there, or its first byte is another: on to the next row
-loop-again : tie.Need-loop-preserved invariant-loop decreases-loop
+loop-again : tie.Need-loop-k-preserved invariant-loop decreases-loop
 loop-again c =
     let in-loop = c.before.before in
     let at-loop = in-loop.before in
     let args = at-loop.before.before.before.args in
-    let in_table : 9 * at-loop.loop.k < length args.table.now = omega arith in
-    let other = other-first args.table.now at-loop.loop.k args.start.now in_table in (
+    let in_table : 9 * at-loop.loop-k.k < length args.table.now = omega arith in
+    let other = other-first args.table.now at-loop.loop-k.k args.start.now in_table in (
       search rules,
-      λ list e. at-loop.loop.invariant.1 list e ∙ (elim c.if2.branch [
-        | inl w ↦ next _ list _ _ in-loop.loop-test.true (rw e at w.1.ensures) w.2.left
-        | inr w ↦ next _ list _ _ in-loop.loop-test.true (rw e at (other w.left)) (omega arith)
+      λ list e. at-loop.loop-k.invariant.1 list e ∙ (elim c.if-table-k.branch [
+        | inl w ↦ next _ list _ _ in-loop.loop-k-test.true (rw e at w.1.ensures) w.2.left
+        | inr w ↦ next _ list _ _ in-loop.loop-k-test.true (rw e at (other w.left)) (omega arith)
       ]),
     )
 
 -- all rows are tried
-returns-3 : tie.Need-returns-3 invariant-loop decreases-loop
+returns-3 : tie.Need-returns invariant-loop decreases-loop
 returns-3 c list e =
     let at-loop = c.before in
-    let all-rows : at-loop.loop.k ≡ 12 = omega arith in
-    over _ _ (rw all-rows at (at-loop.loop.invariant.1 list e))
+    let all-rows : at-loop.loop-k.k ≡ 12 = omega arith in
+    over _ _ (rw all-rows at (at-loop.loop-k.invariant.1 list e))
 
-pub first-word-spec : {M : Type 1} → statement M
-first-word-spec =
+pub first_word_spec : {M : Type 1} → statement M
+first_word_spec =
     tie.close
     (tie.spec
     invariant-loop
@@ -67,7 +67,7 @@ first-word-spec =
     loop-holds
     (λ c. search rules)
     (λ c. search rules)
-    (λ c κs. (search rules, search rules, c.if2.true, c.before.before.before.before.if1.false))
+    (λ c κs. (search rules, search rules, c.if-table-k.true, c.before.before.before.before.if-first-eq32.false))
     returns-2
     (λ c. search rules)
     (λ c. search rules)

@@ -9,42 +9,42 @@ use Rattle.read_words.proofs.Beginning.{put_next, all-put}
 use Rattle.read_words.proofs.spelling.folded_beginning.Statement.{statement}
 use Rattle.read_words.proofs.spelling.folded_beginning.Tie as tie
 
-abbrev invariant-loop : tie.invariant-loop
+abbrev invariant-loop : tie.invariant-loop-j
 invariant-loop s at most n start₀ j₀ start j = (j ≤ n) × (start ≡ in_nine (beginning j s at))
 
-abbrev decreases-loop : tie.decreases-loop
+abbrev decreases-loop : tie.decreases-loop-j
 decreases-loop s at most n start₀ j₀ start j = 9 - j
 
-loop-holds : tie.Need-loop-init invariant-loop decreases-loop
+loop-holds : tie.Need-loop-j-init invariant-loop decreases-loop
 loop-holds c = (search rules, refl)
 
 -- as many bytes are folded as are wanted, or as there are
-ended : (c : tie.At-loop invariant-loop decreases-loop) → c.loop.j ≡ c.before.fitting.result
-    → let args = c.before.before.before.args in c.loop.start ≡ in_nine (beginning args.most args.s.now args.at)
+ended : (c : tie.At-loop-j invariant-loop decreases-loop) → c.loop-j.j ≡ c.before.fitting-n.result
+    → let args = c.before.before.before.args in c.loop-j.start ≡ in_nine (beginning args.most args.s.now args.at)
 ended c e =
     let args = c.before.before.before.args in
-    c.loop.invariant.1 ∙ all-put args.s.now args.at _ _ c.loop.j c.before.fitting.ensures e
+    c.loop-j.invariant.1 ∙ all-put args.s.now args.at _ _ c.loop-j.j c.before.fitting-n.ensures e
 
 -- the input ends, or no word of the list is longer
-returns : tie.Need-returns invariant-loop decreases-loop
+returns : tie.Need-returns-then-n-j invariant-loop decreases-loop
 returns c = ended c.before.before (omega arith)
 
 -- one more byte
-loop-again : tie.Need-loop-preserved invariant-loop decreases-loop
+loop-again : tie.Need-loop-j-preserved invariant-loop decreases-loop
 loop-again c =
     let at-loop = c.before.before.before.before in
     let args = at-loop.before.before.before.args in (
       search rules,
-      put_next args.s.now args.at at-loop.loop.j (omega arith) at-loop.loop.start c.folded.result (omega arith)
-          at-loop.loop.invariant.1 c.folded.ensures,
+      put_next args.s.now args.at at-loop.loop-j.j (omega arith) at-loop.loop-j.start c.folded.result (omega arith)
+          at-loop.loop-j.invariant.1 c.folded.ensures,
     )
 
 -- nine bytes: no list needs more
-returns-2 : tie.Need-returns-2 invariant-loop decreases-loop
+returns-2 : tie.Need-returns invariant-loop decreases-loop
 returns-2 c = ended c.before (omega arith)
 
-pub folded-beginning-spec : {M : Type 1} → statement M
-folded-beginning-spec =
+pub folded_beginning_spec : {M : Type 1} → statement M
+folded_beginning_spec =
     tie.close
     (tie.spec
     invariant-loop

@@ -8,32 +8,32 @@ use Rattle.read_words.proofs.spelling.seq_search_ascii.Statement.{statement}
 use Rattle.read_words.proofs.spelling.seq_search_ascii.Tie as tie
 
 -- the full names of the months, whose table is at hand
-returns : tie.Need-returns
+returns : tie.Need-returns-in-MonthsFull
 returns c =
     let after-months = c.before.before.before in
     let is-months = after-months.before in
     let after-fold = is-months.before.before in
-    searched _ _ _ _ _ _ after-fold.before.longest.ensures after-fold.folded-beginning.ensures
-    (rw is-months.enum_told.given.1 (c.first_word.ensures _ after-months.months-full.ensures))
+    searched _ _ _ _ _ _ after-fold.before.longest.ensures after-fold.folded_beginning-start.ensures
+    (rw is-months.enum_told-1.given.1 (c.first_word.ensures _ after-months.months_full-months.ensures))
 
 -- any other list
-returns-2 : tie.Need-returns-2
+returns-2 : tie.Need-returns
 returns-2 c =
     let after-words = c.before.before.before in
     let after-fold = after-words.before.before in
-    searched _ _ _ _ _ _ after-fold.before.longest.ensures after-fold.folded-beginning.ensures
-    (c.first-word2.ensures _ after-words.words.ensures)
+    searched _ _ _ _ _ _ after-fold.before.longest.ensures after-fold.folded_beginning-start.ensures
+    (c.first_word-2.ensures _ after-words.words-table.ensures)
 
-pub seq-search-ascii-spec : {M : Type 1} → statement M
-seq-search-ascii-spec =
+pub seq_search_ascii_spec : {M : Type 1} → statement M
+seq_search_ascii_spec =
     tie.close
     (tie.spec
     (λ c κs. search rules)
     (λ c κs. rw c.longest.ensures (laid c.before.before.args.list).short)
     (λ c. search rules)
     (λ c κs. search rules)
-    (λ c κs. ap length c.before.before.months-full.ensures ∙ (laid _).long)
+    (λ c κs. ap length c.before.before.months_full-months.ensures ∙ (laid _).long)
     returns
     (λ c κs. search rules)
-    (λ c κs. ap length c.before.before.words.ensures ∙ (laid _).long)
+    (λ c κs. ap length c.before.before.words-table.ensures ∙ (laid _).long)
     returns-2)

@@ -11,52 +11,52 @@ use Rattle.read_words.proofs.Letters.{onward, begun, at-space, other_byte, same_
 use Rattle.read_words.proofs.spelling.spelled.Statement.{statement}
 use Rattle.read_words.proofs.spelling.spelled.Tie as tie
 
-abbrev invariant-loop : tie.invariant-loop
+abbrev invariant-loop : tie.invariant-loop-j
 invariant-loop table k start j₀ j = (j ≤ 9) × (length_at (row_of table k) start 0 ≡ onward table k start j)
 
-abbrev decreases-loop : tie.decreases-loop
+abbrev decreases-loop : tie.decreases-loop-j
 decreases-loop table k start j₀ j = 9 - j
 
 -- the first byte is the same
-loop-holds : tie.Need-loop-init invariant-loop decreases-loop
+loop-holds : tie.Need-loop-j-init invariant-loop decreases-loop
 loop-holds c = (search rules, begun _ _ _ (omega arith) c.requires.2 c.requires.3)
 
 -- the byte is in the table
-inside : (c : tie.In-loop invariant-loop decreases-loop)
-    → let at-loop = c.before in let args = at-loop.before.args in 9 * args.k + at-loop.loop.j < length args.table.now
+inside : (c : tie.In-loop-j invariant-loop decreases-loop)
+    → let at-loop = c.before in let args = at-loop.before.args in 9 * args.k + at-loop.loop-j.j < length args.table.now
 inside c = omega arith
 
 -- the word ends at a space
-returns : tie.Need-returns invariant-loop decreases-loop
+returns : tie.Need-returns-then-c-eq32 invariant-loop decreases-loop
 returns c =
     let in-loop = c.before.before.before in
-    at-space _ _ _ _ in-loop.loop-test.true (inside in-loop) c.if1.true ∙ sym in-loop.before.loop.invariant.1
+    at-space _ _ _ _ in-loop.loop-j-test.true (inside in-loop) c.if-c-eq32.true ∙ sym in-loop.before.loop-j.invariant.1
 
 -- another byte is there
-returns-2 : tie.Need-returns-2 invariant-loop decreases-loop
+returns-2 : tie.Need-returns-then-b-c invariant-loop decreases-loop
 returns-2 c =
     let no-space = c.before in
     let in-loop = no-space.before.before.before in
-    other_byte _ _ _ _ in-loop.loop-test.true (inside in-loop) no-space.if1.false c.if2.true ∙ sym in-loop.before.loop.invariant.1
+    other_byte _ _ _ _ in-loop.loop-j-test.true (inside in-loop) no-space.if-c-eq32.false c.if-b-c.true ∙ sym in-loop.before.loop-j.invariant.1
 
 -- the same byte is there: on to the next
-loop-again : tie.Need-loop-preserved invariant-loop decreases-loop
+loop-again : tie.Need-loop-j-preserved invariant-loop decreases-loop
 loop-again c =
     let no-space = c.before in
     let in-loop = no-space.before.before.before in (
       search rules,
-      in-loop.before.loop.invariant.1 ∙ same_byte _ _ _ _ in-loop.loop-test.true (inside in-loop) no-space.if1.false c.if2.false,
+      in-loop.before.loop-j.invariant.1 ∙ same_byte _ _ _ _ in-loop.loop-j-test.true (inside in-loop) no-space.if-c-eq32.false c.if-b-c.false,
     )
 
 -- the word fills its row
-returns-3 : tie.Need-returns-3 invariant-loop decreases-loop
+returns-3 : tie.Need-returns invariant-loop decreases-loop
 returns-3 c =
     let row-end = c.before in
-    let all-bytes : row-end.loop.j ≡ 9 = omega arith in
-    sym (rw all-bytes at row-end.loop.invariant.1)
+    let all-bytes : row-end.loop-j.j ≡ 9 = omega arith in
+    sym (rw all-bytes at row-end.loop-j.invariant.1)
 
-pub spelled-spec : {M : Type 1} → statement M
-spelled-spec =
+pub spelled_spec : {M : Type 1} → statement M
+spelled_spec =
     tie.close
     (tie.spec
     invariant-loop

@@ -9,11 +9,11 @@ returns : tie.Need-returns
 unfolding answer_to
 returns c =
     let after-named = c.before.before in
-    let end_is = name-end after-named.before.before.before.find.ensures in
-    rw (← end_is) (rw whole at after-named.put-named.ensures)
+    let end_is = name-end after-named.before.before.before.find-end.ensures in
+    rw (← end_is) (rw whole at after-named.put_named.ensures)
 
-pub answer-spec : {M : Type 1} → statement M
-answer-spec =
+pub answer_spec : {M : Type 1} → statement M
+answer_spec =
     tie.close
     (tie.spec
     (λ c κs. search rules)

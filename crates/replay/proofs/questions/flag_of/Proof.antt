@@ -16,5 +16,5 @@ returns c = by c.args.b
     by true = refl
     by false = refl
 
-pub flag-of-spec : {M : Type 1} → statement M
-flag-of-spec = tie.close (tie.spec (λ c. search rules) returns)
+pub flag_of_spec : {M : Type 1} → statement M
+flag_of_spec = tie.close (tie.spec (λ c. search rules) returns)

@@ -16,12 +16,12 @@ returns c =
     let day : SFits w32 d.day = search rules in
     simp (
       back w64 c.before.before.before.before.wide.ensures c.before.before.before.before.wide.type-inv,
-      back w64 c.before.before.wide2.ensures c.before.before.wide2.type-inv,
-      back w64 c.wide3.ensures c.wide3.type-inv,
+      back w64 c.before.before.wide-2.ensures c.before.before.wide-2.type-inv,
+      back w64 c.wide-3.ensures c.wide-3.type-inv,
       to_z-of_z year,
       to_z-of_z month,
       to_z-of_z day,
     )
 
-pub of-date-spec : {M : Type 1} → statement M
-of-date-spec = tie.close (tie.spec (λ c κs. search rules) (λ c κs. search rules) (λ c κs. search rules) returns)
+pub of_date_spec : {M : Type 1} → statement M
+of_date_spec = tie.close (tie.spec (λ c κs. search rules) (λ c κs. search rules) (λ c κs. search rules) returns)

@@ -12,40 +12,40 @@ use Rattle.replay.proofs.questions.of_numbers.Statement.{statement}
 use Rattle.replay.proofs.questions.of_numbers.Tie as tie
 
 -- one number
-returns : tie.Need-returns
+returns : tie.Need-returns-in-1
 unfolding of_numbers
 returns c =
     let first : SFits w32 (get_or c.before.before.before.before.before.args.n.values 0 (pos 0)) = search rules in
-    rw (c.before.before.match.keys1, c.of_one.ensures, to_z-of_z first)
+    rw (c.before.before.in-1.keys1, c.of_one.ensures, to_z-of_z first)
 
 -- two
-returns-2 : tie.Need-returns-2
+returns-2 : tie.Need-returns-in-2
 unfolding of_numbers
 returns-2 c =
     let values = c.before.before.before.before.before.before.args.n.values in
     let first : SFits w32 (get_or values 0 (pos 0)) = search rules in
     let second : SFits w32 (get_or values 1 (pos 0)) = search rules in
-    rw (c.before.before.before.match.keys2, c.of_two.ensures, to_z-of_z first, to_z-of_z second)
+    rw (c.before.before.before.in-1.keys2, c.of_two.ensures, to_z-of_z first, to_z-of_z second)
 
 -- three
-returns-3 : tie.Need-returns-3
+returns-3 : tie.Need-returns-in-3
 unfolding of_numbers
 returns-3 c =
     let values = c.before.before.before.before.before.before.before.args.n.values in
     let first : SFits w32 (get_or values 0 (pos 0)) = search rules in
     let second : SFits w32 (get_or values 1 (pos 0)) = search rules in
     let third : SFits w32 (get_or values 2 (pos 0)) = search rules in
-    rw (c.before.before.before.before.match.keys3, c.of_three.ensures, to_z-of_z first, to_z-of_z second, to_z-of_z third)
+    rw (c.before.before.before.before.in-1.keys3, c.of_three.ensures, to_z-of_z first, to_z-of_z second, to_z-of_z third)
 
 -- any other count
-returns-4 : tie.Need-returns-4
+returns-4 : tie.Need-returns-in_default
 unfolding of_numbers
 returns-4 c =
     let count = c.before.before.before.args.n.count in
     rw (ne_eqb count 1 (λ e. omega arith), ne_eqb count 2 (λ e. omega arith), ne_eqb count 3 (λ e. omega arith))
 
-pub of-numbers-spec : {M : Type 1} → statement M
-of-numbers-spec =
+pub of_numbers_spec : {M : Type 1} → statement M
+of_numbers_spec =
     tie.close
     (tie.spec
     (λ c. search rules)

@@ -9,29 +9,29 @@ use Rattle.replay.proofs.questions.of_one.Statement.{statement}
 use Rattle.replay.proofs.questions.of_one.Tie as tie
 
 -- the date of a day
-returns : tie.Need-returns
+returns : tie.Need-returns-then-same
 unfolding of_one
 returns c =
     let first = c.before.before in
     let fits = first.before.before.before.before.ranges in
-    rw (same_by first.before.same.ensures first.if1.true)
-    (simp (c.of-date.ensures, c.before.pg-j2date.ensures, to_z-of_z fits.n))
+    rw (same_by first.before.same.ensures first.if-same.true)
+    (simp (c.of_date.ensures, c.before.pg_j2date.ensures, to_z-of_z fits.n))
 
 -- its weekday
-returns-2 : tie.Need-returns-2
+returns-2 : tie.Need-returns-then-same-2
 unfolding of_one
 returns-2 c =
     let second = c.before.before in
     let first = second.before.before.before in
     let fits = first.before.before.before.before.ranges in
     rw (
-      same_by first.before.same.ensures first.if1.false,
-      same_by second.before.same2.ensures second.if2.true,
+      same_by first.before.same.ensures first.if-same.false,
+      same_by second.before.same-2.ensures second.if-same-2.true,
     )
-    (simp (c.one.ensures, back w32 c.before.pg-j2day.ensures c.before.pg-j2day.type-inv, to_z-of_z fits.n))
+    (simp (c.one.ensures, back w32 c.before.pg_j2day.ensures c.before.pg_j2day.type-inv, to_z-of_z fits.n))
 
 -- a leap year
-returns-3 : tie.Need-returns-3
+returns-3 : tie.Need-returns-then-same-3
 unfolding of_one
 returns-3 c =
     let third = c.before.before in
@@ -39,26 +39,26 @@ returns-3 c =
     let first = second.before.before.before in
     let fits = first.before.before.before.before.ranges in
     rw (
-      same_by first.before.same.ensures first.if1.false,
-      same_by second.before.same2.ensures second.if2.false,
-      same_by third.before.same3.ensures third.if3.true,
+      same_by first.before.same.ensures first.if-same.false,
+      same_by second.before.same-2.ensures second.if-same-2.false,
+      same_by third.before.same-3.ensures third.if-same-3.true,
     )
-    (simp (back w64 c.flag-of.ensures c.flag-of.type-inv, c.before.pg-is-leap.ensures, to_z-of_z fits.n))
+    (simp (back w64 c.flag_of.ensures c.flag_of.type-inv, c.before.pg_is_leap.ensures, to_z-of_z fits.n))
 
 -- no such name
-returns-4 : tie.Need-returns-4
+returns-4 : tie.Need-returns
 unfolding of_one
 returns-4 c =
     let second = c.before.before.before in
     let first = second.before.before.before in
     rw (
-      same_by first.before.same.ensures first.if1.false,
-      same_by second.before.same2.ensures second.if2.false,
-      same_by c.before.same3.ensures c.if3.false,
+      same_by first.before.same.ensures first.if-same.false,
+      same_by second.before.same-2.ensures second.if-same-2.false,
+      same_by c.before.same-3.ensures c.if-same-3.false,
     )
 
-pub of-one-spec : {M : Type 1} → statement M
-of-one-spec =
+pub of_one_spec : {M : Type 1} → statement M
+of_one_spec =
     tie.close
     (tie.spec
     (λ c. search rules)

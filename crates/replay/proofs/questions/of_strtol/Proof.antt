@@ -14,53 +14,53 @@ use Rattle.replay.proofs.questions.of_strtol.Statement.{statement}
 use Rattle.replay.proofs.questions.of_strtol.Tie as tie
 
 -- no place
-returns : tie.Need-returns
+returns : tie.Need-returns-then-start
 unfolding of_strtol
-returns c = rw (← c.before.read-place.ensures, c.if1.true)
+returns c = rw (← c.before.read_place-start.ensures, c.if-start.true)
 
 -- no text
-returns-2 : tie.Need-returns-2
+returns-2 : tie.Need-returns-then-bytes
 unfolding of_strtol
-returns-2 c = rw (← c.before.before.before.before.before.read-place.ensures, c.before.before.before.before.if1.false, read_as c.before.before.read-bytes.ensures c.if2.true)
+returns-2 c = rw (← c.before.before.before.before.before.read_place-start.ensures, c.before.before.before.before.if-start.false, read_as c.before.before.read_bytes-bytes.ensures c.if-bytes.true)
 
 -- the text is within the buffer
 part-c-strtol-end : tie.Need-slice-bounds-c-strtol-end
-part-c-strtol-end c = part-fits c.before.before.before.read-bytes.ensures c.before.if2.false
+part-c-strtol-end c = part-fits c.before.before.before.read_bytes-bytes.ensures c.before.if-bytes.false
 
 -- the number ends where it was sought, at a place, or within the text
-end-is-small : (c : tie.After-struct-known) → c.before.c-strtol.result.end < 2 ^ 63
+end-is-small : (c : tie.After-struct_known-1) → c.before.c_strtol-n.result.end < 2 ^ 63
 end-is-small c =
-    let read = c.before.before.before.before.before.before.read-bytes in
+    let read = c.before.before.before.before.before.before.read_bytes-bytes in
     let args = c.before.before.before.before.before.before.before.before.before.before.before.args in
     let text = read.new.1.1.0 in
     let size : length text ≡ 512 = search rules in
-    end-small text (read.result.count - 0) _ _ c.before.c-strtol.ensures (at_small args.line.now args.from _ c.before.before.before.before.before.before.before.before.before.read-place.ensures) size
+    end-small text (read.result.count - 0) _ _ c.before.c_strtol-n.ensures (at_small args.line.now args.from _ c.before.before.before.before.before.before.before.before.before.read_place-start.ensures) size
 
 -- its end can be cast
-cast-t16 : tie.Need-overflow-cast-t16
+cast-t16 : tie.Need-overflow_cast-result
 cast-t16 c = record { sfits = end-is-small c }
 
 -- a number
-returns-3 : tie.Need-returns-3
+returns-3 : tie.Need-returns
 unfolding of_strtol
 returns-3 c =
-    let read = c.before.before.before.before.before.before.before.before.read-bytes.ensures in
-    let ok = c.before.before.before.before.before.before.if2.false in
-    let found = c.before.before.before.c-strtol in
+    let read = c.before.before.before.before.before.before.before.before.read_bytes-bytes.ensures in
+    let ok = c.before.before.before.before.before.before.if-bytes.false in
+    let found = c.before.before.before.c_strtol-n in
     let value-fits : SFits w64 found.result.value = search rules in
     rw (
-      ← c.before.before.before.before.before.before.before.before.before.before.before.read-place.ensures,
-      c.before.before.before.before.before.before.before.before.before.before.if1.false,
+      ← c.before.before.before.before.before.before.before.before.before.before.before.read_place-start.ensures,
+      c.before.before.before.before.before.before.before.before.before.before.if-start.false,
       read_as read ok,
       to_z-of_z value-fits,
       to_z_pos w64 (end-is-small c.before.before),
-      back w64 c.before.flag-of.ensures c.before.flag-of.type-inv,
+      back w64 c.before.flag_of.ensures c.before.flag_of.type-inv,
       found.ensures,
       part-is read ok,
     )
 
-pub of-strtol-spec : {M : Type 1} → statement M
-of-strtol-spec =
+pub of_strtol_spec : {M : Type 1} → statement M
+of_strtol_spec =
     tie.close
     (tie.spec
     (λ c κs. search rules)

@@ -9,29 +9,29 @@ use Rattle.replay.proofs.questions.of_three.Statement.{statement}
 use Rattle.replay.proofs.questions.of_three.Tie as tie
 
 -- the Julian day
-returns : tie.Need-returns
+returns : tie.Need-returns-then-same
 unfolding of_three
 returns c =
     let first = c.before.before in
     let fits = first.before.before.before.before.ranges in
-    rw (same_by first.before.same.ensures first.if1.true)
-    (simp (c.one.ensures, back w32 c.before.pg-date2j.ensures c.before.pg-date2j.type-inv, to_z-of_z fits.y, to_z-of_z fits.m, to_z-of_z fits.d))
+    rw (same_by first.before.same.ensures first.if-same.true)
+    (simp (c.one.ensures, back w32 c.before.pg_date2j.ensures c.before.pg_date2j.type-inv, to_z-of_z fits.y, to_z-of_z fits.m, to_z-of_z fits.d))
 
 -- the ISO week
-returns-2 : tie.Need-returns-2
+returns-2 : tie.Need-returns-then-same-2
 unfolding of_three
 returns-2 c =
     let second = c.before.before in
     let first = second.before.before.before in
     let fits = first.before.before.before.before.ranges in
     rw (
-      same_by first.before.same.ensures first.if1.false,
-      same_by second.before.same2.ensures second.if2.true,
+      same_by first.before.same.ensures first.if-same.false,
+      same_by second.before.same-2.ensures second.if-same-2.true,
     )
-    (simp (c.one2.ensures, back w32 c.before.pg-date2isoweek.ensures c.before.pg-date2isoweek.type-inv, to_z-of_z fits.y, to_z-of_z fits.m, to_z-of_z fits.d))
+    (simp (c.one-then-same-2.ensures, back w32 c.before.pg_date2isoweek.ensures c.before.pg_date2isoweek.type-inv, to_z-of_z fits.y, to_z-of_z fits.m, to_z-of_z fits.d))
 
 -- its year
-returns-3 : tie.Need-returns-3
+returns-3 : tie.Need-returns-then-same-3
 unfolding of_three
 returns-3 c =
     let third = c.before.before in
@@ -39,14 +39,14 @@ returns-3 c =
     let first = second.before.before.before in
     let fits = first.before.before.before.before.ranges in
     rw (
-      same_by first.before.same.ensures first.if1.false,
-      same_by second.before.same2.ensures second.if2.false,
-      same_by third.before.same3.ensures third.if3.true,
+      same_by first.before.same.ensures first.if-same.false,
+      same_by second.before.same-2.ensures second.if-same-2.false,
+      same_by third.before.same-3.ensures third.if-same-3.true,
     )
-    (simp (c.one3.ensures, back w32 c.before.pg-date2isoyear.ensures c.before.pg-date2isoyear.type-inv, to_z-of_z fits.y, to_z-of_z fits.m, to_z-of_z fits.d))
+    (simp (c.one-then-same-3.ensures, back w32 c.before.pg_date2isoyear.ensures c.before.pg_date2isoyear.type-inv, to_z-of_z fits.y, to_z-of_z fits.m, to_z-of_z fits.d))
 
 -- the days since 1970
-returns-4 : tie.Need-returns-4
+returns-4 : tie.Need-returns-then-same-4
 unfolding of_three
 returns-4 c =
     let fourth = c.before in
@@ -55,29 +55,29 @@ returns-4 c =
     let first = second.before.before.before in
     let fits = first.before.before.before.before.ranges in
     rw (
-      same_by first.before.same.ensures first.if1.false,
-      same_by second.before.same2.ensures second.if2.false,
-      same_by third.before.same3.ensures third.if3.false,
-      same_by fourth.before.same4.ensures fourth.if4.true,
+      same_by first.before.same.ensures first.if-same.false,
+      same_by second.before.same-2.ensures second.if-same-2.false,
+      same_by third.before.same-3.ensures third.if-same-3.false,
+      same_by fourth.before.same-4.ensures fourth.if-same-4.true,
     )
-    (simp (back w64 c.days-from-civil.ensures c.days-from-civil.type-inv, to_z-of_z fits.y, to_z-of_z fits.m, to_z-of_z fits.d))
+    (simp (back w64 c.days_from_civil.ensures c.days_from_civil.type-inv, to_z-of_z fits.y, to_z-of_z fits.m, to_z-of_z fits.d))
 
 -- no such name
-returns-5 : tie.Need-returns-5
+returns-5 : tie.Need-returns
 unfolding of_three
 returns-5 c =
     let third = c.before.before.before in
     let second = third.before.before.before in
     let first = second.before.before.before in
     rw (
-      same_by first.before.same.ensures first.if1.false,
-      same_by second.before.same2.ensures second.if2.false,
-      same_by third.before.same3.ensures third.if3.false,
-      same_by c.before.same4.ensures c.if4.false,
+      same_by first.before.same.ensures first.if-same.false,
+      same_by second.before.same-2.ensures second.if-same-2.false,
+      same_by third.before.same-3.ensures third.if-same-3.false,
+      same_by c.before.same-4.ensures c.if-same-4.false,
     )
 
-pub of-three-spec : {M : Type 1} → statement M
-of-three-spec =
+pub of_three_spec : {M : Type 1} → statement M
+of_three_spec =
     tie.close
     (tie.spec
     (λ c. search rules)

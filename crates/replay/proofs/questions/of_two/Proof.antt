@@ -9,22 +9,22 @@ use Rattle.replay.proofs.questions.of_two.Statement.{statement}
 use Rattle.replay.proofs.questions.of_two.Tie as tie
 
 -- the Monday of a week
-returns : tie.Need-returns
+returns : tie.Need-returns-then-same
 unfolding of_two
 returns c =
     let first = c.before.before in
     let fits = first.before.before.before.before.ranges in
-    rw (same_by first.before.same.ensures first.if1.true)
-    (simp (c.one.ensures, back w32 c.before.pg-isoweek2j.ensures c.before.pg-isoweek2j.type-inv, to_z-of_z fits.year, to_z-of_z fits.week))
+    rw (same_by first.before.same.ensures first.if-same.true)
+    (simp (c.one.ensures, back w32 c.before.pg_isoweek2j.ensures c.before.pg_isoweek2j.type-inv, to_z-of_z fits.year, to_z-of_z fits.week))
 
 -- no such name
-returns-2 : tie.Need-returns-2
+returns-2 : tie.Need-returns
 unfolding of_two
 returns-2 c =
-    rw (same_by c.before.same.ensures c.if1.false)
+    rw (same_by c.before.same.ensures c.if-same.false)
 
-pub of-two-spec : {M : Type 1} → statement M
-of-two-spec =
+pub of_two_spec : {M : Type 1} → statement M
+of_two_spec =
     tie.close
     (tie.spec
     (λ c. search rules)

@@ -8,24 +8,24 @@ use Rattle.replay.proofs.questions.of_utf8.Statement.{statement}
 use Rattle.replay.proofs.questions.of_utf8.Tie as tie
 
 -- no text
-returns : tie.Need-returns
+returns : tie.Need-returns-then-bytes
 unfolding of_utf8
-returns c = rw (read_as c.before.before.read-bytes.ensures c.if1.true)
+returns c = rw (read_as c.before.before.read_bytes-bytes.ensures c.if-bytes.true)
 
 -- the text is within the buffer
 part-is-utf8-end : tie.Need-slice-bounds-is-utf8-end
-part-is-utf8-end c = part-fits c.before.before.before.read-bytes.ensures c.before.if1.false
+part-is-utf8-end c = part-fits c.before.before.before.read_bytes-bytes.ensures c.before.if-bytes.false
 
 -- a text
-returns-2 : tie.Need-returns-2
+returns-2 : tie.Need-returns
 unfolding of_utf8
 returns-2 c =
-    let read = c.before.before.before.before.before.before.read-bytes.ensures in
-    let ok = c.before.before.before.before.if1.false in
-    rw (read_as read ok, back w64 c.flag-of.ensures c.flag-of.type-inv, c.before.is-utf8.ensures, part-is read ok)
+    let read = c.before.before.before.before.before.before.read_bytes-bytes.ensures in
+    let ok = c.before.before.before.before.if-bytes.false in
+    rw (read_as read ok, back w64 c.flag_of.ensures c.flag_of.type-inv, c.before.is_utf8.ensures, part-is read ok)
 
-pub of-utf8-spec : {M : Type 1} → statement M
-of-utf8-spec =
+pub of_utf8_spec : {M : Type 1} → statement M
+of_utf8_spec =
     tie.close
     (tie.spec
     (λ c. search rules)

@@ -11,11 +11,11 @@ returns c =
     let third = fourth.before.before.before.before.before in
     let second = third.before.before.before.before.before in
     let first = second.before.before.before.before in
-    let two = put_then _ _ first.put-field.ensures second.put-field2.ensures in
-    put_then _ _ (put_then _ _ two third.put-field3.ensures) fourth.put-field4.ensures
+    let two = put_then _ _ first.put_field-start.ensures second.put_field-len.ensures in
+    put_then _ _ (put_then _ _ two third.put_field-pattern.ensures) fourth.put_field.ensures
 
-pub put-fields-spec : {M : Type 1} → statement M
-put-fields-spec =
+pub put_fields_spec : {M : Type 1} → statement M
+put_fields_spec =
     tie.close
     (tie.spec
     (λ c. search rules)

@@ -6,24 +6,24 @@ use Rattle.replay.proofs.questions.put_line.Statement.{statement}
 use Rattle.replay.proofs.questions.put_line.Tie as tie
 
 -- no text
-returns : tie.Need-returns
+returns : tie.Need-returns-then-bytes
 unfolding line_text
-returns c = rw (read_as c.before.before.before.before.before.before.read-bytes.ensures c.before.before.before.before.if1.true) c.before.before.unknown.ensures
+returns c = rw (read_as c.before.before.before.before.before.before.read_bytes-bytes.ensures c.before.before.before.before.if-bytes.true) c.before.before.unknown.ensures
 
 -- the text is within the buffer
 part-answer-end : tie.Need-slice-bounds-answer-end
-part-answer-end c = part-fits c.before.before.before.read-bytes.ensures c.before.if1.false
+part-answer-end c = part-fits c.before.before.before.read_bytes-bytes.ensures c.before.if-bytes.false
 
 -- a line
-returns-2 : tie.Need-returns-2
+returns-2 : tie.Need-returns
 unfolding line_text
 returns-2 c =
-    let read = c.before.before.before.before.before.before.before.before.read-bytes.ensures in
-    let ok = c.before.before.before.before.before.before.if1.false in
+    let read = c.before.before.before.before.before.before.before.before.read_bytes-bytes.ensures in
+    let ok = c.before.before.before.before.before.before.if-bytes.false in
     rw (read_as read ok) (rw (part-is read ok) at c.before.before.answer.ensures.put)
 
-pub put-line-spec : {M : Type 1} → statement M
-put-line-spec =
+pub put_line_spec : {M : Type 1} → statement M
+put_line_spec =
     tie.close
     (tie.spec
     (λ c. search rules)

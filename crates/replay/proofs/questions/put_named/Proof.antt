@@ -6,41 +6,41 @@ use Rattle.replay.proofs.questions.put_named.Statement.{statement}
 use Rattle.replay.proofs.questions.put_named.Tie as tie
 
 -- the nodes of a template
-returns : tie.Need-returns
+returns : tie.Need-returns-then-same
 unfolding named_text
 returns c =
     let at_1 = c.before.before.before.before in
-    rw (same_by at_1.before.same.ensures at_1.if1.true) c.before.before.put-template.ensures
+    rw (same_by at_1.before.same.ensures at_1.if-same.true) c.before.before.put_template.ensures
 
 -- the parts of a line
-returns-2 : tie.Need-returns-2
+returns-2 : tie.Need-returns-then-same-2
 unfolding named_text
 returns-2 c =
     let at-2 = c.before.before.before.before in
     let at_1 = at-2.before.before.before in
-    rw (same_by at_1.before.same.ensures at_1.if1.false, same_by at-2.before.same2.ensures at-2.if2.true) c.before.before.put-line.ensures
+    rw (same_by at_1.before.same.ensures at_1.if-same.false, same_by at-2.before.same-2.ensures at-2.if-same-2.true) c.before.before.put_line.ensures
 
 -- its instant
-returns-3 : tie.Need-returns-3
+returns-3 : tie.Need-returns-then-same-3
 unfolding named_text
 returns-3 c =
     let at-3 = c.before.before.before.before in
     let at-2 = at-3.before.before.before in
     let at_1 = at-2.before.before.before in
-    rw (same_by at_1.before.same.ensures at_1.if1.false, same_by at-2.before.same2.ensures at-2.if2.false, same_by at-3.before.same3.ensures at-3.if3.true) c.before.before.put-line2.ensures
+    rw (same_by at_1.before.same.ensures at_1.if-same.false, same_by at-2.before.same-2.ensures at-2.if-same-2.false, same_by at-3.before.same-3.ensures at-3.if-same-3.true) c.before.before.put_line-then-same-3.ensures
 
 -- its day
-returns-4 : tie.Need-returns-4
+returns-4 : tie.Need-returns-then-same-4
 unfolding named_text
 returns-4 c =
     let at-4 = c.before.before.before.before in
     let at-3 = at-4.before.before.before in
     let at-2 = at-3.before.before.before in
     let at_1 = at-2.before.before.before in
-    rw (same_by at_1.before.same.ensures at_1.if1.false, same_by at-2.before.same2.ensures at-2.if2.false, same_by at-3.before.same3.ensures at-3.if3.false, same_by at-4.before.same4.ensures at-4.if4.true) c.before.before.put-line3.ensures
+    rw (same_by at_1.before.same.ensures at_1.if-same.false, same_by at-2.before.same-2.ensures at-2.if-same-2.false, same_by at-3.before.same-3.ensures at-3.if-same-3.false, same_by at-4.before.same-4.ensures at-4.if-same-4.true) c.before.before.put_line-then-same-4.ensures
 
 -- the text of its moment
-returns-5 : tie.Need-returns-5
+returns-5 : tie.Need-returns-then-same-5
 unfolding named_text
 returns-5 c =
     let at_5 = c.before.before.before.before in
@@ -48,10 +48,10 @@ returns-5 c =
     let at-3 = at-4.before.before.before in
     let at-2 = at-3.before.before.before in
     let at_1 = at-2.before.before.before in
-    rw (same_by at_1.before.same.ensures at_1.if1.false, same_by at-2.before.same2.ensures at-2.if2.false, same_by at-3.before.same3.ensures at-3.if3.false, same_by at-4.before.same4.ensures at-4.if4.false, same_by at_5.before.same5.ensures at_5.if5.true) c.before.before.put-line4.ensures
+    rw (same_by at_1.before.same.ensures at_1.if-same.false, same_by at-2.before.same-2.ensures at-2.if-same-2.false, same_by at-3.before.same-3.ensures at-3.if-same-3.false, same_by at-4.before.same-4.ensures at-4.if-same-4.false, same_by at_5.before.same-5.ensures at_5.if-same-5.true) c.before.before.put_line-then-same-5.ensures
 
 -- numbers
-returns-6 : tie.Need-returns-6
+returns-6 : tie.Need-returns
 unfolding named_text
 returns-6 c =
     let at_5 = c.before.before.before.before.before in
@@ -59,10 +59,10 @@ returns-6 c =
     let at-3 = at-4.before.before.before in
     let at-2 = at-3.before.before.before in
     let at_1 = at-2.before.before.before in
-    rw (same_by at_1.before.same.ensures at_1.if1.false, same_by at-2.before.same2.ensures at-2.if2.false, same_by at-3.before.same3.ensures at-3.if3.false, same_by at-4.before.same4.ensures at-4.if4.false, same_by at_5.before.same5.ensures at_5.if5.false) (rw c.before.before.before.before.values_of.ensures at c.before.before.put-values.ensures)
+    rw (same_by at_1.before.same.ensures at_1.if-same.false, same_by at-2.before.same-2.ensures at-2.if-same-2.false, same_by at-3.before.same-3.ensures at-3.if-same-3.false, same_by at-4.before.same-4.ensures at-4.if-same-4.false, same_by at_5.before.same-5.ensures at_5.if-same-5.false) (rw c.before.before.before.before.values_of.ensures at c.before.before.put_values.ensures)
 
-pub put-named-spec : {M : Type 1} → statement M
-put-named-spec =
+pub put_named_spec : {M : Type 1} → statement M
+put_named_spec =
     tie.close
     (tie.spec
     (λ c. search rules)

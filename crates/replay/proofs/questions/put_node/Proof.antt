@@ -11,27 +11,27 @@ use Rattle.replay.proofs.questions.put_node.Statement.{statement}
 use Rattle.replay.proofs.questions.put_node.Tie as tie
 
 -- the kind, cast
-kind-is : (c : tie.After-struct-known) → let kind = c.before.before.args.node.kind in to_z w64 kind ≡ pos kind
+kind-is : (c : tie.After-struct_known-1) → let kind = c.before.before.args.node.kind in to_z w64 kind ≡ pos kind
 kind-is c =
     let fits : Fits w8 c.before.before.args.node.kind = search rules in
     to_z_pos w64 (omega arith)
 
 -- the first node
-returns : tie.Need-returns
+returns : tie.Need-returns-then-first
 returns c =
     let at_test = c.before.before.before.before.before.before.before.before in
-    rw at_test.if1.true
-    (put_then _ _ (simp (kind-is at_test.before) at c.before.before.before.before.before.before.put-decimal.ensures) c.before.before.put-fields.ensures)
+    rw at_test.if-first.true
+    (put_then _ _ (simp (kind-is at_test.before) at c.before.before.before.before.before.before.put_decimal-next.ensures) c.before.before.put_fields.ensures)
 
 -- a node after a space
-returns-2 : tie.Need-returns-2
+returns-2 : tie.Need-returns
 returns-2 c =
     let at_test = c.before.before.before.before.before.before.before.before in
-    rw at_test.if1.false
-    (put_then _ _ (simp (kind-is at_test.before) at c.before.before.before.before.before.before.put-after.ensures) c.before.before.put-fields2.ensures)
+    rw at_test.if-first.false
+    (put_then _ _ (simp (kind-is at_test.before) at c.before.before.before.before.before.before.put_after-next.ensures) c.before.before.put_fields-2.ensures)
 
-pub put-node-spec : {M : Type 1} → statement M
-put-node-spec =
+pub put_node_spec : {M : Type 1} → statement M
+put_node_spec =
     tie.close
     (tie.spec
     (λ c. search rules)

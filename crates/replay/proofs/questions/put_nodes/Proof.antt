@@ -12,27 +12,27 @@ use Rattle.replay.proofs.Nodes.{Listed, begun, ended, more, node-is}
 use Rattle.replay.proofs.questions.put_nodes.Statement.{statement}
 use Rattle.replay.proofs.questions.put_nodes.Tie as tie
 
-abbrev invariant-loop : tie.invariant-loop
+abbrev invariant-loop : tie.invariant-loop-i
 invariant-loop t out₀ at nodes count next₀ i₀ out next i = Listed (nodes_of t) out₀ at i out next
 
-abbrev decreases-loop : tie.decreases-loop
+abbrev decreases-loop : tie.decreases-loop-i
 decreases-loop t out₀ at nodes count next₀ i₀ out next i = count - i
 
-loop-again : tie.Need-loop-preserved invariant-loop decreases-loop
+loop-again : tie.Need-loop-i-preserved invariant-loop decreases-loop
 loop-again c =
     let after-node = c.before.before.before.before in
     let at-loop = after-node.before.before.before in
-    let parsed = at-loop.before.before.parse-format.ensures in
-    more at-loop.loop.invariant _ (omega (arith, parsed.count)) (after-node.Node-at.ensures ∙ node-is (small-nodes false _) parsed _ (omega arith)) c.before.before.put-node.ensures
+    let parsed = at-loop.before.before.parse_format-count.ensures in
+    more at-loop.loop-i.invariant _ (omega (arith, parsed.count)) (after-node.Node-at.ensures ∙ node-is (small-nodes false _) parsed _ (omega arith)) c.before.before.put_node-next.ensures
 
 -- no node is left
 returns : tie.Need-returns invariant-loop decreases-loop
 returns c =
-    let parsed = c.before.before.before.parse-format.ensures in
-    ended c.before.loop.invariant (omega (arith, parsed.count))
+    let parsed = c.before.before.before.parse_format-count.ensures in
+    ended c.before.loop-i.invariant (omega (arith, parsed.count))
 
-pub put-nodes-spec : {M : Type 1} → statement M
-put-nodes-spec =
+pub put_nodes_spec : {M : Type 1} → statement M
+put_nodes_spec =
     tie.close
     (tie.spec
     invariant-loop
@@ -43,8 +43,8 @@ put-nodes-spec =
     (λ c. search rules)
     (λ c κs. search rules)
     (λ c κs. search rules)
-    (λ c. omega (arith, c.before.before.before.before.before.before.before.before.before.parse-format.ensures.few))
+    (λ c. omega (arith, c.before.before.before.before.before.before.before.before.before.parse_format-count.ensures.few))
     (λ c. omega arith)
     loop-again
-    (λ c. put-size _ _ c.before.loop.invariant.put)
+    (λ c. put-size _ _ c.before.loop-i.invariant.put)
     returns)

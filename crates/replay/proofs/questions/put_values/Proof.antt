@@ -9,31 +9,31 @@ use Rattle.replay.proofs.questions.put_values.Statement.{statement}
 use Rattle.replay.proofs.questions.put_values.Tie as tie
 
 -- one number
-returns : tie.Need-returns
+returns : tie.Need-returns-in-One
 returns c =
     let at_one = c.before.before.before.before.before in
-    let a : SFits w64 at_one.values.given.0.0 = search rules in
-    rw at_one.values.given.1 (simp (to_z-of_z a) at c.before.before.put-decimal.ensures)
+    let a : SFits w64 at_one.values-1.given.0.0 = search rules in
+    rw at_one.values-1.given.1 (simp (to_z-of_z a) at c.before.before.put_decimal.ensures)
 
 -- three
-returns-2 : tie.Need-returns-2
+returns-2 : tie.Need-returns-in-Three
 returns-2 c =
     let second = c.before.before.before.before.before.before in
     let first = second.before.before.before.before in
     let at-three = first.before.before.before in
-    let given = at-three.values2.given.0 in
+    let given = at-three.values-in-Three-1.given.0 in
     let a : SFits w64 given.0 = search rules in
     let b : SFits w64 given.1.0 = search rules in
     let d : SFits w64 given.1.1.0 = search rules in
-    let two = put_then _ _ (simp (to_z-of_z a) at first.put-decimal2.ensures) (simp (to_z-of_z b) at second.put-after.ensures) in
-    rw at-three.values2.given.1 (put_then _ _ two (simp (to_z-of_z d) at c.before.before.put-after2.ensures))
+    let two = put_then _ _ (simp (to_z-of_z a) at first.put_decimal-first.ensures) (simp (to_z-of_z b) at second.put_after-second.ensures) in
+    rw at-three.values-in-Three-1.given.1 (put_then _ _ two (simp (to_z-of_z d) at c.before.before.put_after.ensures))
 
 -- none
-returns-3 : tie.Need-returns-3
-returns-3 c = rw c.before.before.before.before.enum_told.given.1 c.before.before.unknown.ensures
+returns-3 : tie.Need-returns-in-None
+returns-3 c = rw c.before.before.before.before.enum_told-1.given.1 c.before.before.unknown.ensures
 
-pub put-values-spec : {M : Type 1} → statement M
-put-values-spec =
+pub put_values_spec : {M : Type 1} → statement M
+put_values_spec =
     tie.close
     (tie.spec
     (λ c. search rules)

@@ -6,55 +6,55 @@ use Rattle.replay.proofs.questions.values_of.Statement.{statement}
 use Rattle.replay.proofs.questions.values_of.Tie as tie
 
 -- a number of a text
-returns : tie.Need-returns
+returns : tie.Need-returns-then-same
 unfolding values_of
 returns c =
     let first = c.before in
-    rw (same_by first.before.same.ensures first.if1.true)
-    c.of-strtol.ensures
+    rw (same_by first.before.same.ensures first.if-same.true)
+    c.of_strtol.ensures
 
 -- the length of a character
-returns-2 : tie.Need-returns-2
+returns-2 : tie.Need-returns-then-same-2
 unfolding values_of
 returns-2 c =
     let second = c.before in
     let first = second.before.before.before in
     rw (
-      same_by first.before.same.ensures first.if1.false,
-      same_by second.before.same2.ensures second.if2.true,
+      same_by first.before.same.ensures first.if-same.false,
+      same_by second.before.same-2.ensures second.if-same-2.true,
     )
-    c.of-mblen.ensures
+    c.of_mblen.ensures
 
 -- whether a text is well-formed
-returns-3 : tie.Need-returns-3
+returns-3 : tie.Need-returns-then-same-3
 unfolding values_of
 returns-3 c =
     let third = c.before in
     let second = third.before.before.before in
     let first = second.before.before.before in
     rw (
-      same_by first.before.same.ensures first.if1.false,
-      same_by second.before.same2.ensures second.if2.false,
-      same_by third.before.same3.ensures third.if3.true,
+      same_by first.before.same.ensures first.if-same.false,
+      same_by second.before.same-2.ensures second.if-same-2.false,
+      same_by third.before.same-3.ensures third.if-same-3.true,
     )
-    c.of-utf8.ensures
+    c.of_utf8.ensures
 
 -- a question about numbers
-returns-4 : tie.Need-returns-4
+returns-4 : tie.Need-returns
 unfolding values_of
 returns-4 c =
     let third = c.before.before in
     let second = third.before.before.before in
     let first = second.before.before.before in
     rw (
-      same_by first.before.same.ensures first.if1.false,
-      same_by second.before.same2.ensures second.if2.false,
-      same_by third.before.same3.ensures third.if3.false,
+      same_by first.before.same.ensures first.if-same.false,
+      same_by second.before.same-2.ensures second.if-same-2.false,
+      same_by third.before.same-3.ensures third.if-same-3.false,
     )
-    (simp (c.of-numbers.ensures, c.before.read-numbers.ensures))
+    (simp (c.of_numbers.ensures, c.before.read_numbers.ensures))
 
-pub values-of-spec : {M : Type 1} → statement M
-values-of-spec =
+pub values_of_spec : {M : Type 1} → statement M
+values_of_spec =
     tie.close
     (tie.spec
     (λ c. search rules)

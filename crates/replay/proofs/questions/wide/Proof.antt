@@ -6,7 +6,7 @@ use Rattle.replay.proofs.questions.wide.Statement.{statement}
 use Rattle.replay.proofs.questions.wide.Tie as tie
 
 -- the number can be cast
-cast-result : tie.Need-overflow-cast-result
+cast-result : tie.Need-overflow_cast-result
 cast-result c = wide_fits c.ranges.n
 
 -- the same number

@@ -4,12 +4,12 @@ use Rattle.sorbilgan.proofs.marks.sorbilgan_has_lone_mark.Statement.{statement}
 use Rattle.sorbilgan.proofs.marks.sorbilgan_has_lone_mark.Tie as tie
 
 -- yes
-returns : tie.Need-returns
-returns c = rw (← c.before.has-lone-mark.ensures, c.if1.true)
+returns : tie.Need-returns-then-has_lone_mark
+returns c = rw (← c.before.has_lone_mark.ensures, c.if-has_lone_mark.true)
 
 -- no
-returns-2 : tie.Need-returns-2
-returns-2 c = rw (← c.before.has-lone-mark.ensures, c.if1.false)
+returns-2 : tie.Need-returns-else-has_lone_mark
+returns-2 c = rw (← c.before.has_lone_mark.ensures, c.if-has_lone_mark.false)
 
-pub sorbilgan-has-lone-mark-spec : {M : Type 1} → statement M
-sorbilgan-has-lone-mark-spec = tie.close (tie.spec (λ c κs. search rules) returns returns-2)
+pub sorbilgan_has_lone_mark_spec : {M : Type 1} → statement M
+sorbilgan_has_lone_mark_spec = tie.close (tie.spec (λ c κs. search rules) returns returns-2)

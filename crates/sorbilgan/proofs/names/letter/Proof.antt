@@ -9,17 +9,17 @@ use Rattle.sorbilgan.proofs.names.letter.Statement.{statement}
 use Rattle.sorbilgan.proofs.names.letter.Tie as tie
 
 -- a space: 0
-returns : tie.Need-returns
+returns : tie.Need-returns-then-b-eq32
 returns c =
     let at-start = c.before.before in
     let k = at-start.args.number in
-    sym (get_or-eq_default (name_of k) 0 (at-space k at-start.requires.1 at-start.args.j at-start.requires.2 (rw at-start.requires.0 at c.if1.true)))
+    sym (get_or-eq_default (name_of k) 0 (at-space k at-start.requires.1 at-start.args.j at-start.requires.2 (rw at-start.requires.0 at c.if-b-eq32.true)))
 
 -- a letter
-returns-2 : tie.Need-returns-2
+returns-2 : tie.Need-returns-else-b-eq32
 returns-2 c =
     let at-start = c.before.before in
-    rw at-start.requires.0 (at-letter at-start.args.number at-start.requires.1 at-start.args.j at-start.requires.2 (rw at-start.requires.0 at c.if1.false)).1
+    rw at-start.requires.0 (at-letter at-start.args.number at-start.requires.1 at-start.args.j at-start.requires.2 (rw at-start.requires.0 at c.if-b-eq32.false)).1
 
-pub letter-spec : {M : Type 1} → statement M
-letter-spec = tie.close (tie.spec (λ c. search rules) (λ c. search rules) (λ c. search rules) returns returns-2)
+pub letter_spec : {M : Type 1} → statement M
+letter_spec = tie.close (tie.spec (λ c. search rules) (λ c. search rules) (λ c. search rules) returns returns-2)

@@ -9,35 +9,35 @@ use Rattle.template_patterns.specs.Patterns.{name_of}
 use Rattle.sorbilgan.proofs.names.name_length.Statement.{statement}
 use Rattle.sorbilgan.proofs.names.name_length.Tie as tie
 
-abbrev invariant-loop : tie.invariant-loop
+abbrev invariant-loop : tie.invariant-loop-len
 invariant-loop names number len₀ len = len ≤ length (name_of number)
 
-abbrev decreases-loop : tie.decreases-loop
+abbrev decreases-loop : tie.decreases-loop-len
 decreases-loop names number len₀ len = 5 - len
 
 -- at a space
-returns : tie.Need-returns invariant-loop decreases-loop
+returns : tie.Need-returns-then-names-number-eq32 invariant-loop decreases-loop
 returns c =
     let after_test_lem = c.before.before in
     let at-loop = after_test_lem.before in
     let at-start = at-loop.before in
-    omega (arith, at-space at-start.args.number at-start.requires.1 at-loop.loop.len after_test_lem.loop-test.true (rw at-start.requires.0 at c.if1.true))
+    omega (arith, at-space at-start.args.number at-start.requires.1 at-loop.loop-len.len after_test_lem.loop-len-test.true (rw at-start.requires.0 at c.if-names-number-eq32.true))
 
-loop-again : tie.Need-loop-preserved invariant-loop decreases-loop
+loop-again : tie.Need-loop-len-preserved invariant-loop decreases-loop
 loop-again c =
     let after_test_lem = c.before.before in
     let at-loop = after_test_lem.before in
     let at-start = at-loop.before in
-    omega (arith, (at-letter at-start.args.number at-start.requires.1 at-loop.loop.len after_test_lem.loop-test.true (rw at-start.requires.0 at c.if1.false)).0)
+    omega (arith, (at-letter at-start.args.number at-start.requires.1 at-loop.loop-len.len after_test_lem.loop-len-test.true (rw at-start.requires.0 at c.if-names-number-eq32.false)).0)
 
 -- a name of five letters
-returns-2 : tie.Need-returns-2 invariant-loop decreases-loop
+returns-2 : tie.Need-returns invariant-loop decreases-loop
 returns-2 c =
     let at-start = c.before.before in
     omega (arith, name-length at-start.args.number at-start.requires.1)
 
-pub name-length-spec : {M : Type 1} → statement M
-name-length-spec =
+pub name_length_spec : {M : Type 1} → statement M
+name_length_spec =
     tie.close
     (tie.spec
     invariant-loop

@@ -11,16 +11,16 @@ use Rattle.sorbilgan.proofs.names.sorbilgan_pattern.Tie as tie
 
 -- past the table there is no name
 none-past : (k : ℕ) → 112 ≤ k → name_of k ≡ []
-none-past k h = ap (λ (p : Pattern). p.name) (get_or-eq_default patterns _ h)
+none-past k h = ap (λ (p : Pattern). p.name-1) (get_or-eq_default patterns _ h)
 
 -- past the table
-returns : tie.Need-returns
+returns : tie.Need-returns-then-number-ge-NO_PATTERN
 returns c =
-    let no_name = none-past c.before.before.args.number c.before.if1.true in
+    let no_name = none-past c.before.before.args.number c.before.if-number-ge-NO_PATTERN.true in
     record { is = rw no_name; name = rw no_name }
 
 -- a pattern of the table
-returns-2 : tie.Need-returns-2
+returns-2 : tie.Need-returns
 returns-2 c =
     let at-fifth = c.before.before.before in
     let at-fourth = at-fifth.before.before in
@@ -28,19 +28,19 @@ returns-2 c =
     let at_second = at-third.before.before in
     let at_first = at_second.before.before in
     record {
-      is = c.name-length.ensures;
+      is = c.name_length.ensures;
       name = λ i.
           at_first.letter.ensures i
-          ∷ at_second.letter2.ensures i
-          ∷ at-third.letter3.ensures i
-          ∷ at-fourth.letter4.ensures i
-          ∷ at-fifth.letter5.ensures i
+          ∷ at_second.letter-2.ensures i
+          ∷ at-third.letter-3.ensures i
+          ∷ at-fourth.letter-4.ensures i
+          ∷ at-fifth.letter-5.ensures i
           ∷ 0
           ∷ [];
     }
 
-pub sorbilgan-pattern-spec : {M : Type 1} → statement M
-sorbilgan-pattern-spec =
+pub sorbilgan_pattern_spec : {M : Type 1} → statement M
+sorbilgan_pattern_spec =
     tie.close
     (tie.spec
     returns

@@ -6,5 +6,5 @@ use Rattle.sorbilgan.proofs.version.sorbilgan_version.Tie as tie
 returns : tie.Need-returns
 returns c = refl
 
-pub sorbilgan-version-spec : {M : Type 1} → statement M
-sorbilgan-version-spec = tie.close (tie.spec returns)
+pub sorbilgan_version_spec : {M : Type 1} → statement M
+sorbilgan_version_spec = tie.close (tie.spec returns)

@@ -6,5 +6,5 @@ use Rattle.sorbilgan.proofs.version.sorbilgan_version_4.Tie as tie
 returns : tie.Need-returns
 returns c = refl
 
-pub sorbilgan-version-4-spec : {M : Type 1} → statement M
-sorbilgan-version-4-spec = tie.close (tie.spec returns)
+pub sorbilgan_version_4_spec : {M : Type 1} → statement M
+sorbilgan_version_4_spec = tie.close (tie.spec returns)

@@ -14,40 +14,40 @@ use Rattle.sorbilgan.proofs.with_settings.sorbilgan_compile_with.Statement.{stat
 use Rattle.sorbilgan.proofs.with_settings.sorbilgan_compile_with.Tie as tie
 
 -- the limit is that of the settings
-limit : (c : tie.After-template-limit) → c.template-limit.result ≡ template_limit (settings_of c.before.before.before.args.settings)
-limit c = c.template-limit.ensures ∙ ap template_limit c.before.settings-of.ensures
+limit : (c : tie.After-template_limit) → c.template_limit.result ≡ template_limit (settings_of c.before.before.before.args.settings)
+limit c = c.template_limit.ensures ∙ ap template_limit c.before.settings_of-set.ensures
 
 -- the template is within it
-short : (c : tie.Else1) → length c.before.before.before.before.args.t.now ≤ template_limit (settings_of c.before.before.before.before.args.settings)
+short : (c : tie.Else-template_limit-t) → length c.before.before.before.before.args.t.now ≤ template_limit (settings_of c.before.before.before.before.args.settings)
 short c = omega (arith, limit c.before)
 
 -- over the limit: -1
-returns : tie.Need-returns
+returns : tie.Need-returns-then-template_limit-t
 returns c = long _ _ _ (omega (arith, limit c.before))
 
 -- not UTF-8: -2
-returns-2 : tie.Need-returns-2
+returns-2 : tie.Need-returns-then-not-is_utf8
 returns-2 c =
     let after-utf8 = c.before in
-    ill-formed _ _ _ (short after-utf8.before) (sym after-utf8.is-utf8.ensures ∙ not-true _ c.if2.true)
+    ill-formed _ _ _ (short after-utf8.before) (sym after-utf8.is_utf8.ensures ∙ not-true _ c.if-not-is_utf8.true)
 
 -- within its limit a template has at most 256 bytes
-parse-format-requires : tie.Need-parse-format-requires
+parse-format-requires : tie.Need-parse_format-requires
 parse-format-requires c κs =
     let within-limit = c.before.before.before in
     (omega (arith, short within-limit, template-most (settings_of within-limit.before.before.before.before.args.settings)), omega arith)
 
 -- the bytes of the nodes
-returns-3 : tie.Need-returns-3
+returns-3 : tie.Need-returns
 returns-3 c =
     let at_test = c.before.before in
     let after-utf8 = at_test.before in
-    let set_is = after-utf8.before.before.before.settings-of.ensures in
-    parsed _ _ _ (short after-utf8.before) (sym after-utf8.is-utf8.ensures ∙ not-false _ at_test.if2.false)
-    (rw set_is at c.parse-format.ensures)
+    let set_is = after-utf8.before.before.before.settings_of-set.ensures in
+    parsed _ _ _ (short after-utf8.before) (sym after-utf8.is_utf8.ensures ∙ not-false _ at_test.if-not-is_utf8.false)
+    (rw set_is at c.parse_format.ensures)
 
-pub sorbilgan-compile-with-spec : {M : Type 1} → statement M
-sorbilgan-compile-with-spec =
+pub sorbilgan_compile_with_spec : {M : Type 1} → statement M
+sorbilgan_compile_with_spec =
     tie.close
     (tie.spec
     (λ c κs. search rules)

@@ -9,7 +9,7 @@ returns : tie.Need-returns
 returns c =
     let after_write = c.before.before in
     let fits = after_write.before.before.before.before.before.before.ranges in
-    rw (moment-passed fits.year fits.month fits.day fits.hour fits.minute fits.second fits.micros) at after_write.sorbilgan-write-by-with.ensures
+    rw (moment-passed fits.year fits.month fits.day fits.hour fits.minute fits.second fits.micros) at after_write.sorbilgan_write_by_with.ensures
 
-pub sorbilgan-write-by-spec : {M : Type 1} → statement M
-sorbilgan-write-by-spec = tie.close (tie.spec (λ c κs. search rules) (λ c. search rules) returns)
+pub sorbilgan_write_by_spec : {M : Type 1} → statement M
+sorbilgan_write_by_spec = tie.close (tie.spec (λ c κs. search rules) (λ c. search rules) returns)

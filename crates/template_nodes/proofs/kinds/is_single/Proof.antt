@@ -6,12 +6,12 @@ use Rattle.template_nodes.proofs.kinds.is_single.Statement.{statement}
 use Rattle.template_nodes.proofs.kinds.is_single.Tie as tie
 
 -- in quotes
-returns : tie.Need-returns
-returns c = rw c.if1.true
+returns : tie.Need-returns-then-quoted
+returns c = rw c.if-quoted.true
 
 -- outside quotes
-returns-2 : tie.Need-returns-2
-returns-2 c = rw c.before.before.if1.false (c.in-set.ensures ∙ singles _)
+returns-2 : tie.Need-returns
+returns-2 c = rw c.before.before.if-quoted.false (c.in_set.ensures ∙ singles _)
 
-pub is-single-spec : {M : Type 1} → statement M
-is-single-spec = tie.close (tie.spec returns (λ c. search rules) (λ c κs. search rules) returns-2)
+pub is_single_spec : {M : Type 1} → statement M
+is_single_spec = tie.close (tie.spec returns (λ c. search rules) (λ c κs. search rules) returns-2)

@@ -4,12 +4,12 @@ use Rattle.template_nodes.proofs.kinds.literal_kind.Statement.{statement}
 use Rattle.template_nodes.proofs.kinds.literal_kind.Tie as tie
 
 -- in quotes
-returns : tie.Need-returns
-returns c = rw c.if1.true
+returns : tie.Need-returns-then-quoted
+returns c = rw c.if-quoted.true
 
 -- outside quotes
-returns-2 : tie.Need-returns-2
-returns-2 c = rw c.before.if1.false c.kind-of.ensures
+returns-2 : tie.Need-returns
+returns-2 c = rw c.before.if-quoted.false c.kind_of.ensures
 
-pub literal-kind-spec : {M : Type 1} → statement M
-literal-kind-spec = tie.close (tie.spec returns (λ c κs. search rules) returns-2)
+pub literal_kind_spec : {M : Type 1} → statement M
+literal_kind_spec = tie.close (tie.spec returns (λ c κs. search rules) returns-2)

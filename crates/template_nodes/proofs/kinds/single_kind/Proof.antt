@@ -7,12 +7,12 @@ use Rattle.template_nodes.proofs.kinds.single_kind.Statement.{statement}
 use Rattle.template_nodes.proofs.kinds.single_kind.Tie as tie
 
 -- a space
-returns : tie.Need-returns
-returns c = let at-start = c.before in rw (single-kind at-start.args.b at-start.requires, le-leb _ _ c.if1.true)
+returns : tie.Need-returns-then-b-le32
+returns c = let at-start = c.before in rw (single-kind at-start.args.b at-start.requires, le-leb _ _ c.if-b-le32.true)
 
 -- a separator
-returns-2 : tie.Need-returns-2
-returns-2 c = let at-start = c.before in rw (single-kind at-start.args.b at-start.requires, lt-leb _ _ c.if1.false)
+returns-2 : tie.Need-returns
+returns-2 c = let at-start = c.before in rw (single-kind at-start.args.b at-start.requires, lt-leb _ _ c.if-b-le32.false)
 
-pub single-kind-spec : {M : Type 1} → statement M
-single-kind-spec = tie.close (tie.spec returns returns-2)
+pub single_kind_spec : {M : Type 1} → statement M
+single_kind_spec = tie.close (tie.spec returns returns-2)

@@ -17,10 +17,10 @@ use Rattle.template_nodes.proofs.Encoding.{nodes-length}
 use Rattle.template_nodes.proofs.marks.has_lone_mark.Statement.{statement}
 use Rattle.template_nodes.proofs.marks.has_lone_mark.Tie as tie
 
-abbrev invariant-loop : tie.invariant-loop
+abbrev invariant-loop : tie.invariant-loop-i
 invariant-loop c t count i₀ i = has_lone_mark t (drop i (nodes_in c)) ≡ has_lone_mark t (nodes_in c)
 
-abbrev decreases-loop : tie.decreases-loop
+abbrev decreases-loop : tie.decreases-loop-i
 decreases-loop c t count i₀ i = count - i
 
 -- the node at i, and those after it
@@ -38,36 +38,36 @@ unfolding has_lone_mark
 none_left t ns i h = rw (drop_of_length-le ns h)
 
 -- a mark
-returns : tie.Need-returns invariant-loop decreases-loop
+returns : tie.Need-returns-then-is_lone_mark invariant-loop decreases-loop
 returns c =
     let at-loop = c.before.before.before.before in
     let args = at-loop.before.before.before.args in
     let ns = nodes_in args.c.now in
-    let i = at-loop.loop.i in
+    let i = at-loop.loop-i.i in
     let inside : i < length ns = omega (arith, nodes-length args.c.now) in
-    sym (sym at-loop.loop.invariant ∙ this-one args.t.now ns i inside (rw (← c.before.before.Node-at.ensures) (sym c.before.is-lone-mark.ensures ∙ c.if1.true)))
+    sym (sym at-loop.loop-i.invariant ∙ this-one args.t.now ns i inside (rw (← c.before.before.Node-at.ensures) (sym c.before.is_lone_mark.ensures ∙ c.if-is_lone_mark.true)))
 
 -- none yet
-loop-again : tie.Need-loop-preserved invariant-loop decreases-loop
+loop-again : tie.Need-loop-i-preserved invariant-loop decreases-loop
 loop-again c =
     let at-loop = c.before.before.before.before in
     let args = at-loop.before.before.before.args in
     let ns = nodes_in args.c.now in
-    let i = at-loop.loop.i in
+    let i = at-loop.loop-i.i in
     let inside : i < length ns = omega (arith, nodes-length args.c.now) in
-    rw add-one (sym (another args.t.now ns i inside (rw (← c.before.before.Node-at.ensures) (sym c.before.is-lone-mark.ensures ∙ c.if1.false))) ∙ at-loop.loop.invariant)
+    rw add-one (sym (another args.t.now ns i inside (rw (← c.before.before.Node-at.ensures) (sym c.before.is_lone_mark.ensures ∙ c.if-is_lone_mark.false))) ∙ at-loop.loop-i.invariant)
 
 -- none at all
-returns-2 : tie.Need-returns-2 invariant-loop decreases-loop
+returns-2 : tie.Need-returns invariant-loop decreases-loop
 returns-2 c =
     let at-loop = c.before in
     let args = at-loop.before.before.before.args in
     let ns = nodes_in args.c.now in
-    let i = at-loop.loop.i in
-    sym (sym at-loop.loop.invariant ∙ none_left args.t.now ns i (omega (arith, nodes-length args.c.now)))
+    let i = at-loop.loop-i.i in
+    sym (sym at-loop.loop-i.invariant ∙ none_left args.t.now ns i (omega (arith, nodes-length args.c.now)))
 
-pub has-lone-mark-spec : {M : Type 1} → statement M
-has-lone-mark-spec =
+pub has_lone_mark_spec : {M : Type 1} → statement M
+has_lone_mark_spec =
     tie.close
     (tie.spec
     invariant-loop

@@ -5,12 +5,12 @@ use Rattle.template_nodes.proofs.marks.is_lone_mark.Statement.{statement}
 use Rattle.template_nodes.proofs.marks.is_lone_mark.Tie as tie
 
 -- a pattern
-returns : tie.Need-returns
-returns c = rw (eq-eqb _ _ c.if1.true)
+returns : tie.Need-returns-then-n-eq-FN_ACTION
+returns c = rw (eq-eqb _ _ c.if-n-eq-FN_ACTION.true)
 
 -- a literal
-returns-2 : tie.Need-returns-2
-returns-2 c = rw (ne_eqb _ _ c.before.before.if1.false) c.is-mark.ensures
+returns-2 : tie.Need-returns
+returns-2 c = rw (ne_eqb _ _ c.before.before.if-n-eq-FN_ACTION.false) c.is_mark.ensures
 
-pub is-lone-mark-spec : {M : Type 1} → statement M
-is-lone-mark-spec = tie.close (tie.spec returns (λ c. search rules) (λ c κs. search rules) returns-2)
+pub is_lone_mark_spec : {M : Type 1} → statement M
+is_lone_mark_spec = tie.close (tie.spec returns (λ c. search rules) (λ c κs. search rules) returns-2)

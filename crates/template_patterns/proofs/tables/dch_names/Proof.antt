@@ -9,5 +9,5 @@ returns : tie.Need-returns
 unfolding name_table
 returns c = refl
 
-pub dch-names-spec : {M : Type 1} → statement M
-dch-names-spec = tie.close (tie.spec returns)
+pub dch_names_spec : {M : Type 1} → statement M
+dch_names_spec = tie.close (tie.spec returns)

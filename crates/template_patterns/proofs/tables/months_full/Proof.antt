@@ -9,5 +9,5 @@ returns : tie.Need-returns
 unfolding word_table
 returns c = refl
 
-pub months-full-spec : {M : Type 1} → statement M
-months-full-spec = tie.close (tie.spec returns)
+pub months_full_spec : {M : Type 1} → statement M
+months_full_spec = tie.close (tie.spec returns)

@@ -5,9 +5,9 @@ use Rattle.template_patterns.specs.Words.{word_table}
 use Rattle.template_patterns.proofs.tables.words.Statement.{statement}
 use Rattle.template_patterns.proofs.tables.words.Tie as tie
 
-pub words-spec : {M : Type 1} → statement M
+pub words_spec : {M : Type 1} → statement M
 unfolding word_table
-words-spec =
+words_spec =
     tie.close
     (tie.spec
     (λ c. search rules)
@@ -19,12 +19,12 @@ words-spec =
     (λ c. search rules)
     (λ c. search rules)
     (λ c. search rules)
-    (λ c. rw c.enum_told.given.1)
-    (λ c. rw c.enum-told2.given.1)
-    (λ c. rw c.enum-told3.given.1)
-    (λ c. rw c.enum-told4.given.1)
-    (λ c. rw c.enum-told5.given.1)
-    (λ c. rw c.enum-told6.given.1)
-    (λ c. rw c.enum-told7.given.1)
-    (λ c. rw c.enum-told8.given.1)
-    (λ c. rw c.enum-told9.given.1))
+    (λ c. rw c.enum_told-1.given.1)
+    (λ c. rw c.enum_told-in-MonthsAbbrev-1.given.1)
+    (λ c. rw c.enum_told-in-DaysFull-1.given.1)
+    (λ c. rw c.enum_told-in-DaysAbbrev-1.given.1)
+    (λ c. rw c.enum_told-in-AmPm-1.given.1)
+    (λ c. rw c.enum_told-in-AmPmLong-1.given.1)
+    (λ c. rw c.enum_told-in-AdBc-1.given.1)
+    (λ c. rw c.enum_told-in-AdBcLong-1.given.1)
+    (λ c. rw c.enum_told-in-RomanMonths-1.given.1))

@@ -6,16 +6,16 @@ use mir.Facts.{to_z-of_z}
 use Rattle.write_pieces.proofs.numbers.in_range.Statement.{statement}
 use Rattle.write_pieces.proofs.numbers.in_range.Tie as tie
 
-not-below : (c : tie.Else1) → lt_z c.before.args.x c.before.args.low ≡ false
-not-below c = let fits = c.before.ranges in simp (to_z-of_z fits.x, to_z-of_z fits.low) at c.if1.false
+not-below : (c : tie.Else-x-low) → lt_z c.before.args.x c.before.args.low ≡ false
+not-below c = let fits = c.before.ranges in simp (to_z-of_z fits.x, to_z-of_z fits.low) at c.if-x-low.false
 
-pub in-range-spec : {M : Type 1} → statement M
-in-range-spec =
+pub in_range_spec : {M : Type 1} → statement M
+in_range_spec =
     tie.close
     (tie.spec
     -- below low
-    (λ c. let fits = c.before.ranges in rw (simp (to_z-of_z fits.x, to_z-of_z fits.low) at c.if1.true))
+    (λ c. let fits = c.before.ranges in rw (simp (to_z-of_z fits.x, to_z-of_z fits.low) at c.if-x-low.true))
     -- above high
-    (λ c. let fits = c.before.before.ranges in rw (not-below c.before, simp (to_z-of_z fits.x, to_z-of_z fits.high) at c.if2.true))
+    (λ c. let fits = c.before.before.ranges in rw (not-below c.before, simp (to_z-of_z fits.x, to_z-of_z fits.high) at c.if-high-x.true))
     -- neither
-    (λ c. let fits = c.before.before.ranges in rw (not-below c.before, simp (to_z-of_z fits.x, to_z-of_z fits.high) at c.if2.false)))
+    (λ c. let fits = c.before.before.ranges in rw (not-below c.before, simp (to_z-of_z fits.x, to_z-of_z fits.high) at c.if-high-x.false)))

@@ -23,22 +23,22 @@ said {r} e n = sym e ∙ by r n
     by false n = ap not n
 
 -- the start, from each test
-abbrev start1 : tie.After-in-range → tie.Start
+abbrev start1 : tie.After-in_range → tie.Start
 start1 c = c.before.before
 
-abbrev start2 : tie.After-in-range2 → tie.Start
+abbrev start2 : tie.After-in_range-2 → tie.Start
 start2 c = start1 c.before.before.before.before.before.before.before
 
-abbrev start3 : tie.After-in-range3 → tie.Start
+abbrev start3 : tie.After-in_range-3 → tie.Start
 start3 c = start2 c.before.before.before
 
-abbrev start4 : tie.After-in-range4 → tie.Start
+abbrev start4 : tie.After-in_range-4 → tie.Start
 start4 c = start3 c.before.before.before
 
-abbrev start5 : tie.After-in-range5 → tie.Start
+abbrev start5 : tie.After-in_range-5 → tie.Start
 start5 c = start4 c.before.before.before
 
-abbrev start6 : tie.After-in-range6 → tie.Start
+abbrev start6 : tie.After-in_range-6 → tie.Start
 start6 c = start5 c.before.before.before
 
 -- a number of the moment, which fits 32 bits, reads back from its bits as itself
@@ -46,65 +46,65 @@ back : (z : ℤ) → SFits w32 z → read z ≡ z
 back z fits = to_z-of_z fits
 
 -- each test of the code, as the definition has it
-year : (c : tie.After-in-range) → c.in-range.result ≡ within (pos 1) (pos 9999) (start1 c).args.m.year
-year c = simp (back (start1 c).args.m.year (search rules)) at c.in-range.ensures
+year : (c : tie.After-in_range) → c.in_range.result ≡ within (pos 1) (pos 9999) (start1 c).args.m.year
+year c = simp (back (start1 c).args.m.year (search rules)) at c.in_range.ensures
 
-day : (c : tie.After-in-range2) → c.in-range2.result ≡ within (pos 1) (pos (length_of (is_leap (nat_abs (start2 c).args.m.year)) (start2 c).args.m.month)) (start2 c).args.m.day
+day : (c : tie.After-in_range-2) → c.in_range-2.result ≡ within (pos 1) (pos (length_of (is_leap (nat_abs (start2 c).args.m.year)) (start2 c).args.m.month)) (start2 c).args.m.day
 day c =
     let m = (start2 c).args.m in
     let at_length = c.before.before in
-    let leap = at_length.before.before.pg-is-leap.ensures in
-    let length = simp (leap, back m.year (search rules), back m.month (search rules)) at at_length.month-length.ensures in
-    simp (back m.day (search rules), returned at_length.month-length.type-inv length) at c.in-range2.ensures
+    let leap = at_length.before.before.pg_is_leap.ensures in
+    let length = simp (leap, back m.year (search rules), back m.month (search rules)) at at_length.month_length-days.ensures in
+    simp (back m.day (search rules), returned at_length.month_length-days.type-inv length) at c.in_range-2.ensures
 
-hour : (c : tie.After-in-range3) → c.in-range3.result ≡ within (pos 0) (pos 23) (start3 c).args.m.hour
-hour c = simp (back (start3 c).args.m.hour (search rules)) at c.in-range3.ensures
+hour : (c : tie.After-in_range-3) → c.in_range-3.result ≡ within (pos 0) (pos 23) (start3 c).args.m.hour
+hour c = simp (back (start3 c).args.m.hour (search rules)) at c.in_range-3.ensures
 
-minute : (c : tie.After-in-range4) → c.in-range4.result ≡ within (pos 0) (pos 59) (start4 c).args.m.minute
-minute c = simp (back (start4 c).args.m.minute (search rules)) at c.in-range4.ensures
+minute : (c : tie.After-in_range-4) → c.in_range-4.result ≡ within (pos 0) (pos 59) (start4 c).args.m.minute
+minute c = simp (back (start4 c).args.m.minute (search rules)) at c.in_range-4.ensures
 
-second : (c : tie.After-in-range5) → c.in-range5.result ≡ within (pos 0) (pos 59) (start5 c).args.m.second
-second c = simp (back (start5 c).args.m.second (search rules)) at c.in-range5.ensures
+second : (c : tie.After-in_range-5) → c.in_range-5.result ≡ within (pos 0) (pos 59) (start5 c).args.m.second
+second c = simp (back (start5 c).args.m.second (search rules)) at c.in_range-5.ensures
 
-micros : (c : tie.After-in-range6) → c.in-range6.result ≡ within (pos 0) (pos 999999) (start6 c).args.m.micros
-micros c = simp (back (start6 c).args.m.micros (search rules)) at c.in-range6.ensures
+micros : (c : tie.After-in_range-6) → c.in_range-6.result ≡ within (pos 0) (pos 999999) (start6 c).args.m.micros
+micros c = simp (back (start6 c).args.m.micros (search rules)) at c.in_range-6.ensures
 
 -- the year is out of range
-returns : tie.Need-returns
+returns : tie.Need-returns-then-not-in_range
 unfolding is_moment
-returns c = rw (said (year c.before) c.if1.true)
+returns c = rw (said (year c.before) c.if-not-in_range.true)
 
 -- the month does not have the day
-returns-2 : tie.Need-returns-2
+returns-2 : tie.Need-returns-then-not-in_range-2
 unfolding is_moment
 returns-2 c =
     let at-year = c.before.before.before.before.before.before.before in
-    rw (said (year at-year.before) at-year.if1.false, said (day c.before) c.if2.true)
+    rw (said (year at-year.before) at-year.if-not-in_range.false, said (day c.before) c.if-not-in_range-2.true)
 
 -- the hour is out of range
-returns-3 : tie.Need-returns-3
+returns-3 : tie.Need-returns-then-not-in_range-3
 unfolding is_moment
 returns-3 c =
     let at-day = c.before.before.before in
     let at-year = at-day.before.before.before.before.before.before.before in
-    rw (said (year at-year.before) at-year.if1.false, said (day at-day.before) at-day.if2.false, said (hour c.before) c.if3.true)
+    rw (said (year at-year.before) at-year.if-not-in_range.false, said (day at-day.before) at-day.if-not-in_range-2.false, said (hour c.before) c.if-not-in_range-3.true)
 
 -- the minute is out of range
-returns-4 : tie.Need-returns-4
+returns-4 : tie.Need-returns-then-not-in_range-4
 unfolding is_moment
 returns-4 c =
     let at-hour = c.before.before.before in
     let at-day = at-hour.before.before.before in
     let at-year = at-day.before.before.before.before.before.before.before in
     rw (
-      said (year at-year.before) at-year.if1.false,
-      said (day at-day.before) at-day.if2.false,
-      said (hour at-hour.before) at-hour.if3.false,
-      said (minute c.before) c.if4.true,
+      said (year at-year.before) at-year.if-not-in_range.false,
+      said (day at-day.before) at-day.if-not-in_range-2.false,
+      said (hour at-hour.before) at-hour.if-not-in_range-3.false,
+      said (minute c.before) c.if-not-in_range-4.true,
     )
 
 -- the second is out of range
-returns-5 : tie.Need-returns-5
+returns-5 : tie.Need-returns-then-not-in_range-5
 unfolding is_moment
 returns-5 c =
     let at-minute = c.before.before.before in
@@ -112,15 +112,15 @@ returns-5 c =
     let at-day = at-hour.before.before.before in
     let at-year = at-day.before.before.before.before.before.before.before in
     rw (
-      said (year at-year.before) at-year.if1.false,
-      said (day at-day.before) at-day.if2.false,
-      said (hour at-hour.before) at-hour.if3.false,
-      said (minute at-minute.before) at-minute.if4.false,
-      said (second c.before) c.if5.true,
+      said (year at-year.before) at-year.if-not-in_range.false,
+      said (day at-day.before) at-day.if-not-in_range-2.false,
+      said (hour at-hour.before) at-hour.if-not-in_range-3.false,
+      said (minute at-minute.before) at-minute.if-not-in_range-4.false,
+      said (second c.before) c.if-not-in_range-5.true,
     )
 
 -- the microsecond decides
-returns-6 : tie.Need-returns-6
+returns-6 : tie.Need-returns
 unfolding is_moment
 returns-6 c =
     let at_second = c.before.before in
@@ -129,15 +129,15 @@ returns-6 c =
     let at-day = at-hour.before.before.before in
     let at-year = at-day.before.before.before.before.before.before.before in
     rw (
-      said (year at-year.before) at-year.if1.false,
-      said (day at-day.before) at-day.if2.false,
-      said (hour at-hour.before) at-hour.if3.false,
-      said (minute at-minute.before) at-minute.if4.false,
-      said (second at_second.before) at_second.if5.false,
+      said (year at-year.before) at-year.if-not-in_range.false,
+      said (day at-day.before) at-day.if-not-in_range-2.false,
+      said (hour at-hour.before) at-hour.if-not-in_range-3.false,
+      said (minute at-minute.before) at-minute.if-not-in_range-4.false,
+      said (second at_second.before) at_second.if-not-in_range-5.false,
     ) (micros c)
 
-pub is-moment-spec : {M : Type 1} → statement M
-is-moment-spec =
+pub is_moment_spec : {M : Type 1} → statement M
+is_moment_spec =
     tie.close
     (tie.spec
     (λ c κs. search rules)

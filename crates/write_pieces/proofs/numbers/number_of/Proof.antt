@@ -14,9 +14,9 @@ use Rattle.write_pieces.proofs.numbers.number_of.Tie as tie
 given : (c : tie.Start) → Numbers c.args.m
 given c = numbers _ c.requires
 
-pub number-of-spec : {M : Type 1} → statement M
+pub number_of_spec : {M : Type 1} → statement M
 unfolding number_of
-number-of-spec =
+number_of_spec =
     tie.close
     (tie.spec
     -- what each arm asks for: calls, casts and sums
@@ -26,16 +26,16 @@ number-of-spec =
     (λ c. cast (given c.before.before.before).day w32 tt)
     -- YEAR_DAY
     (λ c κs. search rules)
-    (λ c. cast (result c.day-of-year.ensures (dates (given c.before.before.before.before.before)).year-day) w64 tt)
+    (λ c. cast (result c.day_of_year.ensures (dates (given c.before.before.before.before.before)).year-day) w64 tt)
     -- WEEK_YEAR
     (λ c κs. search rules)
-    (λ c. cast (result c.pg-date2isoyear.ensures (dates (given c.before.before.before.before.before)).week-year) w32 tt)
+    (λ c. cast (result c.pg_date2isoyear.ensures (dates (given c.before.before.before.before.before)).week-year) w32 tt)
     -- WEEK
     (λ c κs. search rules)
-    (λ c. cast (result c.pg-date2isoweek.ensures (dates (given c.before.before.before.before.before)).week) w32 tt)
+    (λ c. cast (result c.pg_date2isoweek.ensures (dates (given c.before.before.before.before.before)).week) w32 tt)
     -- WEEKDAY
     (λ c κs. search rules)
-    (λ c. cast (result c.pg-date2j.ensures (dates (given c.before.before.before.before.before)).day-number) w32 tt)
+    (λ c. cast (result c.pg_date2j.ensures (dates (given c.before.before.before.before.before)).day-number) w32 tt)
     (λ c. search rules)
     -- HOUR24
     (λ c. cast (given c.before.before.before).hour w32 tt)
@@ -57,16 +57,16 @@ number-of-spec =
     -- any other: the microsecond
     (λ c. cast (given c.before.before.before).micros w32 tt)
     -- what each arm returns, in the same order
-    (λ c. rw c.before.before.match.keys1 (value (given c.before.before.before).year w32 tt))
-    (λ c. rw c.before.before.match.keys2 (value (given c.before.before.before).month w32 tt))
-    (λ c. rw c.before.before.match.keys3 (value (given c.before.before.before).day w32 tt))
-    (λ c. rw c.before.before.before.before.match.keys4 (value (result c.day-of-year.ensures (dates (given c.before.before.before.before.before)).year-day) w64 tt))
-    (λ c. rw c.before.before.before.before.match.keys5 (value (result c.pg-date2isoyear.ensures (dates (given c.before.before.before.before.before)).week-year) w32 tt))
-    (λ c. rw c.before.before.before.before.match.keys6 (value (result c.pg-date2isoweek.ensures (dates (given c.before.before.before.before.before)).week) w32 tt))
-    (λ c. rw (c.before.before.before.before.match.keys7, value (result c.pg-date2j.ensures (dates (given c.before.before.before.before.before)).day-number) w32 tt))
-    (λ c. rw c.before.before.match.keys8 (value (given c.before.before.before).hour w32 tt))
-    (λ c. rw c.before.before.match.keys9 (ap (λ (h : ℕ). (h + 11) % 12 + 1) (value (given c.before.before.before).hour w32 tt)))
-    (λ c. rw c.before.before.match.keys10 (value (given c.before.before.before).minute w32 tt))
-    (λ c. rw c.before.before.match.keys11 (value (given c.before.before.before).second w32 tt))
-    (λ c. let at-arm = c.before.before.before.before.before.before in let known = given at-arm.before in rw (at-arm.match.keys12, value known.hour w32 tt, value known.minute w32 tt, value known.second w32 tt))
-    (λ c. let at-start = c.before.before.before in value (given at-start).micros w32 tt ∙ sym (last-number at-start.args.piece at-start.args.m c.before.before.match.rest)))
+    (λ c. rw c.before.before.in-1.keys1 (value (given c.before.before.before).year w32 tt))
+    (λ c. rw c.before.before.in-1.keys2 (value (given c.before.before.before).month w32 tt))
+    (λ c. rw c.before.before.in-1.keys3 (value (given c.before.before.before).day w32 tt))
+    (λ c. rw c.before.before.before.before.in-1.keys4 (value (result c.day_of_year.ensures (dates (given c.before.before.before.before.before)).year-day) w64 tt))
+    (λ c. rw c.before.before.before.before.in-1.keys5 (value (result c.pg_date2isoyear.ensures (dates (given c.before.before.before.before.before)).week-year) w32 tt))
+    (λ c. rw c.before.before.before.before.in-1.keys6 (value (result c.pg_date2isoweek.ensures (dates (given c.before.before.before.before.before)).week) w32 tt))
+    (λ c. rw (c.before.before.before.before.in-1.keys7, value (result c.pg_date2j.ensures (dates (given c.before.before.before.before.before)).day-number) w32 tt))
+    (λ c. rw c.before.before.in-1.keys8 (value (given c.before.before.before).hour w32 tt))
+    (λ c. rw c.before.before.in-1.keys9 (ap (λ (h : ℕ). (h + 11) % 12 + 1) (value (given c.before.before.before).hour w32 tt)))
+    (λ c. rw c.before.before.in-1.keys10 (value (given c.before.before.before).minute w32 tt))
+    (λ c. rw c.before.before.in-1.keys11 (value (given c.before.before.before).second w32 tt))
+    (λ c. let at-arm = c.before.before.before.before.before.before in let known = given at-arm.before in rw (at-arm.in-1.keys12, value known.hour w32 tt, value known.minute w32 tt, value known.second w32 tt))
+    (λ c. let at-start = c.before.before.before in value (given at-start).micros w32 tt ∙ sym (last-number at-start.args.piece at-start.args.m c.before.before.in-1.rest)))

@@ -11,39 +11,39 @@ use Rattle.write_pieces.proofs.Puts.{next-byte, no_byte, one_byte}
 use Rattle.write_pieces.proofs.output.put_bytes.Statement.{statement}
 use Rattle.write_pieces.proofs.output.put_bytes.Tie as tie
 
-abbrev invariant-loop : tie.invariant-loop
+abbrev invariant-loop : tie.invariant-loop-i
 invariant-loop text out₀ at i₀ out i = (i ≤ length text) × (length out ≡ length out₀) × (sets out (at + i) (drop i text) ≡ sets out₀ at text)
 
-abbrev decreases-loop : tie.decreases-loop
+abbrev decreases-loop : tie.decreases-loop-i
 decreases-loop text out₀ at i₀ out i = length text - i
 
 -- a text of one byte
-returns : tie.Need-returns invariant-loop decreases-loop
+returns : tie.Need-returns-then-text-eq1 invariant-loop decreases-loop
 returns c =
     let at_test = c.before in
     let args = at_test.before.args in
-    record { is = one_byte args.out.now args.at args.text.now at_test.if1.true; next = rw at_test.if1.true }
+    record { is = one_byte args.out.now args.at args.text.now at_test.if-text-eq1.true; next = rw at_test.if-text-eq1.true }
 
 -- the next byte is put
-loop-again : tie.Need-loop-preserved invariant-loop decreases-loop
+loop-again : tie.Need-loop-i-preserved invariant-loop decreases-loop
 loop-again c =
     let at-loop = c.before.before in
     let args = at-loop.before.before.args in
-    (omega arith, search rules, next-byte at-loop.loop.out args.at args.text.now at-loop.loop.i (omega arith) ∙ at-loop.loop.invariant.2)
+    (omega arith, search rules, next-byte at-loop.loop-i.out args.at args.text.now at-loop.loop-i.i (omega arith) ∙ at-loop.loop-i.invariant.2)
 
 -- all bytes are put
-returns-2 : tie.Need-returns-2 invariant-loop decreases-loop
+returns-2 : tie.Need-returns invariant-loop decreases-loop
 returns-2 c =
     let at-loop = c.before in
     let args = at-loop.before.before.args in
-    let done : at-loop.loop.i ≡ length args.text.now = omega arith in
+    let done : at-loop.loop-i.i ≡ length args.text.now = omega arith in
     record {
-      is = sym (no_byte at-loop.loop.out args.at args.text.now at-loop.loop.i done) ∙ at-loop.loop.invariant.2;
+      is = sym (no_byte at-loop.loop-i.out args.at args.text.now at-loop.loop-i.i done) ∙ at-loop.loop-i.invariant.2;
       next = ap (λ (n : ℕ). args.at + n) done;
     }
 
-pub put-bytes-spec : {M : Type 1} → statement M
-put-bytes-spec =
+pub put_bytes_spec : {M : Type 1} → statement M
+put_bytes_spec =
     tie.close
     (tie.spec
     invariant-loop

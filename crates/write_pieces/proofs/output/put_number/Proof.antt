@@ -12,18 +12,18 @@ use Rattle.write_pieces.proofs.Puts.{last-digit, no_digit}
 use Rattle.write_pieces.proofs.output.put_number.Statement.{statement}
 use Rattle.write_pieces.proofs.output.put_number.Tie as tie
 
-abbrev invariant-loop : tie.invariant-loop
+abbrev invariant-loop : tie.invariant-loop-i
 invariant-loop n width out₀ at rest₀ i₀ out rest i = (i ≤ width) × (length out ≡ length out₀) × (sets out at (decimal i rest) ≡ sets out₀ at (decimal width n))
 
-abbrev decreases-loop : tie.decreases-loop
+abbrev decreases-loop : tie.decreases-loop-i
 decreases-loop n width out₀ at rest₀ i₀ out rest i = i
 
 -- the last digit of those left is put
-loop-again : tie.Need-loop-preserved invariant-loop decreases-loop
+loop-again : tie.Need-loop-i-preserved invariant-loop decreases-loop
 loop-again c =
     let at-loop = c.before in
     let args = at-loop.before.args in
-    (omega arith, search rules, last-digit at-loop.loop.out args.at at-loop.loop.i at-loop.loop.rest (omega arith) ∙ at-loop.loop.invariant.2)
+    (omega arith, search rules, last-digit at-loop.loop-i.out args.at at-loop.loop-i.i at-loop.loop-i.rest (omega arith) ∙ at-loop.loop-i.invariant.2)
 
 -- all digits are put
 returns : tie.Need-returns invariant-loop decreases-loop
@@ -31,12 +31,12 @@ returns c =
     let at-loop = c.before in
     let args = at-loop.before.args in
     record {
-      is = sym (no_digit at-loop.loop.out args.at at-loop.loop.i at-loop.loop.rest (omega arith)) ∙ at-loop.loop.invariant.2;
+      is = sym (no_digit at-loop.loop-i.out args.at at-loop.loop-i.i at-loop.loop-i.rest (omega arith)) ∙ at-loop.loop-i.invariant.2;
       next = ap (λ (k : ℕ). args.at + k) (sym (decimal-length args.width args.n));
     }
 
-pub put-number-spec : {M : Type 1} → statement M
-put-number-spec =
+pub put_number_spec : {M : Type 1} → statement M
+put_number_spec =
     tie.close
     (tie.spec
     invariant-loop

@@ -7,23 +7,23 @@ use Rattle.write_pieces.proofs.words.name_length.Statement.{statement}
 use Rattle.write_pieces.proofs.words.name_length.Tie as tie
 
 -- a full name
-returns : tie.Need-returns
+returns : tie.Need-returns-then-full
 returns c =
     let at-start = c.before in
     let args = at-start.args in
     let from = at-start.requires.0 in
     let to = at-start.requires.1 in
-    (λ case. full_size case args.month from to args.full c.if1.true, few-letters args.month from to)
+    (λ case. full_size case args.month from to args.full c.if-full.true, few-letters args.month from to)
 
 -- a short name
-returns-2 : tie.Need-returns-2
+returns-2 : tie.Need-returns
 returns-2 c =
     let at-start = c.before in
     let args = at-start.args in
-    (λ case. short-size case args.month at-start.requires.0 at-start.requires.1 args.full c.if1.false, omega arith)
+    (λ case. short-size case args.month at-start.requires.0 at-start.requires.1 args.full c.if-full.false, omega arith)
 
-pub name-length-spec : {M : Type 1} → statement M
-name-length-spec =
+pub name_length_spec : {M : Type 1} → statement M
+name_length_spec =
     tie.close
     (tie.spec
     (λ c. search rules)

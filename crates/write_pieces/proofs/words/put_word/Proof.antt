@@ -13,20 +13,20 @@ use Rattle.write_pieces.proofs.Puts.{no_byte}
 use Rattle.write_pieces.proofs.words.put_word.Statement.{statement}
 use Rattle.write_pieces.proofs.words.put_word.Tie as tie
 
-abbrev invariant-loop : tie.invariant-loop
+abbrev invariant-loop : tie.invariant-loop-i
 invariant-loop word case out₀ at i₀ out i =
     (i ≤ length word) × (length out ≡ length out₀) × (sets out (at + i) (drop i (in_case case word)) ≡ sets out₀ at (in_case case word))
 
-abbrev decreases-loop : tie.decreases-loop
+abbrev decreases-loop : tie.decreases-loop-i
 decreases-loop word case out₀ at i₀ out i = length word - i
 
 -- the next letter is put
-loop-again : tie.Need-loop-preserved invariant-loop decreases-loop
+loop-again : tie.Need-loop-i-preserved invariant-loop decreases-loop
 loop-again c =
     let at-loop = c.before.before.before in
     let args = at-loop.before.before.before.args in
-    let turn = next-letter args.case at-loop.loop.out args.at args.word.now at-loop.loop.i (omega arith) _ c.letter-in.ensures in
-    (omega arith, search rules, turn ∙ at-loop.loop.invariant.2)
+    let turn = next-letter args.case at-loop.loop-i.out args.at args.word.now at-loop.loop-i.i (omega arith) _ c.letter_in.ensures in
+    (omega arith, search rules, turn ∙ at-loop.loop-i.invariant.2)
 
 -- all letters are put
 returns : tie.Need-returns invariant-loop decreases-loop
@@ -34,14 +34,14 @@ returns c =
     let at-loop = c.before in
     let args = at-loop.before.before.before.args in
     let text = in_case args.case args.word.now in
-    let done : at-loop.loop.i ≡ length text = omega (arith, cased-size args.case args.word.now) in
+    let done : at-loop.loop-i.i ≡ length text = omega (arith, cased-size args.case args.word.now) in
     record {
-      is = sym (no_byte at-loop.loop.out args.at text at-loop.loop.i done) ∙ at-loop.loop.invariant.2;
+      is = sym (no_byte at-loop.loop-i.out args.at text at-loop.loop-i.i done) ∙ at-loop.loop-i.invariant.2;
       next = ap (λ (n : ℕ). args.at + n) done;
     }
 
-pub put-word-spec : {M : Type 1} → statement M
-put-word-spec =
+pub put_word_spec : {M : Type 1} → statement M
+put_word_spec =
     tie.close
     (tie.spec
     invariant-loop
