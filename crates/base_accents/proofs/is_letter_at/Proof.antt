@@ -8,12 +8,12 @@ use Rattle.base_accents.proofs.is_letter_at.Tie as tie
 -- ASCII
 returns : tie.Need-returns-then-b-lt128
 unfolding letter_at
-returns c = rw (← c.before.before.byte_at-b.ensures, lt-ltb _ _ c.before.if-b-lt128.true) c.is_alpha_c.ensures
+returns c = rw (← c.byte_at-b.ensures, lt-ltb _ _ c.if-b-lt128.true) c.is_alpha_c.ensures
 
 -- outside ASCII
 returns-2 : tie.Need-returns
 unfolding letter_at
-returns-2 c = rw (← c.before.before.byte_at-b.ensures, le-ltb _ _ c.before.if-b-lt128.false, c.is_mark.ensures)
+returns-2 c = rw (← c.byte_at-b.ensures, le-ltb _ _ c.if-b-lt128.false, c.is_mark.ensures)
 
 pub is_letter_at_spec : {M : Type 1} → statement M
 is_letter_at_spec = tie.close (tie.spec (λ c κs. search rules) (λ c κs. search rules) returns (λ c κs. search rules) returns-2)

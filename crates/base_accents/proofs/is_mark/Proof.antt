@@ -16,19 +16,19 @@ returns c = rw (get_or-eq_default {A = ℕ} _ 0 c.if-s-at.true)
 -- U+0300 to U+033F
 returns-2 : tie.Need-returns-then-s-at-2
 unfolding mark_at
-returns-2 c = rw (eq-eqb _ _ c.before.before.if-s-at-2.true, ← c.before.byte_at.ensures) c.second_to.ensures
+returns-2 c = rw (eq-eqb _ _ c.if-s-at-2.true, ← c.byte_at.ensures) c.second_to.ensures
 
 -- U+0340 to U+036F
 returns-3 : tie.Need-returns-then-s-at-3
 unfolding mark_at
 returns-3 c =
-    rw (ne_eqb _ _ c.before.before.before.before.if-s-at-2.false, eq-eqb _ _ c.before.before.if-s-at-3.true, ← c.before.byte_at-then-s-at-3.ensures)
+    rw (ne_eqb _ _ c.if-s-at-2.false, eq-eqb _ _ c.if-s-at-3.true, ← c.byte_at-then-s-at-3.ensures)
     c.second_to-then-s-at-3.ensures
 
 -- another first byte
 returns-4 : tie.Need-returns
 unfolding mark_at
-returns-4 c = rw (ne_eqb _ _ c.before.before.if-s-at-2.false, ne_eqb _ _ c.if-s-at-3.false)
+returns-4 c = rw (ne_eqb _ _ c.if-s-at-2.false, ne_eqb _ _ c.if-s-at-3.false)
 
 pub is_mark_spec : {M : Type 1} → statement M
 is_mark_spec =

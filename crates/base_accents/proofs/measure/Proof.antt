@@ -8,12 +8,12 @@ use Rattle.base_accents.proofs.measure.Tie as tie
 
 -- in the accents mode
 returns : tie.Need-returns-then-accents
-returns c = rw c.before.if-accents.true c.whole.ensures
+returns c = rw c.if-accents.true c.whole.ensures
 
 -- in the other
 returns-2 : tie.Need-returns
 unfolding measure_of
-returns-2 c = counted _ _ _ _ (rw c.before.if-accents.false c.pg_mblen.ensures.is)
+returns-2 c = counted _ _ _ _ (rw c.if-accents.false c.pg_mblen.ensures.is)
 
 pub measure_spec : {M : Type 1} → statement M
 measure_spec = tie.close (tie.spec (λ c κs. search rules) returns (λ c κs. search rules) returns-2)

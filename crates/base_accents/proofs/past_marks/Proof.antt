@@ -19,14 +19,14 @@ decreases-loop s at i₀ i = length s - i
 loop-again : tie.Need-loop-i-preserved invariant-loop decreases-loop
 loop-again c =
     let at-loop = c.before.before.before in
-    let s = at-loop.before.before.args.s.now in
-    omega (arith, at-loop.loop-i.invariant, marks-on s at-loop.loop-i.i (sym c.before.is_mark.ensures ∙ c.if-is_mark.true))
+    let s = at-loop.args.s.now in
+    omega (arith, at-loop.loop-i.invariant, marks-on s at-loop.loop-i.i (sym c.is_mark.ensures ∙ c.if-is_mark.true))
 
 add-i : tie.Need-overflow_add-i invariant-loop decreases-loop
 add-i c =
     let at-loop = c.before.before.before in
-    let s = at-loop.before.before.args.s.now in
-    omega (arith, mark-there s at-loop.loop-i.i (sym c.before.is_mark.ensures ∙ c.if-is_mark.true))
+    let s = at-loop.args.s.now in
+    omega (arith, mark-there s at-loop.loop-i.i (sym c.is_mark.ensures ∙ c.if-is_mark.true))
 
 loop-less : tie.Need-loop-i-smaller invariant-loop decreases-loop
 loop-less c = omega arith
@@ -35,14 +35,14 @@ loop-less c = omega arith
 returns : tie.Need-returns-else-is_mark invariant-loop decreases-loop
 returns c =
     let at-loop = c.before.before.before in
-    let s = at-loop.before.before.args.s.now in
-    omega (arith, at-loop.loop-i.invariant, marks-stop s at-loop.loop-i.i (sym c.before.is_mark.ensures ∙ c.if-is_mark.false))
+    let s = at-loop.args.s.now in
+    omega (arith, at-loop.loop-i.invariant, marks-stop s at-loop.loop-i.i (sym c.is_mark.ensures ∙ c.if-is_mark.false))
 
 -- the end of the text
 returns-2 : tie.Need-returns invariant-loop decreases-loop
 returns-2 c =
     let at-loop = c.before in
-    let s = at-loop.before.before.args.s.now in
+    let s = at-loop.args.s.now in
     omega (arith, at-loop.loop-i.invariant, marks-end s at-loop.loop-i.i (omega arith))
 
 pub past_marks_spec : {M : Type 1} → statement M

@@ -21,15 +21,15 @@ decreases-loop s at i₀ i = length s - i
 returns-2 : tie.Need-returns-then-high-ne0 invariant-loop decreases-loop
 returns-2 c =
     let at-loop = c.before.before.before.before in
-    let s = at-loop.before.before.before.args.s.now in
-    onward at-loop.loop-i.invariant.1 (word-passed s at-loop.loop-i.i _ _ c.before.before.high_bits-high.ensures c.zero_bytes.ensures.0)
+    let s = at-loop.args.s.now in
+    onward at-loop.loop-i.invariant.1 (word-passed s at-loop.loop-i.i _ _ c.high_bits-high.ensures c.zero_bytes.ensures.0)
 
 -- eight bytes of ASCII
 loop-again : tie.Need-loop-i-preserved invariant-loop decreases-loop
 loop-again c =
     let at-loop = c.before.before.before in
-    let s = at-loop.before.before.before.args.s.now in
-    let none = sym c.if-high-ne0.false ∙ c.before.high_bits-high.ensures in
+    let s = at-loop.args.s.now in
+    let none = sym c.if-high-ne0.false ∙ c.high_bits-high.ensures in
     (omega arith, onward at-loop.loop-i.invariant.1 (word-passed s at-loop.loop-i.i 0 8 none (rw trailing_of_zero)))
 
 pub after_ascii_spec : {M : Type 1} → statement M
@@ -51,4 +51,4 @@ after_ascii_spec =
     (λ c. omega arith)
     loop-again
     (λ c κs. omega arith)
-    (λ c. onward c.before.before.loop-i.invariant.1 c.after_last.ensures))
+    (λ c. onward c.loop-i.invariant.1 c.after_last.ensures))

@@ -22,7 +22,7 @@ decreases-loop s at i₀ i = length s - i
 loop-again : tie.Need-loop-i-preserved invariant-loop decreases-loop
 loop-again c =
     let at-loop = c.before.before.before in
-    let s = at-loop.before.args.s.now in
+    let s = at-loop.args.s.now in
     let i = at-loop.loop-i.i in
     let one_byte = at_row s i (search rules) 0 (lit< tt) (omega arith) (omega arith) in
     record { forward = omega arith; same = past-sequence-at s i 1 one_byte ∙ at-loop.loop-i.invariant.same }
@@ -36,9 +36,9 @@ after_bytes_spec =
     (λ c. record { forward = omega arith; same = refl })
     (λ c. search rules)
     -- a byte that is not ASCII
-    (λ c. c.before.before.before.loop-i.invariant)
+    (λ c. c.loop-i.invariant)
     (λ c. omega arith)
     (λ c. omega arith)
     loop-again
     -- the end
-    (λ c. c.before.loop-i.invariant))
+    (λ c. c.loop-i.invariant))

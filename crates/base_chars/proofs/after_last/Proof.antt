@@ -8,14 +8,14 @@ use Rattle.base_chars.proofs.after_last.Tie as tie
 
 -- at most eight bytes are passed
 add-result : tie.Need-overflow_add-result
-add-result c = let start = c.before.before.before.before.before in omega (arith, start.well-formed.0.1)
+add-result c = let start = c.before.before.before.before.before in omega (arith, start.well_formed.0.1)
 
 -- the last eight bytes
 returns-3 : tie.Need-returns
 returns-3 c =
-    let args = c.before.before.before.before.before.args in
+    let args = c.args in
     let same = last-high args.s.now args.at (search rules) (omega arith) (omega arith) in
-    word-passed args.s.now args.at _ _ (rw c.before.high_bits.ensures same) c.zero_bytes.ensures.0
+    word-passed args.s.now args.at _ _ (rw c.high_bits.ensures same) c.zero_bytes.ensures.0
 
 pub after_last_spec : {M : Type 1} → statement M
 after_last_spec =

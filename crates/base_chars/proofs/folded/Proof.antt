@@ -12,7 +12,7 @@ returns c = rw (below (65 ‥ 90) _ c.if-b-lt65.true)
 
 -- a capital letter
 returns-2 : tie.Need-returns-then-b-le90
-returns-2 c = rw (inside (65 ‥ 90) _ c.before.if-b-lt65.false c.if-b-le90.true)
+returns-2 c = rw (inside (65 ‥ 90) _ c.if-b-lt65.false c.if-b-le90.true)
 
 -- above Z
 returns-3 : tie.Need-returns

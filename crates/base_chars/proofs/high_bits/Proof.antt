@@ -15,7 +15,7 @@ returns c =
     let two = three.before.before in
     let one = two.before.before in
     let entry = one.before.before in
-    let args = entry.before.args in
+    let args = entry.args in
     eight-high
     args.s.now
     args.at

@@ -14,14 +14,14 @@ returns c = rw (drop_of_length-le _ c.if-s-at.true)
 -- from `lo` on
 returns-2 : tie.Need-returns-then-lo-b
 returns-2 c =
-    let args = c.before.before.before.args in
-    rw (drop-cons args.s.now args.at 0 c.before.before.if-s-at.false, le-leb _ _ c.if-lo-b.true, and-true)
+    let args = c.args in
+    rw (drop-cons args.s.now args.at 0 c.if-s-at.false, le-leb _ _ c.if-lo-b.true, and-true)
 
 -- below `lo`
 returns-3 : tie.Need-returns-else-lo-b
 returns-3 c =
-    let args = c.before.before.before.args in
-    rw (drop-cons args.s.now args.at 0 c.before.before.if-s-at.false, lt-leb _ _ c.if-lo-b.false)
+    let args = c.args in
+    rw (drop-cons args.s.now args.at 0 c.if-s-at.false, lt-leb _ _ c.if-lo-b.false)
 
 pub in_range_spec : {M : Type 1} → statement M
 in_range_spec = tie.close (tie.spec returns (λ c. search rules) returns-2 returns-3)

@@ -13,12 +13,12 @@ returns c = rw (lt-ltb _ _ c.if-k-lt64.true)
 -- from 64 to 127
 returns-2 : tie.Need-returns-then-k-lt128
 unfolding in_set
-returns-2 c = rw (le-ltb _ _ c.before.if-k-lt64.false, lt-ltb _ _ c.if-k-lt128.true)
+returns-2 c = rw (le-ltb _ _ c.if-k-lt64.false, lt-ltb _ _ c.if-k-lt128.true)
 
 -- from 128 on
 returns-3 : tie.Need-returns
 unfolding in_set
-returns-3 c = rw (le-ltb _ _ c.before.if-k-lt64.false, le-ltb _ _ c.if-k-lt128.false)
+returns-3 c = rw (le-ltb _ _ c.if-k-lt64.false, le-ltb _ _ c.if-k-lt128.false)
 
 pub in_set_spec : {M : Type 1} → statement M
 in_set_spec = tie.close (tie.spec (λ c. search rules) returns (λ c. search rules) (λ c. search rules) returns-2 returns-3)

@@ -6,4 +6,4 @@ use Rattle.base_chars.proofs.is_blank.Statement.{statement}
 use Rattle.base_chars.proofs.is_blank.Tie as tie
 
 pub is_blank_spec : {M : Type 1} → statement M
-is_blank_spec = tie.close (tie.spec (λ c κs. search rules) (λ c. c.in_set.ensures ∙ blanks c.before.args.b))
+is_blank_spec = tie.close (tie.spec (λ c κs. search rules) (λ c. c.in_set.ensures ∙ blanks c.args.b))

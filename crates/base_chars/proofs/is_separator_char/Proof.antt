@@ -9,21 +9,21 @@ use Rattle.base_chars.proofs.is_separator_char.Tie as tie
 
 -- a blank, or below it
 returns : tie.Need-returns-then-b-le32
-returns c = rw (separator-test, below (33 ‥ 126) c.before.args.b (omega arith))
+returns c = rw (separator-test, below (33 ‥ 126) c.args.b (omega arith))
 
 -- from 0x7f on
 returns-2 : tie.Need-returns-then-b-ge127
-returns-2 c = rw (separator-test, above (33 ‥ 126) c.before.before.args.b (omega arith))
+returns-2 c = rw (separator-test, above (33 ‥ 126) c.args.b (omega arith))
 
 -- printable, and no letter
 returns-3 : tie.Need-returns-then-not-is_alpha_c
 returns-3 c =
-    let b = c.before.before.before.before.before.args.b in
+    let b = c.args.b in
     let no-letter = c.before in
     rw (
       separator-test,
       inside (33 ‥ 126) b (omega arith) (omega arith),
-      ← no-letter.before.is_alpha_c.ensures,
+      ← no-letter.is_alpha_c.ensures,
       ← c.is_digit_c.ensures,
       no-letter.if-not-is_alpha_c.true,
     )
@@ -31,11 +31,11 @@ returns-3 c =
 -- a letter
 returns-4 : tie.Need-returns-else-not-is_alpha_c
 returns-4 c =
-    let b = c.before.before.before.before.args.b in
+    let b = c.args.b in
     rw (
       separator-test,
       inside (33 ‥ 126) b (omega arith) (omega arith),
-      ← c.before.is_alpha_c.ensures,
+      ← c.is_alpha_c.ensures,
       c.if-not-is_alpha_c.false,
     )
 

@@ -9,7 +9,7 @@ use Rattle.base_chars.proofs.is_space_c.Tie as tie
 -- above a blank
 returns : tie.Need-returns-then-b-gt32
 returns c =
-    let b = c.before.args.b in
+    let b = c.args.b in
     rw (space-test, ne_eqb b 32 (omega arith), le-leb 9 b (omega arith), lt-leb b 13 (omega arith))
 
 -- a blank
@@ -18,11 +18,11 @@ returns-2 c = rw (space-test, c.if-b-eq32.true)
 
 -- from 9 on
 returns-3 : tie.Need-returns-then-b-ge9
-returns-3 c = rw (space-test, ne_eqb _ _ c.before.if-b-eq32.false, le-leb _ _ c.if-b-ge9.true, or-false)
+returns-3 c = rw (space-test, ne_eqb _ _ c.if-b-eq32.false, le-leb _ _ c.if-b-ge9.true, or-false)
 
 -- below 9
 returns-4 : tie.Need-returns-else-b-ge9
-returns-4 c = rw (space-test, ne_eqb _ _ c.before.if-b-eq32.false, lt-leb _ _ c.if-b-ge9.false)
+returns-4 c = rw (space-test, ne_eqb _ _ c.if-b-eq32.false, lt-leb _ _ c.if-b-ge9.false)
 
 pub is_space_c_spec : {M : Type 1} → statement M
 is_space_c_spec = tie.close (tie.spec returns returns-2 returns-3 returns-4)

@@ -20,37 +20,37 @@ abbrev decreases-loop : tie.decreases-loop-i
 decreases-loop s i₀ i = length s - i
 
 abbrev text : tie.After-after_ascii-next invariant-loop decreases-loop → List ℕ
-text c = c.before.before.before.args.s.now
+text c = c.args.s.now
 
 -- the whole is well-formed exactly when what follows the ASCII is
 whole : (c : tie.After-after_ascii-next invariant-loop decreases-loop) → Passed (text c) 0 c.after_ascii-next.result
-whole c = onward c.before.loop-i.invariant.1 c.after_ascii-next.ensures
+whole c = onward c.loop-i.invariant.1 c.after_ascii-next.ensures
 
 -- the end of the text
 returns : tie.Need-returns-then-s-next invariant-loop decreases-loop
-returns c = sym (end-of-text (text c.before) c.before.after_ascii-next.result (search rules)) ∙ (whole c.before).same
+returns c = sym (end-of-text (text c.before) c.after_ascii-next.result (search rules)) ∙ (whole c.before).same
 
 -- no sequence begins here
 returns-2 : tie.Need-returns-then-n-eq0 invariant-loop decreases-loop
 returns-2 c =
     let passed = c.before.before.before in
-    let none = sym c.if-n-eq0.true ∙ c.before.sequence_at-n.ensures in
+    let none = sym c.if-n-eq0.true ∙ c.sequence_at-n.ensures in
     sym (no-sequence-at (text passed) passed.after_ascii-next.result (search rules) none) ∙ (whole passed).same
 
 -- a sequence lies within what is left
 room : (c : tie.Else-n-eq0 invariant-loop decreases-loop)
     → let passed = c.before.before.before in
-    c.before.sequence_at-n.result ≤ length (text passed) - passed.after_ascii-next.result
+    c.sequence_at-n.result ≤ length (text passed) - passed.after_ascii-next.result
 room c =
     let passed = c.before.before.before in
     let next = passed.after_ascii-next.result in
-    omega (arith, sequence-within (drop next (text passed)), length-drop next (text passed), c.before.sequence_at-n.ensures)
+    omega (arith, sequence-within (drop next (text passed)), length-drop next (text passed), c.sequence_at-n.ensures)
 
 -- a sequence is passed
 loop-again : tie.Need-loop-i-preserved invariant-loop decreases-loop
 loop-again c =
     let passed = c.before.before.before in
-    let after = past-sequence-at (text passed) passed.after_ascii-next.result _ c.before.sequence_at-n.ensures in
+    let after = past-sequence-at (text passed) passed.after_ascii-next.result _ c.sequence_at-n.ensures in
     (omega (arith, room c), record { forward = omega arith; same = after ∙ (whole passed).same })
 
 pub is_utf8_spec : {M : Type 1} → statement M
@@ -65,5 +65,5 @@ is_utf8_spec =
     (λ c κs. search rules)
     returns-2
     (λ c. omega (arith, room c))
-    (λ c. omega (arith, room c, c.before.before.before.after_ascii-next.ensures.forward))
+    (λ c. omega (arith, room c, c.after_ascii-next.ensures.forward))
     loop-again)

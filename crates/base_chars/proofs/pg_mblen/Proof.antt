@@ -14,7 +14,7 @@ returns c = measured _ _ _ (omega arith)
 -- one byte
 returns-2 : tie.Need-returns-then-b-lt192
 unfolding char_length
-returns-2 c = measured _ _ _ (omega (arith, lead-one _ c.if-b-lt192.true, c.before.before.if-s-i.false))
+returns-2 c = measured _ _ _ (omega (arith, lead-one _ c.if-b-lt192.true, c.if-s-i.false))
 
 -- the character is within the text
 returns-3 : tie.Need-returns-then-n-left

@@ -12,7 +12,7 @@ returns c = rw (below (97 ‥ 122) _ c.if-b-lt97.true)
 
 -- a small letter
 returns-2 : tie.Need-returns-then-b-le122
-returns-2 c = rw (inside (97 ‥ 122) _ c.before.if-b-lt97.false c.if-b-le122.true)
+returns-2 c = rw (inside (97 ‥ 122) _ c.if-b-lt97.false c.if-b-le122.true)
 
 -- above z
 returns-3 : tie.Need-returns

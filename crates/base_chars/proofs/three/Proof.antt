@@ -13,29 +13,29 @@ use Rattle.base_chars.proofs.three.Tie as tie
 
 -- after the second byte, the third decides
 third-decides : (c : tie.Then-in_range)
-    → let args = c.before.before.before.args in
+    → let args = c.args in
     begins (args.lo ‥ args.hi ∷ 0x80 ‥ 0xbf ∷ []) (drop (args.at + 1) args.s.now)
     ≡ begins (0x80 ‥ 0xbf ∷ []) (drop (args.at + 2) args.s.now)
 third-decides c =
-    let args = c.before.before.before.args in
+    let args = c.args in
     rw (
       begins-on (args.lo ‥ args.hi) (0x80 ‥ 0xbf ∷ []) args.s.now (args.at + 1),
       add_assoc,
-      ← c.before.in_range.ensures,
+      ← c.in_range.ensures,
       c.if-in_range.true,
     )
 
 -- all three bytes are there
 returns : tie.Need-returns-then-in_range-2
-returns c = rw (third-decides c.before.before, ← c.before.in_range-then-in_range.ensures, c.if-in_range-2.true)
+returns c = rw (third-decides c.before.before, ← c.in_range-then-in_range.ensures, c.if-in_range-2.true)
 
 -- the third is no continuation
 returns-2 : tie.Need-returns-else-in_range-2
-returns-2 c = rw (third-decides c.before.before, ← c.before.in_range-then-in_range.ensures, c.if-in_range-2.false)
+returns-2 c = rw (third-decides c.before.before, ← c.in_range-then-in_range.ensures, c.if-in_range-2.false)
 
 -- the second is outside its range
 returns-3 : tie.Need-returns-else-in_range
-returns-3 c = rw (begins-on, ← c.before.in_range.ensures, c.if-in_range.false)
+returns-3 c = rw (begins-on, ← c.in_range.ensures, c.if-in_range.false)
 
 pub three_spec : {M : Type 1} → statement M
 three_spec =

@@ -8,7 +8,7 @@ use Rattle.base_refusals.proofs.report_of.Statement.{statement}
 use Rattle.base_refusals.proofs.report_of.Tie as tie
 
 -- the hour is an i32
-hour-is : (c : tie.In-HourOfTwelve) → SFits w32 c.before.why-in-HourOfTwelve-1.given.0.0
+hour-is : (c : tie.In-HourOfTwelve) → SFits w32 c.in-HourOfTwelve.hour
 hour-is c = search rules
 
 -- so it is also an i64
@@ -18,7 +18,7 @@ hour-fits c = simp (to_z-of_z (hour-is c)) (sfits_widen tt (hour-is c))
 -- an hour outside 1 to 12: the figure is the hour
 hour : tie.Need-returns-in-HourOfTwelve
 unfolding report_of
-hour c = simp (to_z-of_z (hour-is c), to_z-of_z (sfits_widen {w = w32} {w' = w64} tt (hour-is c))) (rw c.before.why-in-HourOfTwelve-1.given.1)
+hour c = simp (to_z-of_z (hour-is c), to_z-of_z (sfits_widen {w = w32} {w' = w64} tt (hour-is c))) (rw c.in-HourOfTwelve.is)
 
 pub report_of_spec : {M : Type 1} → statement M
 unfolding report_of
@@ -60,34 +60,34 @@ report_of_spec =
     (λ c κs. search rules)
     -- in each arm: the answer
     -- TooLong
-    (λ c. rw c.before.enum_told-1.given.1 c.alone.ensures)
+    (λ c. rw c.in-TooLong.is c.alone.ensures)
     -- NotUtf8
-    (λ c. rw c.before.enum_told-in-NotUtf8-1.given.1 c.alone-in-NotUtf8.ensures)
+    (λ c. rw c.in-NotUtf8.is c.alone-in-NotUtf8.ensures)
     -- MixedDates
-    (λ c. rw c.before.before.why-1.given.1 c.at.ensures)
+    (λ c. rw c.in-MixedDates.is c.at.ensures)
     -- Conflict
-    (λ c. rw c.before.before.why-in-Conflict-1.given.1 c.at-in-Conflict.ensures)
+    (λ c. rw c.in-Conflict.is c.at-in-Conflict.ensures)
     -- Short
-    (λ c. rw c.before.before.why-in-Short-1.given.1 c.with_figures.ensures)
+    (λ c. rw c.in-Short.is c.with_figures.ensures)
     -- Narrow
-    (λ c. rw c.before.before.why-in-Narrow-1.given.1 c.with_figures-in-Narrow.ensures)
+    (λ c. rw c.in-Narrow.is c.with_figures-in-Narrow.ensures)
     -- NotInteger
-    (λ c. rw c.before.before.why-in-NotInteger-1.given.1 c.at-in-NotInteger.ensures)
+    (λ c. rw c.in-NotInteger.is c.at-in-NotInteger.ensures)
     -- OutOfRange
-    (λ c. rw c.before.before.why-in-OutOfRange-1.given.1 c.at-in-OutOfRange.ensures)
+    (λ c. rw c.in-OutOfRange.is c.at-in-OutOfRange.ensures)
     -- NoWord
-    (λ c. rw c.before.before.why-in-NoWord-1.given.1 c.at-in-NoWord.ensures)
+    (λ c. rw c.in-NoWord.is c.at-in-NoWord.ensures)
     -- NotTwoNumbers
-    (λ c. rw c.before.before.why-in-NotTwoNumbers-1.given.1 c.at-in-NotTwoNumbers.ensures)
+    (λ c. rw c.in-NotTwoNumbers.is c.at-in-NotTwoNumbers.ensures)
     -- YearOutOfRange
-    (λ c. rw c.before.before.why-in-YearOutOfRange-1.given.1 c.at-in-YearOutOfRange.ensures)
+    (λ c. rw c.in-YearOutOfRange.is c.at-in-YearOutOfRange.ensures)
     -- ZoneLetter
-    (λ c. rw c.before.before.why-in-ZoneLetter-1.given.1 c.at-in-ZoneLetter.ensures)
+    (λ c. rw c.in-ZoneLetter.is c.at-in-ZoneLetter.ensures)
     -- HourOfTwelve
     hour
     -- NoYear
-    (λ c. rw c.before.enum_told-in-NoYear-1.given.1 c.alone-in-NoYear.ensures)
+    (λ c. rw c.in-NoYear.is c.alone-in-NoYear.ensures)
     -- FieldOverflow
-    (λ c. rw c.before.enum_told-in-FieldOverflow-1.given.1 c.alone-in-FieldOverflow.ensures)
+    (λ c. rw c.in-FieldOverflow.is c.alone-in-FieldOverflow.ensures)
     -- OffsetRange
-    (λ c. rw c.before.enum_told-in-OffsetRange-1.given.1 c.alone-in-OffsetRange.ensures))
+    (λ c. rw c.in-OffsetRange.is c.alone-in-OffsetRange.ensures))

@@ -12,7 +12,7 @@ pieces : (c : tie.After-digits_at-run)
     → let after-sign = c.before in
     let after_minus = after-sign.before in
     let after-spaces = after_minus.before in
-    let args = after-spaces.before.before.args in
+    let args = after-spaces.args in
     Pieces args.s.now args.start after-spaces.past_spaces-at.result after_minus.minus_at-neg.result
     after-sign.past_sign-first.result c.digits_at-run.result
 pieces c =
@@ -37,8 +37,8 @@ signed-of-requires c κs = within _ _ _ _ _ _ (pieces c.before.before)
 -- digits: their number with its sign
 returns-2 : tie.Need-returns
 returns-2 c =
-    present _ _ _ _ _ _ (pieces c.before.before.before) c.before.if-run-first.false _
-    (to_z-of_z {w = w64} (record { sfits = c.Signed-of.type-inv }) ∙ c.Signed-of.ensures)
+    present _ _ _ _ _ _ (pieces c.before.before.before) c.if-run-first.false _
+    (to_z-of_z {w = w64} (record { sfits = c.signed_of.type_inv }) ∙ c.signed_of.ensures)
 
 pub c_strtol_spec : {M : Type 1} → statement M
 c_strtol_spec =

@@ -23,16 +23,16 @@ decreases-loop s at neg most value₀ over₀ i₀ value over i = length s - i
 
 module _ (here : tie.At-loop-i invariant-loop decreases-loop) where
   abbrev text : List ℕ
-  text = here.before.before.before.args.s.now
+  text = here.args.s.now
 
   abbrev byte : ℕ
   byte = byte_at text here.loop-i.i
 
   abbrev most : ℕ
-  most = here.before.limit_of-most.result
+  most = here.limit_of-most.result
 
   bounded : (2 ^ 63 - 1 ≤ most) × (most ≤ 2 ^ 63)
-  bounded = limits here.before.before.before.args.neg most here.before.limit_of-most.ensures
+  bounded = limits here.args.neg most here.limit_of-most.ensures
 
 -- the byte is a digit
 module _ (c : tie.Else-not-is_digit_c invariant-loop decreases-loop) where
@@ -40,34 +40,34 @@ module _ (c : tie.Else-not-is_digit_c invariant-loop decreases-loop) where
   at-loop = c.before.before.before.before
 
   digit : is_digit (byte at-loop) ≡ true
-  digit = sym c.before.is_digit_c.ensures ∙ not-false _ c.if-not-is_digit_c.false
+  digit = sym c.is_digit_c.ensures ∙ not-false _ c.if-not-is_digit_c.false
 
 -- the byte is no digit
 returns : tie.Need-returns-then-not-is_digit_c invariant-loop decreases-loop
 returns c =
     let here = c.before.before.before.before in
-    let no_digit = sym c.before.is_digit_c.ensures ∙ not-true _ c.if-not-is_digit_c.true in
-    stopped (most here) (text here) _ _ _ _ here.loop-i.invariant _ here.before.limit_of-most.ensures (omega arith) no_digit
+    let no_digit = sym c.is_digit_c.ensures ∙ not-true _ c.if-not-is_digit_c.true in
+    stopped (most here) (text here) _ _ _ _ here.loop-i.invariant _ here.limit_of-most.ensures (omega arith) no_digit
 
 -- the digit takes the number beyond the limit, or further beyond it
 loop-again : tie.Need-loop-i-preserved-then-most-d invariant-loop decreases-loop
 loop-again c =
     let here = at-loop c.before in
-    full (most here) (text here) _ _ _ _ here.loop-i.inv (omega arith)
+    full (most here) (text here) _ _ _ _ here.loop.inv (omega arith)
     (digit c.before) (omega (arith, bounded here)) (omega arith)
 
 -- the digit leaves the number within the limit
 loop-again-2 : tie.Need-loop-i-preserved invariant-loop decreases-loop
 loop-again-2 c =
     let here = at-loop c.before in
-    more (most here) (text here) _ _ _ _ here.loop-i.inv (omega arith)
+    more (most here) (text here) _ _ _ _ here.loop.inv (omega arith)
     (digit c.before) (omega (arith, bounded here)) (omega arith)
 
 -- the end of the text
 returns-2 : tie.Need-returns invariant-loop decreases-loop
 returns-2 c =
     let here = c.before in
-    ended (most here) (text here) _ _ _ _ here.loop-i.invariant _ here.before.limit_of-most.ensures (omega arith)
+    ended (most here) (text here) _ _ _ _ here.loop-i.invariant _ here.limit_of-most.ensures (omega arith)
 
 pub digits_at_spec : {M : Type 1} → statement M
 digits_at_spec =

@@ -11,9 +11,9 @@ returns-5 : tie.Need-returns
 returns-5 c e =
     let second = c.before.before in
     let first = second.before.before.before in (
-      omega (arith, first.before.before.before.if-s-at-lt3.false),
-      sym first.before.is_digit_c.ensures ∙ not-false _ first.if-not-is_digit_c.false,
-      sym second.before.is_digit_c-2.ensures ∙ not-false _ second.if-not-is_digit_c-2.false,
+      omega (arith, first.if-s-at-lt3.false),
+      sym first.is_digit_c.ensures ∙ not-false _ first.if-not-is_digit_c.false,
+      sym second.is_digit_c-2.ensures ∙ not-false _ second.if-not-is_digit_c-2.false,
       sym c.is_digit_c-3.ensures ∙ not-true _ e,
     )
 

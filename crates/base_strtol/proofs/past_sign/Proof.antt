@@ -20,7 +20,7 @@ returns-3 c = rw (front, c.if-s-at-eq43.true)
 
 -- no sign
 returns-4 : tie.Need-returns
-returns-4 c = rw (front, ne_eqb _ _ c.before.before.if-s-at-eq45.false, ne_eqb _ _ c.if-s-at-eq43.false, add-zero)
+returns-4 c = rw (front, ne_eqb _ _ c.if-s-at-eq45.false, ne_eqb _ _ c.if-s-at-eq43.false, add-zero)
 
 pub past_sign_spec : {M : Type 1} → statement M
 past_sign_spec =

@@ -20,21 +20,21 @@ decreases-loop s at i₀ i = length s - i
 loop-again : tie.Need-loop-i-preserved invariant-loop decreases-loop
 loop-again c =
     let at-loop = c.before.before.before.before in
-    let s = at-loop.before.before.args.s.now in
-    omega (arith, leading-on is_space s at-loop.loop-i.i (omega arith) (sym c.before.is_space_c.ensures ∙ c.if-is_space_c.true))
+    let s = at-loop.args.s.now in
+    omega (arith, leading-on is_space s at-loop.loop-i.i (omega arith) (sym c.is_space_c.ensures ∙ c.if-is_space_c.true))
 
 -- no space
 returns : tie.Need-returns-else-is_space_c invariant-loop decreases-loop
 returns c =
     let at-loop = c.before.before.before.before in
-    let s = at-loop.before.before.args.s.now in
-    omega (arith, leading-stop is_space s at-loop.loop-i.i (omega arith) (sym c.before.is_space_c.ensures ∙ c.if-is_space_c.false))
+    let s = at-loop.args.s.now in
+    omega (arith, leading-stop is_space s at-loop.loop-i.i (omega arith) (sym c.is_space_c.ensures ∙ c.if-is_space_c.false))
 
 -- the end of the text
 returns-2 : tie.Need-returns invariant-loop decreases-loop
 returns-2 c =
     let at-loop = c.before in
-    let s = at-loop.before.before.args.s.now in
+    let s = at-loop.args.s.now in
     omega (arith, leading_end is_space s at-loop.loop-i.i (omega arith))
 
 pub past_spaces_spec : {M : Type 1} → statement M

@@ -10,19 +10,19 @@ use Rattle.base_strtol.proofs.signed_of.Tie as tie
 
 -- a minus sign, and 0
 returns : tie.Need-returns-then-n-eq0
-returns c = rw (c.before.if-neg.true, c.if-n-eq0.true)
+returns c = rw (c.if-neg.true, c.if-n-eq0.true)
 
 -- n - 1 is an i64
 cast-result : tie.Need-overflow_cast-result
-cast-result c = record { sfits = omega (arith, rw c.before.if-neg.true at c.before.before.requires) }
+cast-result c = record { sfits = omega (arith, rw c.if-neg.true at c.requires) }
 
 -- a minus sign, and not 0
 module _ (c : tie.Else-n-eq0) where
-  some : 0 < c.before.before.args.n
+  some : 0 < c.args.n
   some = let not-0 = c.if-n-eq0.false in omega arith
 
-  room : c.before.before.args.n ≤ 2 ^ 63
-  room = rw c.before.if-neg.true at c.before.before.requires
+  room : c.args.n ≤ 2 ^ 63
+  room = rw c.if-neg.true at c.requires
 
 -- so is -1 - (n - 1)
 sub-result-2 : tie.Need-overflow_sub-result-then-neg
@@ -31,15 +31,15 @@ sub-result-2 c = rw (negated _ (some c) (room c)) (negated_fits _ (some c) (room
 -- a minus sign, and not 0
 returns-2 : tie.Need-returns-then-neg
 returns-2 c =
-    rw (negated _ (some c) (room c), to_z-of_z (negated_fits _ (some c) (room c)), c.before.if-neg.true)
+    rw (negated _ (some c) (room c), to_z-of_z (negated_fits _ (some c) (room c)), c.if-neg.true)
 
 -- n is an i64 where there is no minus sign
 cast-result-2 : tie.Need-overflow_cast-result-2
-cast-result-2 c = record { sfits = omega (arith, rw c.if-neg.false at c.before.requires) }
+cast-result-2 c = record { sfits = omega (arith, rw c.if-neg.false at c.requires) }
 
 -- no minus sign
 returns-3 : tie.Need-returns
-returns-3 c = rw c.if-neg.false (to_z_pos w64 (omega (arith, rw c.if-neg.false at c.before.requires)))
+returns-3 c = rw c.if-neg.false (to_z_pos w64 (omega (arith, rw c.if-neg.false at c.requires)))
 
 pub signed_of_spec : {M : Type 1} → statement M
 signed_of_spec =

@@ -9,7 +9,7 @@ cast-low-bits c = simp (to_z-of_z c.ranges.x) (sfits_widen tt c.ranges.x)
 
 returns : tie.Need-returns
 returns c =
-    let x_Fits = c.before.ranges.x in
+    let x_Fits = c.ranges.x in
     simp (to_z-of_z x_Fits, to_z-of_z (sfits_widen {w = w32} {w' = w64} tt x_Fits)) at c.low_bits.ensures
 
 pub bits_spec : {M : Type 1} → statement M

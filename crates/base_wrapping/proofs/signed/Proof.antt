@@ -7,11 +7,11 @@ use Rattle.base_wrapping.proofs.signed.Tie as tie
 
 -- that number is an i32
 sub-result-2 : tie.Need-overflow_sub-result-else-u-lt2147483648
-sub-result-2 c = rw (upper c.before.args.u c.before.ranges.u (omega arith)) (sfits_to_z c.before.ranges.u)
+sub-result-2 c = rw (upper c.args.u c.ranges.u (omega arith)) (sfits_to_z c.ranges.u)
 
 -- the highest bit is set: a negative number
 returns-2 : tie.Need-returns-else-u-lt2147483648
-returns-2 c = rw (upper c.before.args.u c.before.ranges.u (omega arith)) (to_z-of_z (sfits_to_z c.before.ranges.u))
+returns-2 c = rw (upper c.args.u c.ranges.u (omega arith)) (to_z-of_z (sfits_to_z c.ranges.u))
 
 pub signed_spec : {M : Type 1} → statement M
 signed_spec =

@@ -12,7 +12,7 @@ returns c =
     let after-bits-b = after-sum.before in
     let after-bits-a = after-bits-b.before in
     let at-start = after-bits-a.before in
-    wrapped _ (sfits_of c.signed.type-inv) c.signed.ensures
+    wrapped _ (sfits_of c.signed.type_inv) c.signed.ensures
     (simp (
       after-bits-a.bits.ensures,
       after-bits-b.bits-2.ensures,

@@ -9,7 +9,7 @@ returns : tie.Need-returns
 returns c =
     let after-bits = c.before in
     let at-start = after-bits.before in
-    wrapped _ (sfits_of c.signed.type-inv) c.signed.ensures
+    wrapped _ (sfits_of c.signed.type_inv) c.signed.ensures
     (simp (to_z-of_z at-start.ranges.x) at after-bits.low_bits.ensures)
 
 pub wrapping_cut_spec : {M : Type 1} → statement M

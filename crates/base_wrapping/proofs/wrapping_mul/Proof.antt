@@ -10,7 +10,7 @@ use Rattle.base_wrapping.proofs.wrapping_mul.Tie as tie
 -- the product of the bits is within 64 bits
 mul-signed : tie.Need-overflow_mul-bits
 mul-signed c =
-    let bits-a-small : c.before.bits.result ≤ 4294967295 = omega arith in
+    let bits-a-small : c.bits.result ≤ 4294967295 = omega arith in
     let bits-b-small : c.bits-2.result ≤ 4294967295 = omega arith in
     omega (arith, mul-le-mul bits-a-small bits-b-small)
 
@@ -19,7 +19,7 @@ returns c =
     let after-bits-b = c.before in
     let after-bits-a = after-bits-b.before in
     let at-start = after-bits-a.before in
-    wrapped _ (sfits_of c.signed.type-inv)
+    wrapped _ (sfits_of c.signed.type_inv)
     (simp (
       after-bits-a.bits.ensures,
       after-bits-b.bits-2.ensures,

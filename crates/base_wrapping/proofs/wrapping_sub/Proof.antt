@@ -13,7 +13,7 @@ returns c =
     let after-bits-b = after-difference.before in
     let after-bits-a = after-bits-b.before in
     let at-start = after-bits-a.before in
-    wrapped _ (sfits_of c.signed.type-inv) c.signed.ensures
+    wrapped _ (sfits_of c.signed.type_inv) c.signed.ensures
     (low-sub at-start.args.a at-start.args.b _ (omega arith)
     (simp (
       after-bits-a.bits.ensures,

@@ -14,22 +14,22 @@ use Rattle.calendar_gregorian.proofs.day_of_year.Tie as tie
 
 -- the code's sum is the day of the year
 sum : (c : tie.After-days_before)
-    → to_z w64 (of_z w64 (to_z w32 (of_z w32 c.days_before.result))) +ℤ to_z w64 (of_z w64 (to_z w32 (of_z w32 c.before.before.args.day)))
-    ≡ day_of_year_ℤ c.before.before.args.year c.before.before.args.month c.before.before.args.day
+    → to_z w64 (of_z w64 (to_z w32 (of_z w32 c.days_before.result))) +ℤ to_z w64 (of_z w64 (to_z w32 (of_z w32 c.args.day)))
+    ≡ day_of_year_ℤ c.args.year c.args.month c.args.day
 unfolding day_of_year_ℤ
 sum c =
-    let args_fit = c.before.before.ranges in
+    let args_fit = c.ranges in
     rw (
       wide args_fit.day,
-      wide {z = c.days_before.result} (sfits_of c.days_before.type-inv),
+      wide {z = c.days_before.result} (sfits_of c.days_before.type_inv),
       c.days_before.ensures,
-      c.before.pg_is_leap.ensures,
+      c.pg_is_leap.ensures,
       to_z-of_z args_fit.year,
       to_z-of_z args_fit.month,
     )
 
 -- and it fits 64 bits
-fits : (c : tie.After-days_before) → SFits w64 (day_of_year_ℤ c.before.before.args.year c.before.before.args.month c.before.before.args.day)
+fits : (c : tie.After-days_before) → SFits w64 (day_of_year_ℤ c.args.year c.args.month c.args.day)
 fits c = let at-start = c.before.before in day-of-year-fits at-start.args.year at-start.args.month at-start.ranges.day
 
 returns : tie.Need-returns
@@ -41,7 +41,7 @@ day_of_year_spec =
     (tie.spec
     (λ c κs. search rules)
     (λ c κs. search rules)
-    (λ c. wide_fits {z = c.days_before.result} (sfits_of c.days_before.type-inv))
-    (λ c. wide_fits c.before.before.ranges.day)
+    (λ c. wide_fits {z = c.days_before.result} (sfits_of c.days_before.type_inv))
+    (λ c. wide_fits c.ranges.day)
     (λ c. rw (sum c) (fits c))
     returns)

@@ -19,16 +19,16 @@ loop-holds : tie.Need-loop-i-init invariant-loop decreases-loop
 loop-holds c = (search rules, record { is = refl; le = search rules })
 
 add-days : tie.Need-overflow_add-days invariant-loop decreases-loop
-add-days c = (add_read _ _ refl c.before.before.loop-i.invariant.1 (search rules)).fits
+add-days c = (add_read _ _ refl c.loop-i.invariant.1 (search rules)).fits
 
 loop-again : tie.Need-loop-i-preserved invariant-loop decreases-loop
-loop-again c = (search rules, (add_read _ _ refl c.before.before.loop-i.invariant.1 (search rules)).passed)
+loop-again c = (search rules, (add_read _ _ refl c.loop-i.invariant.1 (search rules)).passed)
 
 returns : tie.Need-returns invariant-loop decreases-loop
 returns c =
     let at-start = c.before.before.before.before in
-    let months = simp (to_z-of_z at-start.ranges.month) at c.before.before.before.months_before-n.ensures in
-    days-passed at-start.args.month c.before.loop-i.invariant.1 (omega arith)
+    let months = simp (to_z-of_z at-start.ranges.month) at c.months_before-n.ensures in
+    days-passed at-start.args.month c.loop-i.invariant.1 (omega arith)
 
 pub days_before_spec : {M : Type 1} → statement M
 days_before_spec =
@@ -38,8 +38,8 @@ days_before_spec =
     decreases-loop
     (λ c κs. search rules)
     (λ c. search rules)
-    (λ c. omega (arith, row_lt c.before.args.leap))
-    (λ c. row_lt c.before.args.leap)
+    (λ c. omega (arith, row_lt c.args.leap))
+    (λ c. row_lt c.args.leap)
     loop-holds
     (λ c. search rules)
     (λ c. search rules)

@@ -14,24 +14,24 @@ use Rattle.calendar_gregorian.proofs.days_from_civil.Statement.{statement}
 use Rattle.calendar_gregorian.proofs.days_from_civil.Tie as tie
 
 -- the days before the year, from that start
-start : (c : tie.After-days_before_year) → c.days_before_year.result ≡ since_start c.before.args.year
-start c = rw (to_z-of_z c.before.ranges.year) at c.days_before_year.ensures
+start : (c : tie.After-days_before_year) → c.days_before_year.result ≡ since_start c.args.year
+start c = rw (to_z-of_z c.ranges.year) at c.days_before_year.ensures
 
 -- less the days to 1970, and 1
 less : (c : tie.After-days_before_year) {n : ℕ} → n ≡ to1970
-    → to_z w64 c.days_before_year.result -ℤ pos n ≡ pos (since_start c.before.args.year) -ℤ pos to1970
-less c e = rw (start c, start_back c.before.ranges.year, e)
+    → to_z w64 c.days_before_year.result -ℤ pos n ≡ pos (since_start c.args.year) -ℤ pos to1970
+less c e = rw (start c, start_back c.ranges.year, e)
 
 -- the code's sum is the days since 1970-01-01
 days : (c : tie.After-day_of_year) {n : ℕ} → n ≡ to1970
-    → to_z w64 (of_z w64 (to_z w64 c.before.days_before_year.result -ℤ pos n)) +ℤ to_z w64 (of_z w64 c.day_of_year.result)
-    ≡ days_from_civil c.before.before.args.year c.before.before.args.month c.before.before.args.day
+    → to_z w64 (of_z w64 (to_z w64 c.days_before_year.result -ℤ pos n)) +ℤ to_z w64 (of_z w64 c.day_of_year.result)
+    ≡ days_from_civil c.args.year c.args.month c.args.day
 days c e =
     let at-start = c.before.before in
     rw (
       less c.before e,
       to_z-of_z (less-fits at-start.ranges.year),
-      to_z-of_z {z = c.day_of_year.result} (sfits_of c.day_of_year.type-inv),
+      to_z-of_z {z = c.day_of_year.result} (sfits_of c.day_of_year.type_inv),
       c.day_of_year.ensures,
       to_z-of_z at-start.ranges.year,
       to_z-of_z at-start.ranges.month,
@@ -40,7 +40,7 @@ days c e =
     (from_start at-start.args.year at-start.args.month at-start.args.day at-start.ranges.year)
 
 -- and it fits 64 bits
-fits : (c : tie.After-day_of_year) → SFits w64 (days_from_civil c.before.before.args.year c.before.before.args.month c.before.before.args.day)
+fits : (c : tie.After-day_of_year) → SFits w64 (days_from_civil c.args.year c.args.month c.args.day)
 fits c = let at-start = c.before.before in omega (arith, days-from-mag at-start.ranges.year at-start.args.month at-start.ranges.day)
 
 returns : tie.Need-returns
@@ -51,8 +51,8 @@ days_from_civil_spec =
     tie.close
     (tie.spec
     (λ c κs. search rules)
-    (λ c. omega (arith, start c, since-start-le c.before.ranges.year))
-    (λ c. subst⁻¹ (SFits w64) (less c refl) (less-fits c.before.ranges.year))
+    (λ c. omega (arith, start c, since-start-le c.ranges.year))
+    (λ c. subst⁻¹ (SFits w64) (less c refl) (less-fits c.ranges.year))
     (λ c κs. search rules)
     (λ c. subst⁻¹ (SFits w64) (days c refl) (fits c))
     returns)

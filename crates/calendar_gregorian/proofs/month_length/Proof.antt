@@ -52,7 +52,7 @@ long in_leap (negsuc m) h l p q = absurd (omega arith)
 
 -- below 1: no month
 returns : tie.Need-returns-then-month-lt1
-returns c = ap pos (no_length c.before.ranges.month c.before.args.leap c.if-month-lt1.true)
+returns c = ap pos (no_length c.ranges.month c.args.leap c.if-month-lt1.true)
 
 -- above 12: no month
 returns-2 : tie.Need-returns-then-month-gt12
@@ -86,9 +86,9 @@ returns-6 c =
     let at-end = c.before.before in
     let at-start = at-end.before.before in
     let month-fits = at-start.ranges.month in
-    let number = from month-fits at-end.before.if-month-lt1.false in
+    let number = from month-fits at-end.if-month-lt1.false in
     ap pos (long at-start.args.leap at-start.args.month
-    (omega (arith, number.from, number.is)) (not-above month-fits at-end.if-month-gt12.false) c.before.if-month-eq2.false c.in-4.rest.1)
+    (omega (arith, number.from, number.is)) (not-above month-fits at-end.if-month-gt12.false) c.if-month-eq2.false c.in_default.rest.1)
 
 pub month_length_spec : {M : Type 1} → statement M
 month_length_spec = tie.close (tie.spec returns returns-2 returns-3 returns-4 returns-5 returns-6)

@@ -24,15 +24,15 @@ abbrev decreases-loop : tie.decreases-loop-i
 decreases-loop leap day row end₀ i₀ end i = 12 - i
 
 loop-holds : tie.Need-loop-i-init invariant-loop decreases-loop
-loop-holds c = (search rules, record { is = refl; le = search rules }, starts c.before.args.leap _)
+loop-holds c = (search rules, record { is = refl; le = search rules }, starts c.args.leap _)
 
 add-end : tie.Need-overflow_add-end invariant-loop decreases-loop
-add-end c = (add_read _ _ refl c.before.before.loop-i.invariant.1 (search rules)).fits
+add-end c = (add_read _ _ refl c.loop-i.invariant.1 (search rules)).fits
 
 -- the day is not past the end of month i + 1
 returns : tie.Need-returns-then-day-end invariant-loop decreases-loop
 returns c =
-    let at-loop = c.before.before.before.loop-i in
+    let at-loop = c.loop-i in
     let at-start = c.before.before.before.before.before in
     let leap = at-start.args.leap in
     let passed = stops leap _ at-loop.i (search rules) (add_read _ _ refl at-loop.invariant.1 (search rules)).is c.if-day-end.true in
@@ -42,8 +42,8 @@ returns c =
 
 loop-again : tie.Need-loop-i-preserved invariant-loop decreases-loop
 loop-again c =
-    let at-loop = c.before.before.before.loop-i in
-    let leap = c.before.before.before.before.before.args.leap in (
+    let at-loop = c.loop-i in
+    let leap = c.args.leap in (
       search rules,
       (add_read _ _ refl at-loop.invariant.1 (search rules)).passed,
       ap suc (goes_on leap _ at-loop.i (search rules) (add_read _ _ refl at-loop.invariant.1 (search rules)).is c.if-day-end.false) ∙ at-loop.invariant.2,
@@ -52,7 +52,7 @@ loop-again c =
 -- the day is past the end of all twelve
 returns-2 : tie.Need-returns invariant-loop decreases-loop
 returns-2 c =
-    let at-loop = c.before.loop-i in
+    let at-loop = c.loop-i in
     let at-start = c.before.before.before in
     let all-passed : at-loop.i ≡ 12 = omega arith in
     ap pos (rw (all-passed, ends at-start.args.leap, to_z-of_z at-start.ranges.day) at at-loop.invariant.2)

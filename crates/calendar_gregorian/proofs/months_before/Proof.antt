@@ -7,24 +7,24 @@ use Rattle.calendar_gregorian.proofs.months_before.Tie as tie
 
 -- below 1: none
 returns : tie.Need-returns-then-month-lt1
-returns c = omega (arith, below c.before.ranges.month c.if-month-lt1.true)
+returns c = omega (arith, below c.ranges.month c.if-month-lt1.true)
 
 -- above 12: all twelve
 returns-2 : tie.Need-returns-then-month-gt12
-returns-2 c = omega (arith, above c.before.before.ranges.month c.if-month-gt12.true)
+returns-2 c = omega (arith, above c.ranges.month c.if-month-gt12.true)
 
 -- the month is positive, so it is a usize
 cast-result : tie.Need-overflow_cast-result
-cast-result c = unsigned c.before.before.ranges.month c.before.if-month-lt1.false
+cast-result c = unsigned c.ranges.month c.if-month-lt1.false
 
 sub-result : tie.Need-overflow_sub-result
-sub-result c = (from c.before.before.ranges.month c.before.if-month-lt1.false).from
+sub-result c = (from c.ranges.month c.if-month-lt1.false).from
 
 -- one of the twelve: one less than its number
 returns-3 : tie.Need-returns
 returns-3 c =
-    let month-fits = c.before.before.ranges.month in
-    omega (arith, from month-fits c.before.if-month-lt1.false, not-above month-fits c.if-month-gt12.false)
+    let month-fits = c.ranges.month in
+    omega (arith, from month-fits c.if-month-lt1.false, not-above month-fits c.if-month-gt12.false)
 
 pub months_before_spec : {M : Type 1} → statement M
 months_before_spec = tie.close (tie.spec returns returns-2 cast-result sub-result returns-3)

@@ -11,31 +11,31 @@ rem-if1 : tie.Need-nonzero_rem-y
 rem-if1 c = divides c.ranges.y _ (lit< tt)
 
 rem-if2 : tie.Need-nonzero_rem-y-then-y-eq0
-rem-if2 c = divides c.before.ranges.y _ (lit< tt)
+rem-if2 c = divides c.ranges.y _ (lit< tt)
 
 rem-result : tie.Need-nonzero_rem-result
-rem-result c = divides c.before.before.ranges.y _ (lit< tt)
+rem-result c = divides c.ranges.y _ (lit< tt)
 
 -- a multiple of 4 and not of 100
 returns : tie.Need-returns-then-y-ne0
 returns c =
-    let year-fits = c.before.before.ranges.y in
-    let by-four = sym (remainder year-fits _) ∙ eq-eqb _ _ c.before.if-y-eq0.true in
+    let year-fits = c.ranges.y in
+    let by-four = sym (remainder year-fits _) ∙ eq-eqb _ _ c.if-y-eq0.true in
     let not-by-hundred = sym (remainder year-fits _) ∙ ne_eqb _ _ c.if-y-ne0.true in
     rw (remainder year-fits, by-four, not-by-hundred)
 
 -- a multiple of 4 and of 100: the test for 400 decides
 returns-2 : tie.Need-returns-else-y-ne0
 returns-2 c =
-    let year-fits = c.before.before.ranges.y in
-    let by-four = sym (remainder year-fits _) ∙ eq-eqb _ _ c.before.if-y-eq0.true in
+    let year-fits = c.ranges.y in
+    let by-four = sym (remainder year-fits _) ∙ eq-eqb _ _ c.if-y-eq0.true in
     let by-hundred = sym (remainder year-fits _) ∙ eq-eqb _ _ c.if-y-ne0.false in
     rw (remainder year-fits, by-four, by-hundred)
 
 -- no multiple of 4
 returns-3 : tie.Need-returns-else-y-eq0
 returns-3 c =
-    let year-fits = c.before.ranges.y in
+    let year-fits = c.ranges.y in
     let not-by-four = sym (remainder year-fits _) ∙ ne_eqb _ _ c.if-y-eq0.false in
     rw (remainder year-fits, not-by-four)
 

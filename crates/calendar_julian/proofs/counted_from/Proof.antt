@@ -10,10 +10,10 @@ returns : tie.Need-returns-then-day-week_one
 unfolding counted_from
 returns c =
     let after-week-one = c.before.before in
-    let args_fit = after-week-one.before.ranges in
-    let monday = returned after-week-one.week_one.type-inv after-week-one.week_one.ensures in
+    let args_fit = after-week-one.ranges in
+    let monday = returned after-week-one.week_one.type_inv after-week-one.week_one.ensures in
     simp (
-      simp (to_z-of_z args_fit.day, monday, to_z-of_z args_fit.year) at c.before.if-day-week_one.true,
+      simp (to_z-of_z args_fit.day, monday, to_z-of_z args_fit.year) at c.if-day-week_one.true,
       c.wrapping_sub.ensures,
       wrap-back,
       to_z-of_z args_fit.year,
@@ -24,8 +24,8 @@ returns-2 : tie.Need-returns-else-day-week_one
 unfolding counted_from
 returns-2 c =
     let after-week-one = c.before in
-    let args_fit = after-week-one.before.ranges in
-    let monday = returned after-week-one.week_one.type-inv after-week-one.week_one.ensures in
+    let args_fit = after-week-one.ranges in
+    let monday = returned after-week-one.week_one.type_inv after-week-one.week_one.ensures in
     simp (simp (to_z-of_z args_fit.day, monday, to_z-of_z args_fit.year) at c.if-day-week_one.false, to_z-of_z args_fit.year)
 
 pub counted_from_spec : {M : Type 1} → statement M

@@ -13,13 +13,13 @@ div-century c = (lit< tt, rw (to_z-of_z c.ranges.year) (quot_fits _ 100 c.ranges
 -- a fourth of the years fits
 div-wrapping-add : tie.Need-nonzero_div-year
 div-wrapping-add c =
-    let year-fits = c.before.before.ranges.year in
+    let year-fits = c.ranges.year in
     (lit< tt, rw (to_z-of_z year-fits) (quot_fits _ 4 year-fits))
 
 -- a fourth of the centuries fits
 div-wrapping-add-2 : tie.Need-nonzero_div-century-2
 div-wrapping-add-2 c =
-    let year-fits = c.before.before.before.before.ranges.year in
+    let year-fits = c.ranges.year in
     let century-fits = quot_fits _ 100 year-fits in
     (lit< tt, simp (to_z-of_z year-fits, to_z-of_z century-fits) (quot_fits _ 4 century-fits))
 
@@ -37,7 +37,7 @@ returns c =
     let after-fourths = after-centuries.before in
     let after-sub = after-fourths.before in
     let after-year-mul = after-sub.before in
-    let args_fit = after-year-mul.before.ranges in
+    let args_fit = after-year-mul.ranges in
     let century-fits = quot_fits _ 100 args_fit.year in
     simp (
       c.wrapping_add-3.ensures,

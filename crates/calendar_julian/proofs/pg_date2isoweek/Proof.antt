@@ -13,14 +13,14 @@ returns c =
     let after-add = after-week-year.before in
     let after-counted = after-add.before in
     let after-date2j = after-counted.before in
-    let args_fit = after-date2j.before.ranges in
+    let args_fit = after-date2j.ranges in
     simp (
-      returned c.week_of.type-inv c.week_of.ensures,
-      returned after-week-year.week_year.type-inv after-week-year.week_year.ensures,
+      returned c.week_of.type_inv c.week_of.ensures,
+      returned after-week-year.week_year.type_inv after-week-year.week_year.ensures,
       after-add.wrapping_add.ensures,
       wrap-back,
-      returned after-counted.counted_from-from.type-inv after-counted.counted_from-from.ensures,
-      returned after-date2j.pg_date2j-dayn.type-inv after-date2j.pg_date2j-dayn.ensures,
+      returned after-counted.counted_from-from.type_inv after-counted.counted_from-from.ensures,
+      returned after-date2j.pg_date2j-dayn.type_inv after-date2j.pg_date2j-dayn.ensures,
       to_z-of_z args_fit.year,
       to_z-of_z args_fit.mon,
       to_z-of_z args_fit.mday,

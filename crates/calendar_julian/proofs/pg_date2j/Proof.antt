@@ -18,10 +18,10 @@ unfolding date2j
 returns c =
     let after-month = c.before in
     let after-year = after-month.before in
-    let args_fit = after-year.before.before.ranges in
-    simp (simp (to_z-of_z args_fit.month) at after-year.before.if-month-gt2.true)
+    let args_fit = after-year.ranges in
+    simp (simp (to_z-of_z args_fit.month) at after-year.if-month-gt2.true)
     (shifted (pos 4800) (pos 1) args_fit.year args_fit.month args_fit.day after-year.wrapping_add.ensures
-    after-month.wrapping_add-then-month-gt2.ensures (returned c.from_march.type-inv c.from_march.ensures))
+    after-month.wrapping_add-then-month-gt2.ensures (returned c.from_march.type_inv c.from_march.ensures))
 
 -- January and February
 returns-2 : tie.Need-returns-else-month-gt2
@@ -29,10 +29,10 @@ unfolding date2j
 returns-2 c =
     let after-month = c.before in
     let after-year = after-month.before in
-    let args_fit = after-year.before.before.ranges in
-    simp (simp (to_z-of_z args_fit.month) at after-year.before.if-month-gt2.false)
+    let args_fit = after-year.ranges in
+    simp (simp (to_z-of_z args_fit.month) at after-year.if-month-gt2.false)
     (shifted (pos 4799) (pos 13) args_fit.year args_fit.month args_fit.day after-year.wrapping_add-else-month-gt2.ensures
-    after-month.wrapping_add-else-month-gt2-2.ensures (returned c.from_march-else-month-gt2.type-inv c.from_march-else-month-gt2.ensures))
+    after-month.wrapping_add-else-month-gt2-2.ensures (returned c.from_march-else-month-gt2.type_inv c.from_march-else-month-gt2.ensures))
 
 pub pg_date2j_spec : {M : Type 1} → statement M
 pg_date2j_spec =

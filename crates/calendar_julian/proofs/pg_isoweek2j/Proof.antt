@@ -12,10 +12,10 @@ returns c =
     let after-week-one = c.before in
     let after-mul = after-week-one.before in
     let after-sub = after-mul.before in
-    let args_fit = after-sub.before.ranges in
+    let args_fit = after-sub.ranges in
     simp (
       c.wrapping_add.ensures,
-      returned after-week-one.week_one.type-inv after-week-one.week_one.ensures,
+      returned after-week-one.week_one.type_inv after-week-one.week_one.ensures,
       after-mul.wrapping_mul.ensures,
       after-sub.wrapping_sub.ensures,
       wrap-back,

@@ -8,12 +8,12 @@ use Rattle.calendar_julian.proofs.pg_j2date.Tie as tie
 
 -- the day from March 1, plus 123
 day-lt : (c : tie.After-day_from_march-day) → c.day_from_march-day.result < 489
-day-lt c = rw c.day_from_march-day.ensures (march-lt (day_of_four c.before.with_skipped-days.result))
+day-lt c = rw c.day_from_march-day.ensures (march-lt (day_of_four c.with_skipped-days.result))
 
 -- the year less 4800 fits
 sub-t12 : tie.Need-overflow_sub-result
 sub-t12 c =
-    let n = c.before.with_skipped-days.result in
+    let n = c.with_skipped-days.result in
     rw (year-is n (omega arith)) (year-fits n (omega arith))
 
 returns : tie.Need-returns
@@ -28,7 +28,7 @@ returns c =
       after-skipped.with_skipped-days.ensures,
       after-shift.wrapping_add_u32.ensures,
       after-bits.bits.ensures,
-      to_z-of_z after-bits.before.ranges.jd,
+      to_z-of_z after-bits.ranges.jd,
     )
 
 pub pg_j2date_spec : {M : Type 1} → statement M

@@ -10,20 +10,20 @@ rem-day : tie.Need-nonzero_rem-day
 rem-day c = (lit< tt, simp (c.wrapping_add-day.ensures, wrap-back) (quot_fits _ 7 (wrap-fits _)))
 
 add-result : tie.Need-overflow_add-result
-add-result c = simp rem-back (up_fits (read c.before.wrapping_add-day.result))
+add-result c = simp rem-back (up_fits (read c.wrapping_add-day.result))
 
 -- the remainder is negative: 7 is added
 returns : tie.Need-returns-then-day-lt0
 unfolding j2day
 returns c =
-    let next-day = simp (to_z-of_z c.before.before.ranges.date) at c.before.wrapping_add-day.ensures in
+    let next-day = simp (to_z-of_z c.ranges.date) at c.wrapping_add-day.ensures in
     simp (simp (rem-back, next-day, wrap-back) at c.if-day-lt0.true, rem-back, up-back, next-day, wrap-back)
 
 -- it is the weekday
 returns-2 : tie.Need-returns-else-day-lt0
 unfolding j2day
 returns-2 c =
-    let next-day = simp (to_z-of_z c.before.before.ranges.date) at c.before.wrapping_add-day.ensures in
+    let next-day = simp (to_z-of_z c.ranges.date) at c.wrapping_add-day.ensures in
     simp (simp (rem-back, next-day, wrap-back) at c.if-day-lt0.false, rem-back, next-day, wrap-back)
 
 pub pg_j2day_spec : {M : Type 1} → statement M

@@ -15,10 +15,10 @@ add-result c = simp (c.wrapping_sub.ensures, wrap-back, quot-back) (week-fits _)
 returns : tie.Need-returns
 unfolding week_of
 returns c =
-    let args_fit = c.before.before.ranges in
+    let args_fit = c.ranges in
     simp (
       c.wrapping_sub.ensures,
-      returned c.before.week_one.type-inv c.before.week_one.ensures,
+      returned c.week_one.type_inv c.week_one.ensures,
       wrap-back,
       quot-back,
       to_z-of_z args_fit.day,

@@ -13,11 +13,11 @@ returns c =
     let after-date2j = after-sub.before in
     simp (
       c.wrapping_sub-2.ensures,
-      returned after-weekday.pg_j2day.type-inv after-weekday.pg_j2day.ensures,
+      returned after-weekday.pg_j2day.type_inv after-weekday.pg_j2day.ensures,
       after-sub.wrapping_sub.ensures,
-      returned after-date2j.pg_date2j-day4.type-inv after-date2j.pg_date2j-day4.ensures,
+      returned after-date2j.pg_date2j-day4.type_inv after-date2j.pg_date2j-day4.ensures,
       wrap-back,
-      to_z-of_z after-date2j.before.ranges.year,
+      to_z-of_z after-date2j.ranges.year,
     )
 
 pub week_one_spec : {M : Type 1} → statement M

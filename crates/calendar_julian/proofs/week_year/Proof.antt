@@ -6,26 +6,26 @@ use Rattle.calendar_julian.proofs.week_year.Statement.{statement}
 use Rattle.calendar_julian.proofs.week_year.Tie as tie
 
 -- what the first test compares: the week
-week : (c : tie.After-week_of) → read c.week_of.result ≡ week_of c.before.args.day c.before.args.from
+week : (c : tie.After-week_of) → read c.week_of.result ≡ week_of c.args.day c.args.from
 week c =
-    let args_fit = c.before.ranges in
-    simp (to_z-of_z args_fit.day, to_z-of_z args_fit.from) at (returned c.week_of.type-inv c.week_of.ensures)
+    let args_fit = c.ranges in
+    simp (to_z-of_z args_fit.day, to_z-of_z args_fit.from) at (returned c.week_of.type_inv c.week_of.ensures)
 
 -- and the second: the Monday of week 1 of the next year
-monday : (c : tie.After-week_one) → read c.week_one.result ≡ week_one c.before.before.before.args.next
-monday c = simp (to_z-of_z c.before.before.before.ranges.next) at (returned c.week_one.type-inv c.week_one.ensures)
+monday : (c : tie.After-week_one) → read c.week_one.result ≡ week_one c.args.next
+monday c = simp (to_z-of_z c.ranges.next) at (returned c.week_one.type_inv c.week_one.ensures)
 
 -- before week 52
 returns : tie.Need-returns-then-week_of-lt52
 unfolding week_year
-returns c = simp (simp (week c.before) at c.if-week_of-lt52.true, to_z-of_z c.before.before.ranges.from)
+returns c = simp (simp (week c.before) at c.if-week_of-lt52.true, to_z-of_z c.ranges.from)
 
 -- week 52 or later, but before week 1 of the next year
 returns-2 : tie.Need-returns-then-day-week_one
 unfolding week_year
 returns-2 c =
     let late = c.before.before in
-    let args_fit = late.before.before.ranges in
+    let args_fit = late.ranges in
     simp (
       simp (week late.before) at late.if-week_of-lt52.false,
       simp (to_z-of_z args_fit.day, monday c.before) at c.if-day-week_one.true,
@@ -37,7 +37,7 @@ returns-3 : tie.Need-returns
 unfolding week_year
 returns-3 c =
     let late = c.before.before in
-    let args_fit = late.before.before.ranges in
+    let args_fit = late.ranges in
     simp (
       simp (week late.before) at late.if-week_of-lt52.false,
       simp (to_z-of_z args_fit.day, monday c.before) at c.if-day-week_one.false,

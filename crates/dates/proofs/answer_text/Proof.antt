@@ -25,13 +25,13 @@ returns-2 : tie.Need-returns-then-a-eq0 invariant-loop decreases-loop
 returns-2 c =
     let after-lines = c.before.before.before.before.before.before.before.before in
     let at-loop = after-lines.before.before.before.before.before in
-    λ e. to_end at-loop.before.before.before.args.text.now at-loop.loop-s.s.from (after-lines.answer_lines-a.ensures.some (omega arith) c.if-a-eq0.true)
+    λ e. to_end at-loop.args.text.now at-loop.loop-s.s.from (after-lines.answer_lines-a.ensures.some (omega arith) c.if-a-eq0.true)
 
 -- nothing is left
 returns-3 : tie.Need-returns invariant-loop decreases-loop
 returns-3 c =
     let at-loop = c.before.before in
-    λ e. past_end at-loop.before.before.before.args.text.now at-loop.loop-s.s.from (omega arith)
+    λ e. past_end at-loop.args.text.now at-loop.loop-s.s.from (omega arith)
 
 pub answer_text_spec : {M : Type 1} → statement M
 answer_text_spec =
@@ -46,13 +46,13 @@ answer_text_spec =
     (λ c κs. search rules)
     (λ c. omega arith)
     (λ c. omega arith)
-    (λ c. omega (arith, c.before.before.before.answer_lines-a.ensures.within))
+    (λ c. omega (arith, c.answer_lines-a.ensures.within))
     (λ c κs. search rules)
     (λ c. search rules)
     returns
     (λ c. search rules)
     returns-2
-    (λ c. omega (arith, c.before.before.before.before.before.before.before.before.before.answer_lines-a.ensures.from))
+    (λ c. omega (arith, c.answer_lines-a.ensures.from))
     (λ c. omega arith)
     (λ c. search rules)
     (λ c. search rules)

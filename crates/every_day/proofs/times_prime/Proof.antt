@@ -15,4 +15,4 @@ times_prime_spec =
     (λ c. search rules)
     (λ c. search rules)
     (λ c κs. search rules)
-    (λ c. c.wrapping_add_u64.ensures ∙ product c.before.args.h))
+    (λ c. c.wrapping_add_u64.ensures ∙ product c.args.h))

@@ -9,9 +9,9 @@ use Rattle.line_answers.proofs.answer.Statement.{statement}
 use Rattle.line_answers.proofs.answer.Tie as tie
 
 -- no more bytes than the line has
-part-answer-whole-end : tie.Need-slice-bounds-answer-whole-end
+part-answer-whole-end : tie.Need-slice_bounds-answer_whole-end
 part-answer-whole-end c =
-    let args = c.before.before.before.args in
+    let args = c.args in
     omega (arith, c.counted-len.ensures, counted-within args.mode args.line.now)
 
 -- the answer to the bytes that count
@@ -20,7 +20,7 @@ unfolding answer_line
 returns c =
     let after-answer = c.before.before in
     let after-count = after-answer.before.before.before in
-    let args = after-count.before.before.before.args in
+    let args = after-count.args in
     let size : after-count.counted-len.result - 0 ≡ counted args.mode args.line.now = omega (arith, after-count.counted-len.ensures) in
     rw size at after-answer.answer_whole.ensures
 

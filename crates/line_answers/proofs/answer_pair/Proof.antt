@@ -9,27 +9,27 @@ returns : tie.Need-returns-in-Parts
 unfolding pair_answer
 returns c =
     let after-answer = c.before.before in
-    rw after-answer.before.before.enum_told-1.given.1 after-answer.parts.ensures
+    rw after-answer.in-Parts.is after-answer.parts.ensures
 
 -- the instant
 returns-2 : tie.Need-returns-in-Instant
 unfolding pair_answer
 returns-2 c =
     let after-answer = c.before.before in
-    rw after-answer.before.before.enum_told-in-Instant-1.given.1 after-answer.instant.ensures
+    rw after-answer.in-Instant.is after-answer.instant.ensures
 
 -- the day
 returns-3 : tie.Need-returns-in-Date
 unfolding pair_answer
 returns-3 c =
     let after-answer = c.before.before in
-    rw after-answer.before.before.enum_told-in-Date-1.given.1 after-answer.day.ensures
+    rw after-answer.in-Date.is after-answer.day.ensures
 
 -- the text
 returns-4 : tie.Need-returns-in-Write
 returns-4 c =
     let after-answer = c.before.before in
-    rw after-answer.before.before.enum_told-in-Write-1.given.1 after-answer.text.ensures
+    rw after-answer.in-Write.is after-answer.text.ensures
 
 pub answer_pair_spec : {M : Type 1} → statement M
 answer_pair_spec =

@@ -9,7 +9,7 @@ returns : tie.Need-returns
 unfolding too_long_answer
 returns c =
     let after-put = c.before.before in
-    rw after-put.before.before.report_of.ensures at after-put.put_report.ensures
+    rw after-put.report_of.ensures at after-put.put_report.ensures
 
 pub answer_too_long_spec : {M : Type 1} → statement M
 answer_too_long_spec =

@@ -9,7 +9,7 @@ use Rattle.line_answers.proofs.answer_whole.Tie as tie
 returns : tie.Need-returns-then-len-gt-LINE
 returns c =
     let after-answer = c.before.before in
-    rw (too_long _ _ after-answer.before.before.if-len-gt-LINE.true) after-answer.answer_too_long.ensures
+    rw (too_long _ _ after-answer.if-len-gt-LINE.true) after-answer.answer_too_long.ensures
 
 -- a TAB
 returns-2 : tie.Need-returns-then-cut-len
@@ -17,7 +17,7 @@ returns-2 c =
     let after-answer = c.before.before in
     let at-tab = after-answer.before.before.before.before in
     let after-find = at-tab.before in
-    rw (cut_at _ _ _ after-find.before.if-len-gt-LINE.false after-find.find-cut.ensures at-tab.if-cut-len.true) after-answer.answer_pair.ensures
+    rw (cut_at _ _ _ after-find.if-len-gt-LINE.false after-find.find-cut.ensures at-tab.if-cut-len.true) after-answer.answer_pair.ensures
 
 -- none
 returns-3 : tie.Need-returns
@@ -25,7 +25,7 @@ returns-3 c =
     let after-answer = c.before.before in
     let at-end = after-answer.before.before.before in
     let after-find = at-end.before in
-    rw (uncut _ _ _ after-find.before.if-len-gt-LINE.false after-find.find-cut.ensures at-end.if-cut-len.false) after-answer.answer_pair-2.ensures
+    rw (uncut _ _ _ after-find.if-len-gt-LINE.false after-find.find-cut.ensures at-end.if-cut-len.false) after-answer.answer_pair-2.ensures
 
 pub answer_whole_spec : {M : Type 1} → statement M
 answer_whole_spec =

@@ -7,20 +7,20 @@ use Rattle.line_answers.proofs.counted.Tie as tie
 -- in the first three modes all bytes count
 returns : tie.Need-returns-in-Parts
 unfolding counted
-returns c = rw c.enum_told-1.given.1
+returns c = rw c.in-Parts.is
 
 returns-2 : tie.Need-returns-in-Instant
 unfolding counted
-returns-2 c = rw c.enum_told-in-Instant-1.given.1
+returns-2 c = rw c.in-Instant.is
 
 returns-3 : tie.Need-returns-in-Date
 unfolding counted
-returns-3 c = rw c.enum_told-in-Date-1.given.1
+returns-3 c = rw c.in-Date.is
 
 -- where a moment is written
 returns-4 : tie.Need-returns-in-Write
 unfolding counted
-returns-4 c = rw c.before.enum_told-in-Write-1.given.1 c.without_return.ensures
+returns-4 c = rw c.in-Write.is c.without_return.ensures
 
 pub counted_spec : {M : Type 1} → statement M
 counted_spec = tie.close (tie.spec (λ c. search rules) (λ c. search rules) (λ c. search rules) (λ c. search rules) (λ c κs. search rules) returns returns-2 returns-3 returns-4)

@@ -18,7 +18,7 @@ empty (b ∷ line) h = absurd (omega arith)
 
 -- an empty line
 returns : tie.Need-returns-then-len-eq0
-returns c = empty c.before.args.line.now c.if-len-eq0.true
+returns c = empty c.args.line.now c.if-len-eq0.true
 
 left-off : (line : List ℕ) → byte_at line (length line - 1) ≡ 13 → length line - 1 ≡ without_return line
 unfolding without_return

@@ -15,18 +15,18 @@ use Rattle.line_numbers.proofs.narrow.Tie as tie
 -- below the numbers of 32 bits
 returns : tie.Need-returns-then-n-ltminus2147483648
 unfolding narrowed
-returns c = rw (rw (to_z-of_z c.before.ranges.n) at c.if-n-ltminus2147483648.true)
+returns c = rw (rw (to_z-of_z c.ranges.n) at c.if-n-ltminus2147483648.true)
 
 -- between the two the number fits 32 bits
 module _ (c : tie.Else-n-gt2147483647) where
   abbrev n : ℤ
-  n = c.before.before.args.n
+  n = c.args.n
 
   same : to_z w64 (of_z w64 n) ≡ n
-  same = to_z-of_z c.before.before.ranges.n
+  same = to_z-of_z c.ranges.n
 
   low : lt_z n (negsuc 2147483647) ≡ false
-  low = rw same at c.before.if-n-ltminus2147483648.false
+  low = rw same at c.if-n-ltminus2147483648.false
 
   high : lt_z (pos 2147483647) n ≡ false
   high = rw same at c.if-n-gt2147483647.false
@@ -36,13 +36,13 @@ module _ (c : tie.Else-n-gt2147483647) where
 
 -- the number read from its 64 bits is the number
 module _ (c : tie.Then-n-gt2147483647) where
-  pub same_then : to_z w64 (of_z w64 c.before.before.args.n) ≡ c.before.before.args.n
-  same_then = to_z-of_z c.before.before.ranges.n
+  pub same_then : to_z w64 (of_z w64 c.args.n) ≡ c.args.n
+  same_then = to_z-of_z c.ranges.n
 
 -- above them
 returns-2 : tie.Need-returns-then-n-gt2147483647
 unfolding narrowed
-returns-2 c = rw (rw (same_then c) at c.before.if-n-ltminus2147483648.false, rw (same_then c) at c.if-n-gt2147483647.true)
+returns-2 c = rw (rw (same_then c) at c.if-n-ltminus2147483648.false, rw (same_then c) at c.if-n-gt2147483647.true)
 
 -- one of them
 returns-3 : tie.Need-returns

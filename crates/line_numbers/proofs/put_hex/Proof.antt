@@ -41,7 +41,7 @@ loop-again c =
 
 -- no pair is left
 returns-3 : tie.Need-returns invariant-loop decreases-loop
-returns-3 c = ended _ _ _ _ _ _ c.before.loop-i.invariant (omega arith)
+returns-3 c = ended _ _ _ _ _ _ c.loop-i.invariant (omega arith)
 
 pub put_hex_spec : {M : Type 1} → statement M
 put_hex_spec =
@@ -56,9 +56,9 @@ put_hex_spec =
     (λ c. omega arith)
     (λ c. omega arith)
     (λ c κs. search rules)
-    (λ c. put-size _ _ c.before.before.before.before.before.before.loop-i.invariant.put)
+    (λ c. put-size _ _ c.loop-i.invariant.put)
     returns
-    (λ c. put-size _ _ c.before.before.before.before.before.before.before.loop-i.invariant.put)
+    (λ c. put-size _ _ c.loop-i.invariant.put)
     returns-2
     (λ c. omega arith)
     (λ c. omega arith)
@@ -66,5 +66,5 @@ put_hex_spec =
     (λ c. omega arith)
     (λ c. omega arith)
     loop-again
-    (λ c. put-size _ _ c.before.loop-i.invariant.put)
+    (λ c. put-size _ _ c.loop-i.invariant.put)
     returns-3)

@@ -13,16 +13,16 @@ use Rattle.line_numbers.proofs.read_int.Tie as tie
 returns : tie.Need-returns-in-Value
 unfolding narrow
 returns c =
-    let at_value = c.before.before in
-    let number_is = sym at_value.before.before.read_number.ensures ∙ at_value.n-1.given.1 in
-    let fits : SFits w64 at_value.n-1.given.0.0 = search rules in
+    let at_value = c.before in
+    let number_is = sym at_value.read_number.ensures ∙ at_value.in-Value.is in
+    let fits : SFits w64 at_value.in-Value.n = search rules in
     rw number_is (simp (to_z-of_z fits) at c.narrow.ensures)
 
 -- none
 returns-2 : tie.Need-returns-in-Malformed
 unfolding narrow
 returns-2 c =
-    rw (sym c.before.before.read_number.ensures ∙ c.enum_told-1.given.1)
+    rw (sym c.read_number.ensures ∙ c.in-Malformed.is)
 
 pub read_int_spec : {M : Type 1} → statement M
 read_int_spec =

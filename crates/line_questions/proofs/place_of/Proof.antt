@@ -10,20 +10,20 @@ use Rattle.line_questions.proofs.place_of.Tie as tie
 returns : tie.Need-returns-then-n-lt0
 returns c =
     let at_test = c.before in
-    let n-is = to_z-of_z at_test.before.ranges.n in
+    let n-is = to_z-of_z at_test.ranges.n in
     c.no_place.ensures ∙ sym (below-0 _ _ _ (simp n-is at at_test.if-n-lt0.true))
 
 -- the number can be cast
 cast-t5 : tie.Need-overflow_cast-result
 cast-t5 c =
-    let fits = c.before.ranges.n in
+    let fits = c.ranges.n in
     let n-is = to_z-of_z fits in
     simp n-is (placed 0 0 _ fits (simp n-is at c.if-n-lt0.false)).0
 
 -- a place
 returns-2 : tie.Need-returns
 returns-2 c =
-    let fits = c.before.ranges.n in
+    let fits = c.ranges.n in
     let n-is = to_z-of_z fits in
     simp n-is (sym (placed _ _ _ fits (simp n-is at c.if-n-lt0.false)).1)
 

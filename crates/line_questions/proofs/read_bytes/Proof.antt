@@ -23,7 +23,7 @@ returns-3 c =
     let after_same = c.before.before in
     let after-put = after_same.before.before.before.before in
     no_text _ _ _ _ _ (omega arith) after-put.put_hex-count.ensures
-    (same_by after_same.same.ensures c.before.if-same.false)
+    (same_by after_same.same.ensures c.if-same.false)
     (λ e. omega arith)
 
 -- an item that is not hexadecimal, or bytes that do not fit
@@ -32,7 +32,7 @@ returns-4 c =
     let after_same = c.before.before.before in
     let after-put = after_same.before.before.before.before in
     no_text _ _ _ _ _ (omega arith) after-put.put_hex-count.ensures
-    (same_by after_same.same.ensures c.before.before.if-same.false)
+    (same_by after_same.same.ensures c.if-same.false)
     (λ e. omega arith)
 
 -- a text
@@ -41,7 +41,7 @@ returns-5 c =
     let after_same = c.before.before.before in
     let after-put = after_same.before.before.before.before in
     whole-text _ _ _ _ _ (omega arith) after-put.put_hex-count.ensures
-    (same_by after_same.same.ensures c.before.before.if-same.false)
+    (same_by after_same.same.ensures c.if-same.false)
     (omega arith)
 
 pub read_bytes_spec : {M : Type 1} → statement M

@@ -22,35 +22,35 @@ decreases-loop line from values₀ count₀ at₀ values count at = length line 
 -- an item is no number
 returns : tie.Need-returns-in_default invariant-loop decreases-loop
 returns c =
-    let after_read = c.before.before.before in
+    let after_read = c.before.before in
     let after-find = after_read.before.before in
     let at-loop = after-find.before.before in
     let items = next-item _ _ _ (omega arith) after-find.find-end.ensures in
-    c.no_numbers.ensures ∙ no_number at-loop.loop-at.invariant.1 _ after-find.find-end.result items (sym after_read.read_int.ensures ∙ c.before.enum_told-1.given.1)
+    c.no_numbers.ensures ∙ no_number at-loop.loop-at.invariant.1 _ after-find.find-end.result items (sym after_read.read_int.ensures ∙ c.in_default.is)
 
 -- a fourth item
 returns-2 : tie.Need-returns-then-count-gt2 invariant-loop decreases-loop
 returns-2 c =
-    let after_read = c.before.before.before.before.before in
+    let after_read = c.before.before.before in
     let after-find = after_read.before.before in
     let at-loop = after-find.before.before in
     let items = next-item _ _ _ (omega arith) after-find.find-end.ensures in
-    c.no_numbers-then-count-gt2.ensures ∙ too_many at-loop.loop-at.invariant.1 _ after-find.find-end.result items c.before.if-count-gt2.true
+    c.no_numbers-then-count-gt2.ensures ∙ too_many at-loop.loop-at.invariant.1 _ after-find.find-end.result items c.if-count-gt2.true
 
 loop-again : tie.Need-loop-at-preserved invariant-loop decreases-loop
 loop-again c =
-    let at_value = c.before.before in
-    let after_read = at_value.before.before in
+    let at_value = c.before in
+    let after_read = at_value.before in
     let after-find = after_read.before.before in
     let at-loop = after-find.before.before in
     let items = next-item _ _ _ (omega arith) after-find.find-end.ensures in
-    let number_is = sym after_read.read_int.ensures ∙ at_value.n-1.given.1 in
-    let fits : SFits w32 at_value.n-1.given.0.0 = search rules in
+    let number_is = sym after_read.read_int.ensures ∙ at_value.in-Value.is in
+    let fits : SFits w32 at_value.in-Value.n = search rules in
     (omega arith, rw (to_z-of_z fits) (more at-loop.loop-at.invariant.1 _ _ items _ number_is c.if-count-gt2.false))
 
 -- no item is left
 returns-3 : tie.Need-returns invariant-loop decreases-loop
-returns-3 c = ended c.before.loop-at.invariant.1 (no_items _ _ c.loop-at-test.false)
+returns-3 c = ended c.loop-at.invariant.1 (no_items _ _ c.loop-at-test.false)
 
 pub read_numbers_spec : {M : Type 1} → statement M
 read_numbers_spec =

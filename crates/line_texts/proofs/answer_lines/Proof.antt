@@ -20,7 +20,7 @@ loop-holds c = begun _ _ _ _ c.find-end.ensures
 
 -- there is no room for one more answer
 returns : tie.Need-returns-then-out-s-lt-LONGEST invariant-loop decreases-loop
-returns c = full _ _ _ _ c.before.before.before.loop-end.invariant (omega arith)
+returns c = full _ _ _ _ c.loop-end.invariant (omega arith)
 
 loop-again : tie.Need-loop-end-preserved invariant-loop decreases-loop
 loop-again c =
@@ -32,7 +32,7 @@ loop-again c =
 
 -- no line is left
 returns-2 : tie.Need-returns invariant-loop decreases-loop
-returns-2 c = ended _ _ _ _ c.before.loop-end.invariant (omega arith)
+returns-2 c = ended _ _ _ _ c.loop-end.invariant (omega arith)
 
 pub answer_lines_spec : {M : Type 1} → statement M
 answer_lines_spec =
@@ -42,17 +42,17 @@ answer_lines_spec =
     decreases-loop
     (λ c κs. search rules)
     loop-holds
-    (λ c. let a = c.before.before.loop-end.invariant in omega (arith, a.within, size _ _ _ _ a))
-    (λ c. size _ _ _ _ c.before.before.before.loop-end.invariant)
+    (λ c. let a = c.loop-end.invariant in omega (arith, a.within, size _ _ _ _ a))
+    (λ c. size _ _ _ _ c.loop-end.invariant)
     returns
-    (λ c. c.before.before.before.loop-end.invariant.on)
-    (λ c. omega (arith, c.before.before.before.loop-end.invariant.on))
-    (λ c. omega (arith, c.before.before.before.loop-end.invariant.last))
+    (λ c. c.loop-end.invariant.on)
+    (λ c. omega (arith, c.loop-end.invariant.on))
+    (λ c. omega (arith, c.loop-end.invariant.last))
     (λ c κs. search rules)
     (λ c. omega arith)
     (λ c. omega arith)
     (λ c κs. search rules)
     (λ c. omega arith)
     loop-again
-    (λ c. size _ _ _ _ c.before.loop-end.invariant)
+    (λ c. size _ _ _ _ c.loop-end.invariant)
     returns-2)

@@ -6,7 +6,7 @@ use Rattle.moment_instants.proofs.day_by.Statement.{statement}
 use Rattle.moment_instants.proofs.day_by.Tie as tie
 
 returns : tie.Need-returns
-returns c = c.day_from.ensures ∙ ap day_by c.before.parts_by.ensures
+returns c = c.day_from.ensures ∙ ap day_by c.parts_by.ensures
 
 pub day_by_spec : {M : Type 1} → statement M
 day_by_spec = tie.close (tie.spec (λ c κs. search rules) (λ c κs. search rules) returns)

@@ -6,7 +6,7 @@ use Rattle.moment_instants.proofs.instant_by.Statement.{statement}
 use Rattle.moment_instants.proofs.instant_by.Tie as tie
 
 returns : tie.Need-returns
-returns c = c.instant_from.ensures ∙ ap instant_by c.before.parts_by.ensures
+returns c = c.instant_from.ensures ∙ ap instant_by c.parts_by.ensures
 
 pub instant_by_spec : {M : Type 1} → statement M
 instant_by_spec = tie.close (tie.spec (λ c κs. search rules) (λ c κs. search rules) returns)

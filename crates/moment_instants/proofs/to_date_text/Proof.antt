@@ -7,7 +7,7 @@ use Rattle.moment_instants.proofs.to_date_text.Tie as tie
 
 returns : tie.Need-returns
 unfolding date_of
-returns c = c.day_from.ensures ∙ ap day_by c.before.to_timestamp_parts.ensures
+returns c = c.day_from.ensures ∙ ap day_by c.to_timestamp_parts.ensures
 
 pub to_date_text_spec : {M : Type 1} → statement M
 to_date_text_spec = tie.close (tie.spec (λ c κs. search rules) (λ c κs. search rules) returns)

@@ -8,7 +8,7 @@ use Rattle.moment_instants.proofs.to_timestamp_text.Tie as tie
 
 returns : tie.Need-returns
 unfolding timestamp_of
-returns c = c.instant_from.ensures ∙ ap instant_by c.before.to_timestamp_parts.ensures
+returns c = c.instant_from.ensures ∙ ap instant_by c.to_timestamp_parts.ensures
 
 pub to_timestamp_text_spec : {M : Type 1} → statement M
 to_timestamp_text_spec = tie.close (tie.spec (λ c κs. search rules) (λ c κs. search rules) returns)

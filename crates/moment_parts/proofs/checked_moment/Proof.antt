@@ -29,27 +29,27 @@ time c e =
     sym (simp (
       returned after-second.second_of-second.ok after-second.second_of-second.ensures,
       returned after-minute.minute_of-minute.ok after-minute.minute_of-minute.ensures,
-      to_z-of_z at-start.fits.hour,
-      to_z-of_z at-start.fits.micros,
+      to_z-of_z at-start.ranges.hour,
+      to_z-of_z at-start.ranges.micros,
     ) at c.time_in_range.ensures)
     ∙ e
 
 -- the date is in range
-date : (c : tie.Else-not-date_in_range) → date_in_range c.before.before.before.before.before.args.r ≡ true
-date c = sym c.before.date_in_range.ensures ∙ passed _ c.if-not-date_in_range.false
+date : (c : tie.Else-not-date_in_range) → date_in_range c.args.r ≡ true
+date c = sym c.date_in_range.ensures ∙ passed _ c.if-not-date_in_range.false
 
 -- the test of the strict switch
 never : (c : tie.After-no_such_day) {b : Bool} → c.no_such_day.result ≡ b
-    → let args = (dated c).before.before.before.before.before.args in (args.strict && no_such_day args.r.set args.r.month args.r.day) ≡ b
+    → let args = (dated c).args in (args.strict && no_such_day args.r.set args.r.month args.r.day) ≡ b
 never c e =
     let at-start = (dated c).before.before.before.before.before in
-    let date-fits = fitting at-start.args.r _ at-start.good.1.1.0 in
+    let date-fits = fitting at-start.args.r _ at-start.well_formed.1.1.0 in
     sym (simp (to_z-of_z date-fits.month, to_z-of_z date-fits.day) at c.no_such_day.ensures) ∙ e
 
 -- the date is out of range
 returns : tie.Need-returns-then-not-date_in_range
 unfolding checked_moment
-returns c = simp (sym c.before.date_in_range.ensures ∙ failed _ c.if-not-date_in_range.true)
+returns c = simp (sym c.date_in_range.ensures ∙ failed _ c.if-not-date_in_range.true)
 
 -- the month never has the day
 returns-2 : tie.Need-returns-then-no_such_day
@@ -71,25 +71,25 @@ returns-3 c =
 returns-4 : tie.Need-returns-in-At
 unfolding checked_moment
 returns-4 c =
-    let at_offset = c.before.before in
-    let after-offset-of = at_offset.before.before in
+    let at_offset = c.before in
+    let after-offset-of = at_offset.before in
     let after-time-test = after-offset-of.before in
     let after-strict-test = after-time-test.before.before in
     let after-date-test = dated after-strict-test.before in
     let after-second = after-date-test.before.before in
     let after-minute = after-second.before in
     let at-start = after-minute.before.before in
-    let date-fits = fitting at-start.args.r _ at-start.good.1.1.0 in
+    let date-fits = fitting at-start.args.r _ at-start.well_formed.1.1.0 in
     simp (
       date after-date-test,
       never after-strict-test.before after-strict-test.if-no_such_day.false,
       time after-time-test.before (passed _ after-time-test.if-not-time_in_range.false),
-      sym after-offset-of.offset_of.ensures ∙ at_offset.offset-1.given.1,
+      sym after-offset-of.offset_of.ensures ∙ at_offset.in-At.is,
       returned after-second.second_of-second.ok after-second.second_of-second.ensures,
       returned after-minute.minute_of-minute.ok after-minute.minute_of-minute.ensures,
-      (known at-start.args.t2 _ at-start.good.1.0).back,
-      to_z-of_z at-start.fits.hour,
-      to_z-of_z at-start.fits.micros,
+      (known at-start.args.t2 _ at-start.well_formed.1.0).back,
+      to_z-of_z at-start.ranges.hour,
+      to_z-of_z at-start.ranges.micros,
       to_z-of_z date-fits.year,
       to_z-of_z date-fits.month,
       to_z-of_z date-fits.day,
@@ -99,15 +99,15 @@ returns-4 c =
 returns-5 : tie.Need-returns-in-Refused
 unfolding checked_moment
 returns-5 c =
-    let at-refusal = c.before in
-    let after-offset-of = at-refusal.before.before in
+    let at-refusal = c in
+    let after-offset-of = at-refusal.before in
     let after-time-test = after-offset-of.before in
     let after-strict-test = after-time-test.before.before in
     simp (
       date (dated after-strict-test.before),
       never after-strict-test.before after-strict-test.if-no_such_day.false,
       time after-time-test.before (passed _ after-time-test.if-not-time_in_range.false),
-      sym after-offset-of.offset_of.ensures ∙ at-refusal.why-1.given.1,
+      sym after-offset-of.offset_of.ensures ∙ at-refusal.in-Refused.is,
     )
 
 pub checked_moment_spec : {M : Type 1} → statement M

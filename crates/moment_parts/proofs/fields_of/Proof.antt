@@ -42,7 +42,7 @@ returns-3 : tie.Need-returns-then-not-are_utf8
 returns-3 c =
     let within-limits = c.before.before in
     sym (bad-text _ _ _ (short within-limits.before.before) (small within-limits)
-    (sym c.before.are_utf8.ensures ∙ not-true _ c.if-not-are_utf8.true))
+    (sym c.are_utf8.ensures ∙ not-true _ c.if-not-are_utf8.true))
 
 -- within their limits a template has at most 256 bytes and an input at most 512
 parse-format-requires : tie.Need-parse_format-end-requires
@@ -52,13 +52,13 @@ parse-format-requires c κs =
 
 -- the slice of the buffer is as long as the bytes of the nodes
 slice-aggregate-fields-within : tie.Need-slice_bounds-fields_within-end
-slice-aggregate-fields-within c = sym (length-take-le _ _ (parsed-room c.before.before.parse_format-end.ensures))
+slice-aggregate-fields-within c = sym (length-take-le _ _ (parsed-room c.parse_format-end.ensures))
 
 fields-within-requires : tie.Need-fields_within-requires
 fields-within-requires c κs =
     let within-limits = c.before.before.before.before.before.before.before in
     let at-start = start within-limits.before.before in
-    (omega (arith, small within-limits, input-most at-start.args.set), at-start.pre)
+    (omega (arith, small within-limits, input-most at-start.args.set), at-start.requires)
 
 -- the input is read by the template's nodes
 returns-4 : tie.Need-returns
@@ -70,7 +70,7 @@ returns-4 c =
     c.fields_within.ensures _
     ∙ ap (λ (ns : List Node). answer_by args.set.strict ns args.t.now args.s.now) (parsed-nodes after-parse.parse_format-end.ensures (small-nodes args.set.accents args.t.now))
     ∙ read_by _ _ _ (short within-limits.before.before) (small within-limits)
-    (sym after-utf8-test.before.are_utf8.ensures ∙ not-false _ after-utf8-test.if-not-are_utf8.false)
+    (sym after-utf8-test.are_utf8.ensures ∙ not-false _ after-utf8-test.if-not-are_utf8.false)
 
 pub fields_of_spec : {M : Type 1} → statement M
 fields_of_spec =

@@ -12,14 +12,14 @@ use Rattle.moment_parts.proofs.moment_of.Statement.{statement}
 use Rattle.moment_parts.proofs.moment_of.Tie as tie
 
 -- the hour, the date and the fraction, as the definition has them
-hour : (c : tie.After-clock_hour) {v : Value} → c.clock_hour.result ≡ v → clock_hour c.before.args.f ≡ v
+hour : (c : tie.After-clock_hour) {v : Value} → c.clock_hour.result ≡ v → clock_hour c.args.f ≡ v
 hour c e = sym c.clock_hour.ensures ∙ e
 
-date : (c : tie.After-dated_of) {v : Dated} → c.dated_of.result ≡ v → dated_of c.before.before.before.before.before.args.f ≡ v
+date : (c : tie.After-dated_of) {v : Dated} → c.dated_of.result ≡ v → dated_of c.args.f ≡ v
 date c e = sym c.dated_of.ensures ∙ e
 
 micros : (c : tie.After-micros_of) {v : Value} → c.micros_of.result ≡ v
-    → micros_of c.before.before.before.before.before.before.before.before.before.args.f ≡ v
+    → micros_of c.args.f ≡ v
 micros c e = sym c.micros_of.ensures ∙ e
 
 -- all three are found: the moment is checked
@@ -27,49 +27,49 @@ returns : tie.Need-returns-in-Is-micros_of
 unfolding moment_of
 returns c =
     let micros-known = c.before in
-    let at-micros = micros-known.before in
-    let after-micros-of = at-micros.before.before in
-    let at-date = after-micros-of.before.before in
-    let after-dated-of = at-date.before.before in
+    let at-micros = micros-known in
+    let after-micros-of = at-micros.before in
+    let at-date = after-micros-of.before in
+    let after-dated-of = at-date.before in
     let hour-known = after-dated-of.before in
-    let at-hour = hour-known.before in
+    let at-hour = hour-known in
     simp (
-      hour at-hour.before.before at-hour.hour-1.given.1,
-      date after-dated-of at-date.r-1.given.1,
-      micros after-micros-of at-micros.micros-1.given.1,
+      hour at-hour.before at-hour.in-Is.is,
+      date after-dated-of at-date.in-Date.is,
+      micros after-micros-of at-micros.in-Is-micros_of.is,
       c.checked_moment.ensures,
-      back at-hour.hour-1.given.0.0 hour-known.known_told-1.given.0.1,
-      back at-micros.micros-1.given.0.0 micros-known.known_told-in-Is-micros_of-1.given.0.1,
+      back at-hour.in-Is.hour hour-known.known_told-1.given.0.1,
+      back at-micros.in-Is-micros_of.micros micros-known.known_told-in-Is-micros_of-1.given.0.1,
     )
 
 -- the fraction is refused
 returns-2 : tie.Need-returns-in-Not-micros_of
 unfolding moment_of
 returns-2 c =
-    let at-refusal = c.before in
-    let after-micros-of = at-refusal.before.before in
-    let at-date = after-micros-of.before.before in
-    let after-dated-of = at-date.before.before in
-    let at-hour = after-dated-of.before.before in
+    let at-refusal = c in
+    let after-micros-of = at-refusal.before in
+    let at-date = after-micros-of.before in
+    let after-dated-of = at-date.before in
+    let at-hour = after-dated-of.before in
     simp (
-      hour at-hour.before.before at-hour.hour-1.given.1,
-      date after-dated-of at-date.r-1.given.1,
-      micros after-micros-of at-refusal.why-1.given.1,
+      hour at-hour.before at-hour.in-Is.is,
+      date after-dated-of at-date.in-Date.is,
+      micros after-micros-of at-refusal.in-Not-micros_of.is,
     )
 
 -- the date is refused
 returns-3 : tie.Need-returns-in-Refused
 unfolding moment_of
 returns-3 c =
-    let at-refusal = c.before in
-    let after-dated-of = at-refusal.before.before in
-    let at-hour = after-dated-of.before.before in
-    simp (hour at-hour.before.before at-hour.hour-1.given.1, date after-dated-of at-refusal.why-in-Refused-1.given.1)
+    let at-refusal = c in
+    let after-dated-of = at-refusal.before in
+    let at-hour = after-dated-of.before in
+    simp (hour at-hour.before at-hour.in-Is.is, date after-dated-of at-refusal.in-Refused.is)
 
 -- the hour is refused
 returns-4 : tie.Need-returns-in-Not
 unfolding moment_of
-returns-4 c = let at-refusal = c.before in simp (hour at-refusal.before.before at-refusal.why-in-Not-clock_hour-1.given.1)
+returns-4 c = let at-refusal = c in simp (hour at-refusal.before at-refusal.in-Not.is)
 
 pub moment_of_spec : {M : Type 1} → statement M
 moment_of_spec =

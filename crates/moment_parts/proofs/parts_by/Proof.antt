@@ -6,7 +6,7 @@ use Rattle.moment_parts.proofs.parts_by.Statement.{statement}
 use Rattle.moment_parts.proofs.parts_by.Tie as tie
 
 returns : tie.Need-returns
-returns c = c.answered.ensures ∙ c.before.fields_by-verdict.ensures
+returns c = c.answered.ensures ∙ c.fields_by-verdict.ensures
 
 pub parts_by_spec : {M : Type 1} → statement M
 parts_by_spec = tie.close (tie.spec (λ c κs. search rules) (λ c κs. search rules) returns)

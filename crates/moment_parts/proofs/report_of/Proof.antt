@@ -7,11 +7,11 @@ use Rattle.moment_parts.proofs.report_of.Tie as tie
 -- a refusal whatever the strict switch, and that of the switch
 by : tie.Need-returns-in-By
 unfolding unread_report
-by c = rw c.before.before.why-1.given.1 c.report_of.ensures
+by c = rw c.in-By.is c.report_of.ensures
 
 no-such-day : tie.Need-returns-in-NoSuchDay
 unfolding unread_report
-no-such-day c = rw c.before.enum_told-1.given.1 c.alone.ensures
+no-such-day c = rw c.in-NoSuchDay.is c.alone.ensures
 
 pub report_of_spec : {M : Type 1} → statement M
 report_of_spec =

@@ -20,47 +20,47 @@ use Rattle.moment_sums.proofs.product.Tie as tie
 factor : (c : tie.Start) → to_z w32 c.args.factor ≡ pos c.args.factor
 factor c = to_z_pos w32 {n = c.args.factor} (omega arith)
 
-positive : (c : tie.Else-factor-eq0) → 0 < c.before.args.factor
+positive : (c : tie.Else-factor-eq0) → 0 < c.args.factor
 positive c = omega (arith, c.if-factor-eq0.false)
 
 -- what a test with a quotient says, without the round trips
 module _ (c : tie.Else-factor-eq0) where
   abbrev k : ℕ
-  k = c.before.args.factor
+  k = c.args.factor
 
   abbrev a : ℤ
-  a = c.before.args.a
+  a = c.args.a
 
   at_most : {b : Bool} → lt_z (read (quot_z (pos 2147483647) (to_z w32 k))) (read a) ≡ b → lt_z (quot_z (pos 2147483647) (pos k)) a ≡ b
-  at_most e = simp (to_z-of_z c.before.ranges.a, factor c.before, to_z-of_z (most-fits k (positive c))) at e
+  at_most e = simp (to_z-of_z c.ranges.a, factor c.before, to_z-of_z (most-fits k (positive c))) at e
 
   at_least : {b : Bool} → lt_z (read a) (read (quot_z (negsuc 2147483647) (to_z w32 k))) ≡ b → lt_z a (quot_z (negsuc 2147483647) (pos k)) ≡ b
-  at_least e = simp (to_z-of_z c.before.ranges.a, factor c.before, to_z-of_z (least_fits k (positive c))) at e
+  at_least e = simp (to_z-of_z c.ranges.a, factor c.before, to_z-of_z (least_fits k (positive c))) at e
 
 -- the factor is 0
 returns : tie.Need-returns-then-factor-eq0
-returns c = rw (c.if-factor-eq0.true, *ℤ-zero c.before.args.a)
+returns c = rw (c.if-factor-eq0.true, *ℤ-zero c.args.a)
 
 -- a is above the larger quotient
 returns-2 : tie.Need-returns-then-a-k
 returns-2 c =
     let not-zero = c.before in
-    let args = not-zero.before.args in
+    let args = not-zero.args in
     rw (too_large args.factor (positive not-zero) args.a (at_most not-zero c.if-a-k.true))
 
 -- a is below the smaller quotient
 returns-3 : tie.Need-returns-then-a-k-2
 returns-3 c =
     let not-zero = c.before.before in
-    let args = not-zero.before.args in
+    let args = not-zero.args in
     rw (too_small args.factor (positive not-zero) args.a (at_least not-zero c.if-a-k-2.true))
 
 -- past both tests the product fits
-fitting : (c : tie.Else-a-k-2) → let args = c.before.before.before.args in SFits w32 (args.a *ℤ pos args.factor)
+fitting : (c : tie.Else-a-k-2) → let args = c.args in SFits w32 (args.a *ℤ pos args.factor)
 fitting c =
     let not-zero = c.before.before in
-    let args = not-zero.before.args in
-    product-fits args.factor (positive not-zero) args.a (at_most not-zero c.before.if-a-k.false) (at_least not-zero c.if-a-k-2.false)
+    let args = not-zero.args in
+    product-fits args.factor (positive not-zero) args.a (at_most not-zero c.if-a-k.false) (at_least not-zero c.if-a-k-2.false)
 
 -- the product
 returns-4 : tie.Need-returns
@@ -74,9 +74,9 @@ product_spec =
     (tie.spec
     returns
     (λ c. search rules)
-    (λ c. (positive c, rw (factor c.before) (most-fits c.before.args.factor (positive c))))
+    (λ c. (positive c, rw (factor c.before) (most-fits c.args.factor (positive c))))
     returns-2
-    (λ c. (positive c.before, rw (factor c.before.before) (least_fits c.before.before.args.factor (positive c.before))))
+    (λ c. (positive c.before, rw (factor c.before.before) (least_fits c.args.factor (positive c.before))))
     returns-3
     (λ c. let at-start = c.before.before.before in rw (to_z-of_z at-start.ranges.a, factor at-start) (fitting c))
     returns-4)

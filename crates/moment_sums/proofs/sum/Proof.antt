@@ -13,47 +13,47 @@ use Rattle.moment_sums.proofs.sum.Tie as tie
 
 -- b is negative: the limit is the smallest number less b
 lower : (c : tie.Then-b-lt0)
-    → let args = c.before.args in
+    → let args = c.args in
     let least = negsuc 2147483647 -ℤ args.b in Limit (lt_z args.a least) least (args.a +ℤ args.b)
 lower c =
-    let args = c.before.args in
-    let args_fit = c.before.ranges in
+    let args = c.args in
+    let args_fit = c.ranges in
     at_least args.a args.b args_fit.a args_fit.b (simp (to_z-of_z args_fit.b) at c.if-b-lt0.true)
 
 -- b is not: the limit is the largest number less b
 upper : (c : tie.Else-b-lt0)
-    → let args = c.before.args in
+    → let args = c.args in
     let most = pos 2147483647 -ℤ args.b in Limit (lt_z most args.a) most (args.a +ℤ args.b)
 upper c =
-    let args = c.before.args in
-    let args_fit = c.before.ranges in
+    let args = c.args in
+    let args_fit = c.ranges in
     at_most args.a args.b args_fit.a args_fit.b (simp (to_z-of_z args_fit.b) at c.if-b-lt0.false)
 
 -- a is below the limit: refused
 returns : tie.Need-returns-then-a-b
 returns c =
-    let args_fit = c.before.before.ranges in
+    let args_fit = c.ranges in
     let limit = lower c.before in
     rw (limit.refused (simp (to_z-of_z args_fit.a, to_z-of_z args_fit.b, to_z-of_z limit.limit-fits) at c.if-a-b.true))
 
 -- a is not: the sum fits
-add-lower : (c : tie.Else-a-b) → SFits w32 (c.before.before.args.a +ℤ c.before.before.args.b)
+add-lower : (c : tie.Else-a-b) → SFits w32 (c.args.a +ℤ c.args.b)
 add-lower c =
-    let args_fit = c.before.before.ranges in
+    let args_fit = c.ranges in
     let limit = lower c.before in
     limit.taken (simp (to_z-of_z args_fit.a, to_z-of_z args_fit.b, to_z-of_z limit.limit-fits) at c.if-a-b.false)
 
 -- a is above the limit: refused
 returns-3 : tie.Need-returns-then-a-b-2
 returns-3 c =
-    let args_fit = c.before.before.ranges in
+    let args_fit = c.ranges in
     let limit = upper c.before in
     rw (limit.refused (simp (to_z-of_z args_fit.a, to_z-of_z args_fit.b, to_z-of_z limit.limit-fits) at c.if-a-b-2.true))
 
 -- a is not: the sum fits
-add-upper : (c : tie.Else-a-b-2) → SFits w32 (c.before.before.args.a +ℤ c.before.before.args.b)
+add-upper : (c : tie.Else-a-b-2) → SFits w32 (c.args.a +ℤ c.args.b)
 add-upper c =
-    let args_fit = c.before.before.ranges in
+    let args_fit = c.ranges in
     let limit = upper c.before in
     limit.taken (simp (to_z-of_z args_fit.a, to_z-of_z args_fit.b, to_z-of_z limit.limit-fits) at c.if-a-b-2.false)
 
@@ -61,11 +61,11 @@ pub sum_spec : {M : Type 1} → statement M
 sum_spec =
     tie.close
     (tie.spec
-    (λ c. rw (to_z-of_z c.before.ranges.b) (lower c).limit-fits)
+    (λ c. rw (to_z-of_z c.ranges.b) (lower c).limit-fits)
     returns
-    (λ c. let args_fit = c.before.before.ranges in rw (to_z-of_z args_fit.a, to_z-of_z args_fit.b) (add-lower c))
-    (λ c. let args_fit = c.before.before.ranges in rw (to_z-of_z args_fit.a, to_z-of_z args_fit.b, to_z-of_z (add-lower c), fits (add-lower c)))
-    (λ c. rw (to_z-of_z c.before.ranges.b) (upper c).limit-fits)
+    (λ c. let args_fit = c.ranges in rw (to_z-of_z args_fit.a, to_z-of_z args_fit.b) (add-lower c))
+    (λ c. let args_fit = c.ranges in rw (to_z-of_z args_fit.a, to_z-of_z args_fit.b, to_z-of_z (add-lower c), fits (add-lower c)))
+    (λ c. rw (to_z-of_z c.ranges.b) (upper c).limit-fits)
     returns-3
-    (λ c. let args_fit = c.before.before.ranges in rw (to_z-of_z args_fit.a, to_z-of_z args_fit.b) (add-upper c))
-    (λ c. let args_fit = c.before.before.ranges in rw (to_z-of_z args_fit.a, to_z-of_z args_fit.b, to_z-of_z (add-upper c), fits (add-upper c))))
+    (λ c. let args_fit = c.ranges in rw (to_z-of_z args_fit.a, to_z-of_z args_fit.b) (add-upper c))
+    (λ c. let args_fit = c.ranges in rw (to_z-of_z args_fit.a, to_z-of_z args_fit.b, to_z-of_z (add-upper c), fits (add-upper c))))

@@ -7,19 +7,19 @@ use Rattle.moment_time.proofs.below.Tie as tie
 
 -- the number is negative
 returns : tie.Need-returns-then-value-lt0
-returns c = let fits = c.before.ranges.value in rw (simp (to_z-of_z fits) at c.if-value-lt0.true)
+returns c = let fits = c.ranges.value in rw (simp (to_z-of_z fits) at c.if-value-lt0.true)
 
 -- it is not, so it can be cast
 cast-result : tie.Need-overflow_cast-result
 cast-result c =
-    let fits = c.before.ranges.value in
-    simp (to_z-of_z fits) ((unsigned c.before.args.value 0 (simp (to_z-of_z fits) at c.if-value-lt0.false)).0, Fits-nat_abs tt fits)
+    let fits = c.ranges.value in
+    simp (to_z-of_z fits) ((unsigned c.args.value 0 (simp (to_z-of_z fits) at c.if-value-lt0.false)).0, Fits-nat_abs tt fits)
 
 -- the comparison with the limit
 returns-2 : tie.Need-returns
 returns-2 c =
-    let args = c.before.args in
-    let fits = c.before.ranges.value in
+    let args = c.args in
+    let fits = c.ranges.value in
     simp (to_z-of_z fits) (unsigned args.value args.limit (simp (to_z-of_z fits) at c.if-value-lt0.false)).1
 
 pub below_spec : {M : Type 1} → statement M

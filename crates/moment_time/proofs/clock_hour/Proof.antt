@@ -11,7 +11,7 @@ use Rattle.moment_time.proofs.clock_hour.Statement.{statement}
 use Rattle.moment_time.proofs.clock_hour.Tie as tie
 
 has : (c : tie.Start) → Known c.args.t1
-has c = known c.args.t1 _ c.well-formed.0
+has c = known c.args.t1 _ c.well_formed.0
 
 -- the 12-hour clock
 returns : tie.Need-returns-then-clock-eq12
@@ -23,7 +23,7 @@ returns c =
     simp (
       c.hour_of_twelve.ensures,
       fields.back,
-      returned after-hour.hour_of-hour.type-inv after-hour.hour_of-hour.ensures,
+      returned after-hour.hour_of-hour.type_inv after-hour.hour_of-hour.ensures,
       equal (lit< tt) (fields.fits clock) on-twelve.if-clock-eq12.true,
     )
 
@@ -33,7 +33,7 @@ unfolding clock_hour
 returns-2 c =
     let after-hour = c.before in
     let fields = has after-hour.before.before in
-    simp (returned after-hour.hour_of-hour.type-inv after-hour.hour_of-hour.ensures, unequal (fields.fits clock) c.if-clock-eq12.false)
+    simp (returned after-hour.hour_of-hour.type_inv after-hour.hour_of-hour.ensures, unequal (fields.fits clock) c.if-clock-eq12.false)
 
 pub clock_hour_spec : {M : Type 1} → statement M
 clock_hour_spec =

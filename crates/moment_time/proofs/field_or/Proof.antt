@@ -7,13 +7,13 @@ use Rattle.moment_time.proofs.field_or.Tie as tie
 -- the field is absent
 returns : tie.Need-returns-then-value-eq0
 returns c =
-    let fits = c.before.ranges in
+    let fits = c.ranges in
     rw (to_z-of_z fits.other, absent fits.value c.if-value-eq0.true)
 
 -- it is set
 returns-2 : tie.Need-returns
 returns-2 c =
-    let fits = c.before.ranges in
+    let fits = c.ranges in
     rw (to_z-of_z fits.value, present fits.value c.if-value-eq0.false)
 
 pub field_or_spec : {M : Type 1} → statement M

@@ -16,41 +16,41 @@ use Rattle.moment_time.proofs.hour_of_twelve.Statement.{statement}
 use Rattle.moment_time.proofs.hour_of_twelve.Tie as tie
 
 -- an hour that passed the first two tests is from 1 to 12
-low : (c : tie.Else-hour-gt12) → lt_z c.before.before.args.hour (pos 1) ≡ false
-low c = simp (to_z-of_z c.before.before.ranges.hour) at c.before.if-hour-lt1.false
+low : (c : tie.Else-hour-gt12) → lt_z c.args.hour (pos 1) ≡ false
+low c = simp (to_z-of_z c.ranges.hour) at c.if-hour-lt1.false
 
-high : (c : tie.Else-hour-gt12) → lt_z (pos 12) c.before.before.args.hour ≡ false
-high c = simp (to_z-of_z c.before.before.ranges.hour) at c.if-hour-gt12.false
+high : (c : tie.Else-hour-gt12) → lt_z (pos 12) c.args.hour ≡ false
+high c = simp (to_z-of_z c.ranges.hour) at c.if-hour-gt12.false
 
-pm-fits : (c : tie.Else-hour-gt12) → let hour = c.before.before.args.hour in SFits w32 (hour +ℤ pos 12)
-pm-fits c = let in-range = within c.before.before.args.hour (low c) (high c) in rw in-range.is (omega arith)
+pm-fits : (c : tie.Else-hour-gt12) → let hour = c.args.hour in SFits w32 (hour +ℤ pos 12)
+pm-fits c = let in-range = within c.args.hour (low c) (high c) in rw in-range.is (omega arith)
 
 -- below 1
 returns : tie.Need-returns-then-hour-lt1
 unfolding hour_of_twelve
 returns c =
-    let hour-back = to_z-of_z c.before.ranges.hour in
+    let hour-back = to_z-of_z c.ranges.hour in
     simp (hour-back, simp hour-back at c.if-hour-lt1.true)
 
 -- above 12
 returns-2 : tie.Need-returns-then-hour-gt12
 unfolding hour_of_twelve
 returns-2 c =
-    let hour-back = to_z-of_z c.before.before.ranges.hour in
-    simp (hour-back, simp hour-back at c.before.if-hour-lt1.false, simp hour-back at c.if-hour-gt12.true)
+    let hour-back = to_z-of_z c.ranges.hour in
+    simp (hour-back, simp hour-back at c.if-hour-lt1.false, simp hour-back at c.if-hour-gt12.true)
 
 -- 1 to 11 PM
 returns-3 : tie.Need-returns-then-hour-lt12
 unfolding hour_of_twelve
 returns-3 c =
     let in-clock = c.before.before in
-    let fits = in-clock.before.before.ranges in
+    let fits = in-clock.ranges in
     let hour-back = to_z-of_z fits.hour in
     simp (
       hour-back,
       low in-clock,
       high in-clock,
-      present fits.pm c.before.if-pm-ne0.true,
+      present fits.pm c.if-pm-ne0.true,
       simp hour-back at c.if-hour-lt12.true,
       to_z-of_z (pm-fits in-clock),
     )
@@ -60,13 +60,13 @@ returns-4 : tie.Need-returns-then-pm-ne0
 unfolding hour_of_twelve
 returns-4 c =
     let in-clock = c.before.before in
-    let fits = in-clock.before.before.ranges in
+    let fits = in-clock.ranges in
     let hour-back = to_z-of_z fits.hour in
     simp (
       hour-back,
       low in-clock,
       high in-clock,
-      present fits.pm c.before.if-pm-ne0.true,
+      present fits.pm c.if-pm-ne0.true,
       simp hour-back at c.if-hour-lt12.false,
     )
 
@@ -75,11 +75,11 @@ returns-5 : tie.Need-returns-then-hour-eq12
 unfolding hour_of_twelve
 returns-5 c =
     let in-clock = c.before.before in
-    let fits = in-clock.before.before.ranges in
+    let fits = in-clock.ranges in
     simp (
       low in-clock,
       high in-clock,
-      absent fits.pm c.before.if-pm-ne0.false,
+      absent fits.pm c.if-pm-ne0.false,
       equal (lit< tt) fits.hour c.if-hour-eq12.true,
     )
 
@@ -88,12 +88,12 @@ returns-6 : tie.Need-returns
 unfolding hour_of_twelve
 returns-6 c =
     let in-clock = c.before.before in
-    let fits = in-clock.before.before.ranges in
+    let fits = in-clock.ranges in
     simp (
       to_z-of_z fits.hour,
       low in-clock,
       high in-clock,
-      absent fits.pm c.before.if-pm-ne0.false,
+      absent fits.pm c.if-pm-ne0.false,
       unequal fits.hour c.if-hour-eq12.false,
     )
 
@@ -103,7 +103,7 @@ hour_of_twelve_spec =
     (tie.spec
     returns
     returns-2
-    (λ c. let in-clock = c.before.before in rw (to_z-of_z in-clock.before.before.ranges.hour) (pm-fits in-clock))
+    (λ c. let in-clock = c.before.before in rw (to_z-of_z in-clock.ranges.hour) (pm-fits in-clock))
     returns-3
     returns-4
     returns-5

@@ -14,31 +14,31 @@ use Rattle.moment_time.proofs.micros_of.Statement.{statement}
 use Rattle.moment_time.proofs.micros_of.Tie as tie
 
 -- the milliseconds times 1000, as the match found them
-product : (c : tie.After-checked_mul) {v : Value} → c.checked_mul.result ≡ v → Is (get c.before.before.before.args.t1 ms) times 1000 ≡ v
+product : (c : tie.After-checked_mul) {v : Value} → c.checked_mul.result ≡ v → Is (get c.args.t1 ms) times 1000 ≡ v
 product c e =
     let at-start = c.before.before.before in
-    sym (simp (known at-start.args.t1 _ at-start.well-formed.0).back at c.checked_mul.ensures) ∙ e
+    sym (simp (known at-start.args.t1 _ at-start.well_formed.0).back at c.checked_mul.ensures) ∙ e
 
 -- the product fits
 returns : tie.Need-returns-in-Is
 unfolding micros_of
 returns c =
     let at-whole = c.before in
-    let matched = at-whole.before in
-    let after-mul = matched.before.before in
+    let matched = at-whole in
+    let after-mul = matched.before in
     let at-start = after-mul.before.before.before in
-    rw (product after-mul matched.whole-1.given.1)
+    rw (product after-mul matched.in-Is.is)
     (simp (
       c.wrapping_add.ensures,
       wrap-back,
-      back matched.whole-1.given.0.0 at-whole.known_told-1.given.0.1,
-      (known at-start.args.t1 _ at-start.well-formed.0).back,
+      back matched.in-Is.whole at-whole.known_told-1.given.0.1,
+      (known at-start.args.t1 _ at-start.well_formed.0).back,
     ))
 
 -- it was refused
 returns-2 : tie.Need-returns-in-Not
 unfolding micros_of
-returns-2 c = let matched = c.before in rw (product matched.before.before matched.why-1.given.1)
+returns-2 c = let matched = c in rw (product matched.before matched.in-Not.is)
 
 pub micros_of_spec : {M : Type 1} → statement M
 micros_of_spec =

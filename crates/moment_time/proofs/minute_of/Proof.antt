@@ -8,13 +8,13 @@ use Rattle.moment_time.proofs.minute_of.Statement.{statement}
 use Rattle.moment_time.proofs.minute_of.Tie as tie
 
 has : (c : tie.Start) → Known c.args.t1
-has c = known c.args.t1 _ c.well-formed.0
+has c = known c.args.t1 _ c.well_formed.0
 
 returns : tie.Need-returns
 unfolding minute_of
 returns c =
     let fields = has c.before.before.before in
-    simp (returned c.field_or.type-inv c.field_or.ensures, fields.back, in-hour-back fields, minutes-back fields)
+    simp (returned c.field_or.type_inv c.field_or.ensures, fields.back, in-hour-back fields, minutes-back fields)
 
 pub minute_of_spec : {M : Type 1} → statement M
 minute_of_spec =

@@ -9,15 +9,15 @@ use Rattle.moment_time.proofs.offset_in_range.Tie as tie
 -- the hours are out of range
 returns : tie.Need-returns-then-not-below
 returns c =
-    let fits = c.before.before.ranges in
-    rw (simp (to_z-of_z fits.hours) at (sym c.before.below.ensures ∙ failed _ c.if-not-below.true))
+    let fits = c.ranges in
+    rw (simp (to_z-of_z fits.hours) at (sym c.below.ensures ∙ failed _ c.if-not-below.true))
 
 -- they are not: the test of the minutes
 returns-2 : tie.Need-returns
 returns-2 c =
     let after-hours = c.before.before in
-    let fits = after-hours.before.ranges in
-    rw (simp (to_z-of_z fits.hours) at (sym after-hours.below.ensures ∙ passed _ c.before.if-not-below.false))
+    let fits = after-hours.ranges in
+    rw (simp (to_z-of_z fits.hours) at (sym after-hours.below.ensures ∙ passed _ c.if-not-below.false))
     (simp (to_z-of_z fits.minutes) at c.below-2.ensures)
 
 pub offset_in_range_spec : {M : Type 1} → statement M

@@ -19,7 +19,7 @@ use Rattle.moment_time.proofs.offset_of.Statement.{statement}
 use Rattle.moment_time.proofs.offset_of.Tie as tie
 
 has : (c : tie.Start) → Known c.args.t1
-has c = known c.args.t1 _ c.well-formed.0
+has c = known c.args.t1 _ c.well_formed.0
 
 -- past the test of hours and minutes
 abbrev start : tie.Else-not-offset_in_range → tie.Start
@@ -32,7 +32,7 @@ field c k = get (start c).args.t1 k
 tests : (c : tie.Else-not-offset_in_range) → (below (field c tzh) 16 ≡ true) × (below (field c tzm) 60 ≡ true)
 tests c =
     both (below (field c tzh) 16) (below (field c tzm) 60)
-    (simp (has (start c)).back at (sym c.before.offset_in_range.ensures ∙ passed _ c.if-not-offset_in_range.false))
+    (simp (has (start c)).back at (sym c.offset_in_range.ensures ∙ passed _ c.if-not-offset_in_range.false))
 
 -- the hours are 0 to 15, the minutes 0 to 59, and a sign was read
 hours : (c : tie.Else-not-offset_in_range) → Within 0 15 (field c tzh)
@@ -42,7 +42,7 @@ minutes : (c : tie.Else-not-offset_in_range) → Within 0 59 (field c tzm)
 minutes c = from_zero (field c tzm) (tests c).1
 
 sign_set : (c : tie.Else-not-offset_in_range) → is_zero (field c tzsign) ≡ false
-sign_set c = present ((has (start c)).fits tzsign) c.before.before.before.before.if-sign-eq0.false
+sign_set c = present ((has (start c)).fits tzsign) c.if-sign-eq0.false
 
 -- no offset was read
 returns : tie.Need-returns-then-sign-eq0
@@ -57,7 +57,7 @@ returns-2 c =
     let fields = has after-sign.before.before in
     simp (
       present (fields.fits tzsign) after-sign.if-sign-eq0.false,
-      simp fields.back at (sym c.before.offset_in_range.ensures ∙ failed _ c.if-not-offset_in_range.true),
+      simp fields.back at (sym c.offset_in_range.ensures ∙ failed _ c.if-not-offset_in_range.true),
     )
 
 -- the sums and products that fit read back as they are

@@ -10,31 +10,31 @@ use Rattle.moment_time.proofs.time_in_range.Statement.{statement}
 use Rattle.moment_time.proofs.time_in_range.Tie as tie
 
 -- the tests that passed
-hour : (c : tie.Else-not-below) → below c.before.before.args.hour 24 ≡ true
-hour c = simp (to_z-of_z c.before.before.ranges.hour) at (sym c.before.below.ensures ∙ passed _ c.if-not-below.false)
+hour : (c : tie.Else-not-below) → below c.args.hour 24 ≡ true
+hour c = simp (to_z-of_z c.ranges.hour) at (sym c.below.ensures ∙ passed _ c.if-not-below.false)
 
-minute : (c : tie.Else-not-below-2) → below c.before.before.before.before.args.minute 60 ≡ true
+minute : (c : tie.Else-not-below-2) → below c.args.minute 60 ≡ true
 minute c =
-    let fits = c.before.before.before.before.ranges in
-    simp (to_z-of_z fits.minute) at (sym c.before.below-2.ensures ∙ passed _ c.if-not-below-2.false)
+    let fits = c.ranges in
+    simp (to_z-of_z fits.minute) at (sym c.below-2.ensures ∙ passed _ c.if-not-below-2.false)
 
-second : (c : tie.Else-not-below-3) → below c.before.before.before.before.before.before.args.second 60 ≡ true
+second : (c : tie.Else-not-below-3) → below c.args.second 60 ≡ true
 second c =
-    let fits = c.before.before.before.before.before.before.ranges in
-    simp (to_z-of_z fits.second) at (sym c.before.below-3.ensures ∙ passed _ c.if-not-below-3.false)
+    let fits = c.ranges in
+    simp (to_z-of_z fits.second) at (sym c.below-3.ensures ∙ passed _ c.if-not-below-3.false)
 
 -- the hour is out of range
 returns : tie.Need-returns-then-not-below
 unfolding time_in_range
-returns c = rw (simp (to_z-of_z c.before.before.ranges.hour) at (sym c.before.below.ensures ∙ failed _ c.if-not-below.true))
+returns c = rw (simp (to_z-of_z c.ranges.hour) at (sym c.below.ensures ∙ failed _ c.if-not-below.true))
 
 -- the minute is
 returns-2 : tie.Need-returns-then-not-below-2
 unfolding time_in_range
 returns-2 c =
     let after-hour = c.before.before in
-    let fits = after-hour.before.before.ranges in
-    rw (hour after-hour, simp (to_z-of_z fits.minute) at (sym c.before.below-2.ensures ∙ failed _ c.if-not-below-2.true))
+    let fits = after-hour.ranges in
+    rw (hour after-hour, simp (to_z-of_z fits.minute) at (sym c.below-2.ensures ∙ failed _ c.if-not-below-2.true))
 
 -- the second is
 returns-3 : tie.Need-returns-then-not-below-3
@@ -42,11 +42,11 @@ unfolding time_in_range
 returns-3 c =
     let after-minute = c.before.before in
     let after-hour = after-minute.before.before in
-    let fits = after-hour.before.before.ranges in
+    let fits = after-hour.ranges in
     rw (
       hour after-hour,
       minute after-minute,
-      simp (to_z-of_z fits.second) at (sym c.before.below-3.ensures ∙ failed _ c.if-not-below-3.true),
+      simp (to_z-of_z fits.second) at (sym c.below-3.ensures ∙ failed _ c.if-not-below-3.true),
     )
 
 -- the test of the fraction
@@ -56,7 +56,7 @@ returns-4 c =
     let after-second = c.before in
     let after-minute = after-second.before.before in
     let after-hour = after-minute.before.before in
-    let fits = after-hour.before.before.ranges in
+    let fits = after-hour.ranges in
     rw (hour after-hour, minute after-minute, second after-second) (simp (to_z-of_z fits.micros) at c.below-4.ensures)
 
 pub time_in_range_spec : {M : Type 1} → statement M

@@ -13,7 +13,7 @@ unfolding first_of_century
 returns c =
     let after-mul = c.before in
     let before-christ = after-mul.before in
-    let century-back = to_z-of_z before-christ.before.ranges.century in
+    let century-back = to_z-of_z before-christ.ranges.century in
     simp (
       simp century-back at before-christ.if-century-lt0.true,
       c.checked_add.ensures,
@@ -28,7 +28,7 @@ returns-2 c =
     let after-mul = c.before in
     let after-sub = after-mul.before in
     let after-christ = after-sub.before in
-    let century-back = to_z-of_z after-christ.before.ranges.century in
+    let century-back = to_z-of_z after-christ.ranges.century in
     simp (
       simp century-back at after-christ.if-century-lt0.false,
       c.checked_add-2.ensures,

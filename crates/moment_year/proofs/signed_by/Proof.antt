@@ -9,14 +9,14 @@ use Rattle.moment_year.proofs.signed_by.Tie as tie
 -- BC was not read
 returns : tie.Need-returns-then-bc-eq0
 returns c =
-    let fits = c.before.ranges in
+    let fits = c.ranges in
     simp (absent fits.bc c.if-bc-eq0.true, to_z-of_z fits.value)
 
 -- it was
 returns-2 : tie.Need-returns
 returns-2 c =
-    let fits = c.before.before.ranges in
-    simp (present fits.bc c.before.if-bc-eq0.false, c.wrapping_sub.ensures, wrap-back, to_z-of_z fits.value)
+    let fits = c.ranges in
+    simp (present fits.bc c.if-bc-eq0.false, c.wrapping_sub.ensures, wrap-back, to_z-of_z fits.value)
 
 pub signed_by_spec : {M : Type 1} → statement M
 signed_by_spec = tie.close (tie.spec returns (λ c κs. search rules) returns-2)

@@ -22,11 +22,11 @@ digits : (c : tie.Start) → SFits w32 (rem_z c.args.year (pos 100))
 digits c = rem-fits c.args.year 100 c.ranges.year
 
 -- what the first test says of the last two digits
-none : (c : tie.Then-y-eq0) → is_zero (rem_z c.before.args.year (pos 100)) ≡ true
-none c = absent (digits c.before) (simp (to_z-of_z c.before.ranges.year) at c.if-y-eq0.true)
+none : (c : tie.Then-y-eq0) → is_zero (rem_z c.args.year (pos 100)) ≡ true
+none c = absent (digits c.before) (simp (to_z-of_z c.ranges.year) at c.if-y-eq0.true)
 
-some : (c : tie.Else-y-eq0) → is_zero (rem_z c.before.args.year (pos 100)) ≡ false
-some c = present (digits c.before) (simp (to_z-of_z c.before.ranges.year) at c.if-y-eq0.false)
+some : (c : tie.Else-y-eq0) → is_zero (rem_z c.args.year (pos 100)) ≡ false
+some c = present (digits c.before) (simp (to_z-of_z c.ranges.year) at c.if-y-eq0.false)
 
 -- the last two digits are 00, before Christ
 returns : tie.Need-returns-then-century-lt0
@@ -35,7 +35,7 @@ returns c =
     let after-mul = c.before in
     let before-christ = after-mul.before in
     let no-digits = before-christ.before in
-    let century-back = to_z-of_z no-digits.before.ranges.century in
+    let century-back = to_z-of_z no-digits.ranges.century in
     simp (
       none no-digits,
       simp century-back at before-christ.if-century-lt0.true,
@@ -51,7 +51,7 @@ unfolding year_in_century
 returns-2 c =
     let after-christ = c.before in
     let no-digits = after-christ.before in
-    let century-back = to_z-of_z no-digits.before.ranges.century in
+    let century-back = to_z-of_z no-digits.ranges.century in
     simp (
       none no-digits,
       simp century-back at after-christ.if-century-lt0.false,

@@ -8,15 +8,15 @@ use Rattle.moment_sums.proofs.Tests.{absent, present}
 use Rattle.moment_year.proofs.year_of.Statement.{statement}
 use Rattle.moment_year.proofs.year_of.Tie as tie
 
-has : (c : tie.After-bc-1) → Known c.before.before.before.args.t1
-has c = let at-start = c.before.before.before in known at-start.args.t1 _ at-start.well-formed.0
+has : (c : tie.After-bc-1) → Known c.args.t1
+has c = let at-start = c.before.before.before in known at-start.args.t1 _ at-start.well_formed.0
 
 -- neither year nor century
 returns : tie.Need-returns-then-cc-eq0
 unfolding year_of
 returns c =
     let fields = has c.before.before in
-    simp (absent (fields.fits year) c.before.if-year-eq0.true, absent (fields.fits cc) c.if-cc-eq0.true)
+    simp (absent (fields.fits year) c.if-year-eq0.true, absent (fields.fits cc) c.if-cc-eq0.true)
 
 -- a century alone
 returns-2 : tie.Need-returns-then-year-eq0
@@ -26,10 +26,10 @@ returns-2 c =
     let at-century = after-sign.before in
     let fields = has at-century.before.before in
     simp (
-      absent (fields.fits year) at-century.before.if-year-eq0.true,
+      absent (fields.fits year) at-century.if-year-eq0.true,
       present (fields.fits cc) at-century.if-cc-eq0.false,
       c.first_of_century.ensures,
-      returned after-sign.Signed-by.type-inv after-sign.Signed-by.ensures,
+      returned after-sign.signed_by.type_inv after-sign.signed_by.ensures,
       fields.back,
     )
 
@@ -41,10 +41,10 @@ returns-3 c =
     let at-century = after-sign.before in
     let fields = has at-century.before.before in
     simp (
-      present (fields.fits year) at-century.before.if-year-eq0.false,
+      present (fields.fits year) at-century.if-year-eq0.false,
       absent (fields.fits cc) at-century.if-cc-eq0-2.true,
-      returned c.plain_year.type-inv c.plain_year.ensures,
-      returned after-sign.signed_by-then-cc-eq0-2.type-inv after-sign.signed_by-then-cc-eq0-2.ensures,
+      returned c.plain_year.type_inv c.plain_year.ensures,
+      returned after-sign.signed_by-then-cc-eq0-2.type_inv after-sign.signed_by-then-cc-eq0-2.ensures,
       fields.back,
     )
 
@@ -57,11 +57,11 @@ returns-4 c =
     let at-century = at-digits.before.before in
     let fields = has at-century.before.before in
     simp (
-      present (fields.fits year) at-century.before.if-year-eq0.false,
+      present (fields.fits year) at-century.if-year-eq0.false,
       present (fields.fits cc) at-century.if-cc-eq0-2.false,
       simp fields.back at at-digits.if-f-lt3.true,
       c.year_in_century.ensures,
-      returned after-sign.signed_by-then-f-lt3.type-inv after-sign.signed_by-then-f-lt3.ensures,
+      returned after-sign.signed_by-then-f-lt3.type_inv after-sign.signed_by-then-f-lt3.ensures,
       fields.back,
     )
 
@@ -74,11 +74,11 @@ returns-5 c =
     let at-century = at-digits.before.before in
     let fields = has at-century.before.before in
     simp (
-      present (fields.fits year) at-century.before.if-year-eq0.false,
+      present (fields.fits year) at-century.if-year-eq0.false,
       present (fields.fits cc) at-century.if-cc-eq0-2.false,
       simp fields.back at at-digits.if-f-lt3.false,
-      returned c.plain_year-2.type-inv c.plain_year-2.ensures,
-      returned after-sign.signed_by-2.type-inv after-sign.signed_by-2.ensures,
+      returned c.plain_year-2.type_inv c.plain_year-2.ensures,
+      returned after-sign.signed_by-2.type_inv after-sign.signed_by-2.ensures,
       fields.back,
     )
 

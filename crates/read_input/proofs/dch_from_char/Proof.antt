@@ -24,11 +24,11 @@ abbrev decreases-loop : tie.decreases-loop-i
 decreases-loop c t s f₀ p₀ i₀ f p i = length c / 6 - i
 
 loop-holds : tie.Need-loop-i-init invariant-loop decreases-loop
-loop-holds c = rw c.before.before.before.requires.1 (begun _ _ _)
+loop-holds c = rw c.requires.1 (begun _ _ _)
 
 lane-requires : tie.Need-lane-passed-requires invariant-loop decreases-loop
 lane-requires c κs =
-    let inv = c.before.before.loop-i.invariant in
+    let inv = c.loop-i.invariant in
     (inv.within, inv.none, inv.payable, search rules)
 
 -- after the lane
@@ -48,8 +48,8 @@ module _ (c : tie.After-lane-passed invariant-loop decreases-loop) where
   -- the invariant holds there too
   after-lane
       : Turned start.args.t.now start.args.s.now nodes (read_all start.args.t.now start.args.s.now nodes) next
-      (fields_of c.lane-passed.new.1.1.1.0) c.lane-passed.result.place-1
-  after-lane = then-on _ _ _ _ _ _ _ at-loop.loop-i.inv c.lane-passed.ensures.turned
+      (fields_of c.lane-passed.new.1.1.1.0) c.lane-passed.result.place
+  after-lane = then-on _ _ _ _ _ _ _ at-loop.loop.inv c.lane-passed.ensures.turned
 
   node-count : length nodes ≡ length start.args.c.now / 6
   node-count = nodes-length start.args.c.now
@@ -60,25 +60,25 @@ module _ (c : tie.After-node_at-n invariant-loop decreases-loop) where
   at-lane = c.before.before.before.before.before
 
   one_left : next at-lane < length (nodes at-lane)
-  one_left = omega (arith, node-count at-lane, c.before.before.before.if-c-next.false)
+  one_left = omega (arith, node-count at-lane, c.if-c-next.false)
 
-  input-left : at-lane.lane-passed.result.place-1.at < length (start at-lane).args.s.now
-  input-left = omega (arith, c.before.if-s-place.false)
+  input-left : at-lane.lane.result.place.at < length (start at-lane).args.s.now
+  input-left = omega (arith, c.if-s-place.false)
 
-  pattern : c.Node-at.result.kind ≡ 1
-  pattern = ap (λ (n : Node). n.kind) c.Node-at.ensures ∙ at-lane.lane-passed.ensures.stops one_left input-left
+  pattern : c.node_at-n.result.kind ≡ 1
+  pattern = ap (λ (n : Node). n.kind) c.node_at-n.ensures ∙ at-lane.lane.ensures.stops one_left input-left
 
 -- the template ended in the lane
 returns : tie.Need-returns-then-c-next invariant-loop decreases-loop
 returns c =
     let passed = c.before.before.before in
-    verdict-read (rw c.read.ensures (template-ends _ _ _ _ _ _ _ (after-lane passed) (omega (arith, c.before.if-c-next.true, node-count passed))))
+    verdict-read (rw c.read.ensures (template-ends _ _ _ _ _ _ _ (after-lane passed) (omega (arith, c.if-c-next.true, node-count passed))))
 
 -- the input ended
 returns-2 : tie.Need-returns-then-s-place invariant-loop decreases-loop
 returns-2 c =
     let passed = c.before.before.before.before.before in
-    verdict-read (rw c.read-then-s-place.ensures (input-ends _ _ _ _ _ _ _ (after-lane passed) c.before.if-s-place.true))
+    verdict-read (rw c.read-then-s-place.ensures (input-ends _ _ _ _ _ _ _ (after-lane passed) c.if-s-place.true))
 
 pattern-read-requires : tie.Need-pattern_read-r-requires invariant-loop decreases-loop
 pattern-read-requires c κs =
@@ -88,38 +88,38 @@ pattern-read-requires c κs =
 -- a pattern was refused
 returns-3 : tie.Need-returns-in-Refused invariant-loop decreases-loop
 returns-3 c =
-    let after-pattern = c.before.before in
+    let after-pattern = c.before in
     let at-node = after-pattern.before.before.before in
     let went = after-pattern.pattern_read-r.ensures in
     whole-went went
-    (stops _ _ _ _ _ _ _ (after-lane (at-lane at-node)) (one_left at-node) (input-left at-node) _ _ at-node.Node-at.ensures
-    after-pattern.before.before.node_at-node_after.ensures (pattern at-node)
-    _ refl _ (sym went.verdict ∙ c.enum_told-1.given.1))
+    (stops _ _ _ _ _ _ _ (after-lane (at-lane at-node)) (one_left at-node) (input-left at-node) _ _ at-node.node_at-n.ensures
+    after-pattern.node_at-node_after.ensures (pattern at-node)
+    _ refl _ (sym went.verdict ∙ c.in-Refused.is))
 
 loop-less : tie.Need-loop-i-smaller invariant-loop decreases-loop
 loop-less c =
-    let at-node = c.before.before.before.before.before.before in
+    let at-node = c.before.before.before.before.before in
     let passed = at-lane at-node in
-    omega (arith, one_left at-node, node-count passed, passed.lane-passed.ensures.on)
+    omega (arith, one_left at-node, node-count passed, passed.lane.ensures.on)
 
 -- a pattern was read: on to the nodes after it
 loop-again : tie.Need-loop-i-preserved invariant-loop decreases-loop
 loop-again c =
-    let after-pattern = c.before.before.before in
+    let after-pattern = c.before.before in
     let at-node = after-pattern.before.before.before in
-    let was_read = c.before.enum_told-in_default-1.given.1 in
-    goes_on _ _ _ _ _ _ _ (after-lane (at-lane at-node)) (one_left at-node) (input-left at-node) _ _ at-node.Node-at.ensures
-    after-pattern.before.before.node_at-node_after.ensures (pattern at-node)
+    let was_read = c.in_default.is in
+    goes_on _ _ _ _ _ _ _ (after-lane (at-lane at-node)) (one_left at-node) (input-left at-node) _ _ at-node.node_at-n.ensures
+    after-pattern.node_at-node_after.ensures (pattern at-node)
     _ (read_is after-pattern.pattern_read-r.ensures was_read) was_read
 
 -- the template ended with a pattern, or has no nodes
 returns-4 : tie.Need-returns invariant-loop decreases-loop
 returns-4 c =
     let loop-end = c.before.before in
-    let args = loop-end.before.before.before.before.args in
+    let args = loop-end.args in
     verdict-read
     (rw c.read-2.ensures
-    (template-ends _ _ _ _ _ _ _ loop-end.loop-i.invariant (omega (arith, c.before.loop-i-test.false, nodes-length args.c.now))))
+    (template-ends _ _ _ _ _ _ _ loop-end.loop-i.invariant (omega (arith, c.loop-i-test.false, nodes-length args.c.now))))
 
 pub dch_from_char_spec : {M : Type 1} → statement M
 dch_from_char_spec =

@@ -22,10 +22,10 @@ returns c = rw (eq-eqb _ _ c.if-r-start.true)
 -- strtol says that the number is too large
 returns-2 : tie.Need-returns-then-r
 unfolding checked
-returns-2 c = rw (ne_eqb _ _ c.before.if-r-start.false, c.if-r.true)
+returns-2 c = rw (ne_eqb _ _ c.if-r-start.false, c.if-r.true)
 
 -- the value has 64 bits, so that its bits give it back
-value-fits : (c : tie.After-struct_told-1) → SFits w64 c.before.before.before.before.args.r.value
+value-fits : (c : tie.After-struct_told-1) → SFits w64 c.args.r.value
 value-fits c = search rules
 
 -- below 32 bits
@@ -34,8 +34,8 @@ unfolding checked
 returns-3 c =
     let at_value = c.before in
     rw (
-      ne_eqb _ _ at_value.before.before.if-r-start.false,
-      at_value.before.if-r.false,
+      ne_eqb _ _ at_value.if-r-start.false,
+      at_value.if-r.false,
       too-low _ (simp (to_z-of_z (value-fits at_value)) at c.if-value-ltminus2147483648.true),
     )
 
@@ -45,8 +45,8 @@ unfolding checked
 returns-4 c =
     let at_value = c.before.before in
     rw (
-      ne_eqb _ _ at_value.before.before.if-r-start.false,
-      at_value.before.if-r.false,
+      ne_eqb _ _ at_value.if-r-start.false,
+      at_value.if-r.false,
       too-high _ (simp (to_z-of_z (value-fits at_value)) at c.if-value-gt2147483647.true),
     )
 
@@ -60,7 +60,7 @@ module _ (c : tie.Else-value-gt2147483647) where
 
   has-32-bits : fits32 z ≡ true
   has-32-bits =
-      between z (simp (to_z-of_z (value-fits at_value)) at c.before.if-value-ltminus2147483648.false) (simp (to_z-of_z (value-fits at_value)) at c.if-value-gt2147483647.false)
+      between z (simp (to_z-of_z (value-fits at_value)) at c.if-value-ltminus2147483648.false) (simp (to_z-of_z (value-fits at_value)) at c.if-value-gt2147483647.false)
 
 cast : tie.Need-overflow_cast-result
 cast c = simp (to_z-of_z (value-fits (at_value c))) (fits-of (z c) (has-32-bits c))
@@ -69,7 +69,7 @@ cast c = simp (to_z-of_z (value-fits (at_value c))) (fits-of (z c) (has-32-bits 
 returns-5 : tie.Need-returns
 returns-5 c =
     simp (to_z-of_z (value-fits (at_value c)), to_z-of_z (fits-of (z c) (has-32-bits c)))
-    (accepted _ _ _ (at_value c).before.before.if-r-start.false (at_value c).before.if-r.false (has-32-bits c))
+    (accepted _ _ _ (at_value c).before.before.if1.false (at_value c).before.if2.false (has-32-bits c))
 
 pub checked_spec : {M : Type 1} → statement M
 checked_spec = tie.close (tie.spec returns returns-2 returns-3 returns-4 cast returns-5)

@@ -20,37 +20,37 @@ use Rattle.read_integers.proofs.fixed.Statement.{statement}
 use Rattle.read_integers.proofs.fixed.Tie as tie
 
 -- the spaces end within the input
-within : (c : tie.After-past_spaces-from) → c.past_spaces-from.result ≤ length c.before.before.args.s.now
-within c = let args = c.before.before.args in omega (arith, leading-place is_space args.s.now args.at, c.past_spaces-from.ensures)
+within : (c : tie.After-past_spaces-from) → c.past_spaces-from.result ≤ length c.args.s.now
+within c = let args = c.args in omega (arith, leading-place is_space args.s.now args.at, c.past_spaces-from.ensures)
 
 -- strtol reads the part of the width
 part : (c : tie.After-c_strtol-r)
-    → let after-spaces = c.before.before.before in let args = after-spaces.before.before.args in
+    → let after-spaces = c.before.before.before in let args = after-spaces.args in
     c.c_strtol-r.result ≡ strtol (take args.width (drop after-spaces.past_spaces-from.result args.s.now)) 0
 part c =
     let after-spaces = c.before.before.before in
     let from = after-spaces.past_spaces-from.result in
-    let width = after-spaces.before.before.args.width in
+    let width = after-spaces.args.width in
     let as_long : from + width - from ≡ width = omega arith in
     rw as_long at c.c_strtol-r.ensures
 
 -- fewer bytes are left than the width
 returns : tie.Need-returns-then-left-wide
-returns c = short _ _ _ _ _ c.before.past_spaces-from.ensures c.if-left-wide.true
+returns c = short _ _ _ _ _ c.past_spaces-from.ensures c.if-left-wide.true
 
 -- digits begin there and do not fill the width
 returns-2 : tie.Need-returns-then-parsed-wide
 returns-2 c =
     let after-strtol = c.before.before in
     let after-spaces = after-strtol.before.before.before in
-    narrow _ _ _ _ _ after-spaces.past_spaces-from.ensures after-strtol.before.before.if-left-wide.false _ (part after-strtol) c.before.if-parsed-gt0.true c.if-parsed-wide.true
+    narrow _ _ _ _ _ after-spaces.past_spaces-from.ensures after-strtol.if-left-wide.false _ (part after-strtol) c.if-parsed-gt0.true c.if-parsed-wide.true
 
 -- the end of the number is a place in the input
 end_fits : tie.Need-overflow_add-found
 end_fits c =
     let after-strtol = c.before in
     let after-spaces = after-strtol.before.before.before in
-    omega (arith, within after-spaces, part_end _ _ 0 _ _ after-spaces.past_spaces-from.ensures after-strtol.before.before.if-left-wide.false _ (part after-strtol))
+    omega (arith, within after-spaces, part_end _ _ 0 _ _ after-spaces.past_spaces-from.ensures after-strtol.if-left-wide.false _ (part after-strtol))
 
 -- the value has 64 bits
 value-fits : (c : tie.After-c_strtol-r) → SFits w64 c.c_strtol-r.result.value
@@ -62,10 +62,10 @@ returns-3 c =
     let after-tests = c.before.before in
     let after-strtol = after-tests.before in
     let after-spaces = after-strtol.before.before.before in
-    let fills : (ltb 0 after-strtol.c_strtol-r.result.end && ltb after-strtol.c_strtol-r.result.end after-spaces.before.before.args.width) ≡ false
+    let fills : (ltb 0 after-strtol.c_strtol-r.result.end && ltb after-strtol.c_strtol-r.result.end after-spaces.args.width) ≡ false
     = ⊎_elim (λ w. rw (le-ltb _ _ w.1.left, and-false)) (λ w. rw (le-ltb _ _ w.left)) after-tests.if-parsed-gt0.branch in
     simp (to_z-of_z (value-fits after-strtol)) at c.checked.ensures
-    ∙ whole _ _ _ _ _ after-spaces.past_spaces-from.ensures after-strtol.before.before.if-left-wide.false _ (part after-strtol) fills
+    ∙ whole _ _ _ _ _ after-spaces.past_spaces-from.ensures after-strtol.if-left-wide.false _ (part after-strtol) fills
 
 pub fixed_spec : {M : Type 1} → statement M
 fixed_spec =

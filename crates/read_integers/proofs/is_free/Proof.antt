@@ -10,7 +10,7 @@ returns c = rw (ne_eqb _ _ c.if-n-ne0.true)
 
 -- without it, what comes after the pattern says it
 returns-2 : tie.Need-returns
-returns-2 c = rw c.before.if-n-ne0.false c.is_next_separator.ensures
+returns-2 c = rw c.if-n-ne0.false c.is_next_separator.ensures
 
 pub is_free_spec : {M : Type 1} → statement M
 is_free_spec = tie.close (tie.spec returns (λ c κs. search rules) returns-2)

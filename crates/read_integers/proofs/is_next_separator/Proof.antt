@@ -12,20 +12,20 @@ use Rattle.read_integers.proofs.is_next_separator.Tie as tie
 returns : tie.Need-returns-then-n-ne0
 unfolding ends_number
 returns c =
-    let has-suffix : ordinal c.before.before.before.args.n.suffix ≡ true = ap not (ne_eqb _ _ c.if-n-ne0.true) in
+    let has-suffix : ordinal c.args.n.suffix ≡ true = ap not (ne_eqb _ _ c.if-n-ne0.true) in
     rw has-suffix
 
 -- the template ends
 returns-2 : tie.Need-returns-then-next-eq-FN_END
 unfolding ends_number
-returns-2 c = rw (c.before.before.if-n-ne0.false, c.if-next-eq-FN_END.true)
+returns-2 c = rw (c.if-n-ne0.false, c.if-next-eq-FN_END.true)
 
 -- a pattern: whether it is read as digits
 returns-3 : tie.Need-returns-then-next-eq-FN_ACTION
 unfolding ends_number
 returns-3 c =
     let no_end = c.before.before.before in
-    rw (no_end.before.before.if-n-ne0.false, ne_eqb _ _ no_end.if-next-eq-FN_END.false, c.before.if-next-eq-FN_ACTION.true, c.is_digit.ensures)
+    rw (no_end.if-n-ne0.false, ne_eqb _ _ no_end.if-next-eq-FN_END.false, c.if-next-eq-FN_ACTION.true, c.is_digit.ensures)
 
 -- a literal of several bytes
 returns-4 : tie.Need-returns-then-next-ne1
@@ -33,7 +33,7 @@ unfolding ends_number
 returns-4 c =
     let no-pattern = c.before.before in
     let no_end = no-pattern.before.before in
-    rw (no_end.before.before.if-n-ne0.false, ne_eqb _ _ no_end.if-next-eq-FN_END.false, ne_eqb _ _ no-pattern.if-next-eq-FN_ACTION.false, ne_eqb _ _ c.if-next-ne1.true)
+    rw (no_end.if-n-ne0.false, ne_eqb _ _ no_end.if-next-eq-FN_END.false, ne_eqb _ _ no-pattern.if-next-eq-FN_ACTION.false, ne_eqb _ _ c.if-next-ne1.true)
 
 -- a literal of one byte: whether it is a digit
 returns-5 : tie.Need-returns
@@ -43,12 +43,12 @@ returns-5 c =
     let no-pattern = one_byte.before.before in
     let no_end = no-pattern.before.before in
     rw (
-      no_end.before.before.if-n-ne0.false,
+      no_end.if-n-ne0.false,
       ne_eqb _ _ no_end.if-next-eq-FN_END.false,
       ne_eqb _ _ no-pattern.if-next-eq-FN_ACTION.false,
       one_byte.if-next-ne1.false,
       c.is_digit_c.ensures,
-      c.before.byte_at.ensures,
+      c.byte_at.ensures,
     )
 
 pub is_next_separator_spec : {M : Type 1} → statement M

@@ -21,7 +21,7 @@ small : (c : tie.After-short_number-short) → c.short_number-short.result.value
 small c = rw c.short_number-short.ensures (short-small _ _)
 
 -- where it moved on, strtol finds the same
-found : (c : tie.After-short_number-short) → let args = c.before.before.before.args in
+found : (c : tie.After-short_number-short) → let args = c.args in
     (c.short_number-short.result.end ≡ args.at → ⊥)
     → strtol args.s.now args.at ≡ answer (pos c.short_number-short.result.value) c.short_number-short.result.end false
 found c = rw c.short_number-short.ensures (short-strtol _ _)
@@ -32,7 +32,7 @@ returns c =
     let moved_on = c.before in
     let after-short = moved_on.before.before in
     let if-free = after-short.before in
-    found-free _ _ _ _ if-free.before.before.requires _ _ if-free.if-free.true
+    found-free _ _ _ _ if-free.requires _ _ if-free.if-free.true
     (simp (to_z_pos w32 {n = after-short.short_number-short.result.value} (omega (arith, small after-short)))
     (accepted _ _ _ moved_on.if-short-at.true refl (lt-ltb after-short.short_number-short.result.value (2 ^ 31) (omega (arith, small after-short)))
     ∙ ap (checked _ _) (sym (found after-short moved_on.if-short-at.true))))

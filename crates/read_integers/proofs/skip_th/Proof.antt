@@ -16,11 +16,11 @@ returns c = record { is = rw c.if-suffix-eq0.true; from = omega arith; within = 
 returns-2 : tie.Need-returns-then-accents
 unfolding past_ordinal
 returns-2 c =
-    let first = c.before.whole.ensures in
+    let first = c.whole.ensures in
     let second = c.whole-then-accents.ensures in
     let at-mode = c.before.before in
     record {
-      is = rw (ne_eqb _ _ at-mode.before.if-suffix-eq0.false, at-mode.if-accents.true, second.is, first.is);
+      is = rw (ne_eqb _ _ at-mode.if-suffix-eq0.false, at-mode.if-accents.true, second.is, first.is);
       from = omega arith;
       within = omega (arith, first.within, second.within);
     }
@@ -29,11 +29,11 @@ returns-2 c =
 returns-3 : tie.Need-returns
 unfolding past_ordinal measure_of
 returns-3 c =
-    let first = c.before.pg_mblen.ensures in
+    let first = c.pg_mblen.ensures in
     let second = c.pg_mblen-2.ensures in
     let at-mode = c.before.before in
     record {
-      is = rw (ne_eqb _ _ at-mode.before.if-suffix-eq0.false, at-mode.if-accents.false, second.is, first.is);
+      is = rw (ne_eqb _ _ at-mode.if-suffix-eq0.false, at-mode.if-accents.false, second.is, first.is);
       from = omega arith;
       within = omega arith;
     }
@@ -46,7 +46,7 @@ skip_th_spec =
     (λ c κs. search rules)
     (λ c. omega (arith, c.whole.ensures.within))
     (λ c κs. search rules)
-    (λ c. omega (arith, c.whole-then-accents.ensures.within, c.before.whole.ensures.within))
+    (λ c. omega (arith, c.whole-then-accents.ensures.within, c.whole.ensures.within))
     returns-2
     (λ c κs. search rules)
     (λ c. search rules)

@@ -10,16 +10,16 @@ use Rattle.read_literals.proofs.blank_passed.Tie as tie
 returns : tie.Need-returns-then-is_blank
 returns c =
     let after_test_lem = c.before in
-    let args = after_test_lem.before.before.before.args in
-    blank-taken args.s.now args.p (rw after_test_lem.before.byte_at.ensures at (sym after_test_lem.is_blank.ensures ∙ c.if-is_blank.true))
+    let args = after_test_lem.args in
+    blank-taken args.s.now args.p (rw after_test_lem.byte_at.ensures at (sym after_test_lem.is_blank.ensures ∙ c.if-is_blank.true))
 
 -- none there: a skipped space pays
 returns-2 : tie.Need-returns
 returns-2 c =
     let after_test_lem = c.before.before in
-    let args = after_test_lem.before.before.before.args in
+    let args = after_test_lem.args in
     rw c.less_one.ensures
-    (blank-paid args.s.now args.p (rw after_test_lem.before.byte_at.ensures at (sym after_test_lem.is_blank.ensures ∙ c.before.if-is_blank.false)))
+    (blank-paid args.s.now args.p (rw after_test_lem.byte_at.ensures at (sym after_test_lem.is_blank.ensures ∙ c.if-is_blank.false)))
 
 pub blank_passed_spec : {M : Type 1} → statement M
 blank_passed_spec =

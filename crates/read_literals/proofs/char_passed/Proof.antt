@@ -8,7 +8,7 @@ use Rattle.read_literals.proofs.char_passed.Tie as tie
 
 returns : tie.Need-returns
 returns c =
-    let p = c.before.before.args.p in
+    let p = c.args.p in
     ap (λ (n : ℕ). at_place p (p.at + n)) c.measure.ensures.is
 
 pub char_passed_spec : {M : Type 1} → statement M

@@ -10,20 +10,20 @@ use Rattle.read_literals.proofs.entered.Tie as tie
 spaces-skipped-requires : tie.Need-spaces_skipped-requires
 spaces-skipped-requires c κs =
     let at-start = c.before.before.before.before in
-    let few = at-start.requires.0 (not-exact at-start.args.p c.before.if-p-ne0.false) in
+    let few = at-start.requires.0 (not-exact at-start.args.p c.if-p-ne0.false) in
     omega arith
 
 -- past the spaces
 returns-2 : tie.Need-returns-then-skip
 returns-2 c =
     let no-fx = c.before.before in
-    rw (not-exact no-fx.before.before.before.args.p no-fx.if-p-ne0.false, c.before.if-skip.true) c.spaces_skipped.ensures
+    rw (not-exact no-fx.args.p no-fx.if-p-ne0.false, c.if-skip.true) c.spaces_skipped.ensures
 
 pub entered_spec : {M : Type 1} → statement M
 entered_spec =
     tie.close
     (tie.spec
-    (λ c. rw (was-exact c.before.before.before.args.p c.if-p-ne0.true))
+    (λ c. rw (was-exact c.args.p c.if-p-ne0.true))
     spaces-skipped-requires
     returns-2
-    (λ c. rw (not-exact c.before.before.before.before.args.p c.before.if-p-ne0.false, c.if-skip.false)))
+    (λ c. rw (not-exact c.args.p c.if-p-ne0.false, c.if-skip.false)))

@@ -11,41 +11,41 @@ use Rattle.read_literals.proofs.literal_passed.Tie as tie
 -- FX was read: one character
 returns : tie.Need-returns-then-p-ne0
 returns c =
-    let args = c.before.before.before.before.args in
-    c.char_passed.ensures ∙ with-exact args.s.now args.n args.p (was-exact args.p c.before.if-p-ne0.true)
+    let args = c.args in
+    c.char_passed.ensures ∙ with-exact args.s.now args.n args.p (was-exact args.p c.if-p-ne0.true)
 
 -- a separator
 returns-2 : tie.Need-returns-then-n-eq-FN_SEPARATOR
 returns-2 c =
     let no-fx = c.before.before.before in
-    let args = no-fx.before.before.before.args in
-    c.blank_passed.ensures ∙ as-separator args.s.now args.n args.p (not-exact args.p no-fx.if-p-ne0.false) c.before.if-n-eq-FN_SEPARATOR.true
+    let args = no-fx.args in
+    c.blank_passed.ensures ∙ as-separator args.s.now args.n args.p (not-exact args.p no-fx.if-p-ne0.false) c.if-n-eq-FN_SEPARATOR.true
 
 -- a space
 returns-3 : tie.Need-returns-then-n-eq-FN_SPACE
 returns-3 c =
     let no-fx = c.before.before.before.before.before in
-    let args = no-fx.before.before.before.args in
-    c.blank_passed-then-n-eq-FN_SPACE.ensures ∙ as-space args.s.now args.n args.p (not-exact args.p no-fx.if-p-ne0.false) c.before.if-n-eq-FN_SPACE.true
+    let args = no-fx.args in
+    c.blank_passed-then-n-eq-FN_SPACE.ensures ∙ as-space args.s.now args.n args.p (not-exact args.p no-fx.if-p-ne0.false) c.if-n-eq-FN_SPACE.true
 
 -- any other literal, for which no skipped space can pay: one character
 returns-4 : tie.Need-returns-then-extra-eq0
 returns-4 c =
     let no-blank = c.before.before in
     let no-fx = no-blank.before.before.before.before in
-    let args = no-fx.before.before.before.args in
+    let args = no-fx.args in
     c.char_passed-then-extra-eq0.ensures
-    ∙ as-char args.s.now args.n args.p (not-exact args.p no-fx.if-p-ne0.false) no-blank.before.before.if-n-eq-FN_SEPARATOR.false no-blank.if-n-eq-FN_SPACE.false
-    c.before.if-extra-eq0.true
+    ∙ as-char args.s.now args.n args.p (not-exact args.p no-fx.if-p-ne0.false) no-blank.if-n-eq-FN_SEPARATOR.false no-blank.if-n-eq-FN_SPACE.false
+    c.if-extra-eq0.true
 
 -- any other literal, for which a skipped space pays
 returns-5 : tie.Need-returns
 returns-5 c =
     let no-blank = c.before in
     let no-fx = no-blank.before.before.before.before in
-    let args = no-fx.before.before.before.args in
+    let args = no-fx.args in
     (λ i. record { at = args.p.at; extra = args.p.extra - 1; fx = no-fx.if-p-ne0.false i })
-    ∙ paid args.s.now args.n args.p (not-exact args.p no-fx.if-p-ne0.false) no-blank.before.before.if-n-eq-FN_SEPARATOR.false no-blank.if-n-eq-FN_SPACE.false (args.p.extra - 1)
+    ∙ paid args.s.now args.n args.p (not-exact args.p no-fx.if-p-ne0.false) no-blank.if-n-eq-FN_SEPARATOR.false no-blank.if-n-eq-FN_SPACE.false (args.p.extra - 1)
     (omega (arith, c.if-extra-eq0.false))
 
 pub literal_passed_spec : {M : Type 1} → statement M

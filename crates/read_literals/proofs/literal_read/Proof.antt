@@ -13,7 +13,7 @@ returns c =
     let none-skipped = c.before in
     let is-char = none-skipped.before.before in
     let not_first = is-char.before.before in
-    let args = not_first.before.before.args in
+    let args = not_first.args in
     rw (not-true args.first not_first.if-not-first.true)
     (c.char_passed.ensures ∙ plain-char args.s.now args.n args.p is-char.if-n-eq-FN_CHAR.true none-skipped.if-p-eq0.true)
 
@@ -25,7 +25,7 @@ literal-passed-requires c κs =
 
 -- any other literal, after the spaces before it
 returns-2 : tie.Need-returns
-returns-2 c = rw (← c.before.entered.ensures) c.literal_passed.ensures
+returns-2 c = rw (← c.entered.ensures) c.literal_passed.ensures
 
 pub literal_read_spec : {M : Type 1} → statement M
 literal_read_spec =

@@ -8,12 +8,12 @@ use Rattle.read_literals.proofs.past_field.Tie as tie
 returns-2 : tie.Need-returns
 returns-2 c =
     let no-fx = c.before in
-    rw (not-exact no-fx.before.before.before.args.p no-fx.if-p-ne0.false) c.spaces_skipped.ensures
+    rw (not-exact no-fx.args.p no-fx.if-p-ne0.false) c.spaces_skipped.ensures
 
 pub past_field_spec : {M : Type 1} → statement M
 past_field_spec =
     tie.close
     (tie.spec
-    (λ c. rw (was-exact c.before.before.before.args.p c.if-p-ne0.true))
+    (λ c. rw (was-exact c.args.p c.if-p-ne0.true))
     (λ c κs. search rules)
     returns-2)

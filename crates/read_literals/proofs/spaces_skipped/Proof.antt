@@ -13,15 +13,15 @@ use Rattle.read_literals.proofs.spaces_skipped.Tie as tie
 -- no more spaces are skipped than the input has bytes
 add-extra : tie.Need-overflow_add-extra
 add-extra c =
-    let args = c.before.before.before.args in
-    omega (arith, c.before.past_spaces-next.ensures, spaces-few args.s.now args.p)
+    let args = c.args in
+    omega (arith, c.past_spaces-next.ensures, spaces-few args.s.now args.p)
 
 returns : tie.Need-returns
 returns c =
-    let args = c.before.before.before.args in
+    let args = c.args in
     let p = args.p in
-    let moved = c.before.past_spaces-next.ensures in
-    let more : p.extra + (c.before.past_spaces-next.result - p.at) ≡ p.extra + spaces (drop p.at args.s.now) = omega (arith, moved) in
+    let moved = c.past_spaces-next.ensures in
+    let more : p.extra + (c.past_spaces-next.result - p.at) ≡ p.extra + spaces (drop p.at args.s.now) = omega (arith, moved) in
     λ i. record { at = moved i; extra = more i; fx = 0 }
 
 pub spaces_skipped_spec : {M : Type 1} → statement M

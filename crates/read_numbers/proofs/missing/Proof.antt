@@ -11,13 +11,13 @@ use Rattle.read_numbers.proofs.missing.Tie as tie
 -- no digit is missing
 returns-2 : tie.Need-returns-then-width-n
 returns-2 c =
-    let args = c.before.before.args in
+    let args = c.args in
     let none : args.width - args.n ≡ 0 = omega arith in
-    rw (ne_eqb _ _ c.before.if-n-eq0.false, none)
+    rw (ne_eqb _ _ c.if-n-eq0.false, none)
 
 -- some are
 returns-3 : tie.Need-returns
-returns-3 c = rw (ne_eqb _ _ c.before.before.if-n-eq0.false) (returned c.power_of_ten.type-inv c.power_of_ten.ensures)
+returns-3 c = rw (ne_eqb _ _ c.if-n-eq0.false) (returned c.power_of_ten.type_inv c.power_of_ten.ensures)
 
 pub missing_spec : {M : Type 1} → statement M
 missing_spec =

@@ -10,11 +10,11 @@ use Rattle.read_numbers.proofs.near_if_short.Tie as tie
 returns : tie.Need-returns-then-n-lt4
 returns c =
     let near = c.adjust_partial_year in
-    simp (lt-ltb _ _ c.before.if-n-lt4.true, returned near.type-inv near.ensures, to_z-of_z c.before.before.ranges.z)
+    simp (lt-ltb _ _ c.if-n-lt4.true, returned near.type_inv near.ensures, to_z-of_z c.ranges.z)
 
 -- four or more
 returns-2 : tie.Need-returns
-returns-2 c = simp (le-ltb _ _ c.if-n-lt4.false, to_z-of_z c.before.ranges.z)
+returns-2 c = simp (le-ltb _ _ c.if-n-lt4.false, to_z-of_z c.ranges.z)
 
 pub near_if_short_spec : {M : Type 1} → statement M
 near_if_short_spec = tie.close (tie.spec (λ c κs. search rules) returns returns-2)

@@ -11,32 +11,32 @@ use Rattle.read_numbers.proofs.noted.Tie as tie
 -- the 12-hour clock
 returns : tie.Need-returns-in-1
 unfolding noted
-returns c = simp c.before.before.in-1.keys1 c.put.ensures
+returns c = simp c.in-1.is c.put.ensures
 
 -- a whole year: four digits
 returns-2 : tie.Need-returns-in-6
 unfolding noted
-returns-2 c = simp c.before.before.in-1.keys2 c.put-in-6.ensures
+returns-2 c = simp c.in-6.is c.put-in-6.ensures
 
 -- a year of few digits: its width
 returns-3 : tie.Need-returns-in-7
 unfolding noted
 returns-3 c =
-    let width_read = to_z_pos w32 {n = c.before.before.before.args.width} (omega arith) in
-    simp c.before.before.in-1.keys3 (simp width_read at c.put-in-7.ensures)
+    let width_read = to_z_pos w32 {n = c.args.width} (omega arith) in
+    simp c.in-7.is (simp width_read at c.put-in-7.ensures)
 
 -- a fraction: its width
 returns-4 : tie.Need-returns-in-4
 unfolding noted
 returns-4 c =
-    let width_read = to_z_pos w32 {n = c.before.before.before.args.width} (omega arith) in
-    simp c.before.before.in-1.keys4 (simp width_read at c.put-in-4.ensures)
+    let width_read = to_z_pos w32 {n = c.args.width} (omega arith) in
+    simp c.in-4.is (simp width_read at c.put-in-4.ensures)
 
 -- any other rule: the fields stay
 returns-5 : tie.Need-returns-in_default
 unfolding noted
 returns-5 c =
-    let others = c.in-1.rest in
+    let others = c.in_default.rest in
     simp (ne_eqb _ _ others.1, ne_eqb _ _ others.0.1, ne_eqb _ _ others.0.0.1, ne_eqb _ _ others.0.0.0.1)
 
 pub noted_spec : {M : Type 1} → statement M

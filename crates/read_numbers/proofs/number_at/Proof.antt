@@ -6,11 +6,11 @@ use Rattle.read_numbers.proofs.number_at.Tie as tie
 
 -- a year with a comma
 returns : tie.Need-returns-then-task-eq-COMMA_YEAR
-returns c = rw (eq-eqb _ _ c.before.if-task-eq-COMMA_YEAR.true) c.comma_year.ensures
+returns c = rw (eq-eqb _ _ c.if-task-eq-COMMA_YEAR.true) c.comma_year.ensures
 
 -- any other number
 returns-2 : tie.Need-returns
-returns-2 c = rw (ne_eqb _ _ c.before.if-task-eq-COMMA_YEAR.false) c.parse_int_len.ensures
+returns-2 c = rw (ne_eqb _ _ c.if-task-eq-COMMA_YEAR.false) c.parse_int_len.ensures
 
 pub number_at_spec : {M : Type 1} → statement M
 number_at_spec = tie.close (tie.spec (λ c κs. search rules) returns (λ c κs. search rules) returns-2)

@@ -12,16 +12,16 @@ five k h a b c d e = omega arith
 -- the last case
 returns-6 : tie.Need-returns-in_default
 returns-6 c =
-    let others = c.in-0.rest in
-    rw (five c.before.args.k c.before.requires others.0.0.0.0.1 others.0.0.0.1 others.0.0.1 others.0.1 others.1)
+    let others = c.in_default.rest in
+    rw (five c.args.k c.requires others.0.0.0.0.1 others.0.0.0.1 others.0.0.1 others.0.1 others.1)
 
 pub power_of_ten_spec : {M : Type 1} → statement M
 power_of_ten_spec =
     tie.close
     (tie.spec
-    (λ c. rw c.in-0.keys1)
-    (λ c. rw c.in-0.keys2)
-    (λ c. rw c.in-0.keys3)
-    (λ c. rw c.in-0.keys4)
-    (λ c. rw c.in-0.keys5)
+    (λ c. rw c.in-0.is)
+    (λ c. rw c.in-1.is)
+    (λ c. rw c.in-2.is)
+    (λ c. rw c.in-3.is)
+    (λ c. rw c.in-4.is)
     returns-6)

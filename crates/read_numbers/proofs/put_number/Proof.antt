@@ -13,8 +13,8 @@ returns c =
     simp (
       c.noted.ensures,
       after-put.put.ensures,
-      returned after_kept.kept.type-inv after_kept.kept.ensures,
-      to_z-of_z after_kept.before.before.ranges.z,
+      returned after_kept.kept.type_inv after_kept.kept.ensures,
+      to_z-of_z after_kept.ranges.z,
     )
 
 pub put_number_spec : {M : Type 1} → statement M

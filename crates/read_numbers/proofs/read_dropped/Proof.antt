@@ -8,17 +8,17 @@ use Rattle.read_numbers.proofs.read_dropped.Tie as tie
 returns : tie.Need-returns-in-Refused
 unfolding dropped_number
 returns c values =
-    let at-refused = c.before.before in
-    rw (← at-refused.before.before.parse_int_len.ensures.is, at-refused.why-1.given.1, c.refuse.ensures)
+    let at-refused = c.before in
+    rw (← at-refused.parse_int_len.ensures.is, at-refused.in-Refused.is, c.refuse.ensures)
 
 -- a number, and past its ordinal suffix
 returns-2 : tie.Need-returns-in-Read
 unfolding dropped_number
 returns-2 c values =
     let after-place = c.before in
-    let at_read = after-place.before.before.before in
-    rw (← at_read.before.before.parse_int_len.ensures.is, at_read.next-1.given.1)
-    (simp (c.read.ensures, after-place.at_place.ensures, after-place.before.skip_th.ensures.is))
+    let at_read = after-place.before.before in
+    rw (← at_read.parse_int_len.ensures.is, at_read.in-Read.is)
+    (simp (c.read.ensures, after-place.at_place.ensures, after-place.skip_th.ensures.is))
 
 pub read_dropped_spec : {M : Type 1} → statement M
 read_dropped_spec =

@@ -4,7 +4,7 @@ use Rattle.read_numbers.proofs.read_number.Statement.{statement}
 use Rattle.read_numbers.proofs.read_number.Tie as tie
 
 returns : tie.Need-returns
-returns c = rw (← c.before.before.number_at-number.ensures.is) c.stored_number.ensures
+returns c = rw (← c.number_at-number.ensures.is) c.stored_number.ensures
 
 pub read_number_spec : {M : Type 1} → statement M
 read_number_spec = tie.close (tie.spec (λ c κs. search rules) (λ c κs. search rules) returns)

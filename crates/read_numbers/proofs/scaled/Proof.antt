@@ -7,9 +7,9 @@ use Rattle.read_numbers.proofs.scaled.Tie as tie
 
 returns : tie.Need-returns
 returns c =
-    let factor = c.before.missing in
+    let factor = c.missing in
     let product = c.wrapping_mul in
-    simp (returned product.type-inv product.ensures, returned factor.type-inv factor.ensures, to_z-of_z c.before.before.ranges.z)
+    simp (returned product.type_inv product.ensures, returned factor.type_inv factor.ensures, to_z-of_z c.ranges.z)
 
 pub scaled_spec : {M : Type 1} → statement M
 scaled_spec = tie.close (tie.spec (λ c κs. search rules) (λ c κs. search rules) returns)

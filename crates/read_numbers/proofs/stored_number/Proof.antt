@@ -12,31 +12,31 @@ use Rattle.read_numbers.proofs.stored_number.Statement.{statement}
 use Rattle.read_numbers.proofs.stored_number.Tie as tie
 
 -- the number that was read has 32 bits, and ends after its place
-value-fits : (c : tie.In-Read) → SFits w32 c.before.number-in-Read-1.given.0.0
+value-fits : (c : tie.In-Read) → SFits w32 c.in-Read.value
 value-fits c = search rules
 
-moved_on : (c : tie.In-Read) → c.before.before.before.before.args.p.at < c.before.number-in-Read-1.given.0.1.0
+moved_on : (c : tie.In-Read) → c.args.p.at < c.in-Read.next
 moved_on c =
-    let at-start = c.before.before.before.before in
-    (rw c.before.number-in-Read-1.given.1 at at-start.requires.1).0
+    let at-start = c.before.before in
+    (rw c.in-Read.is at at-start.requires.1).0
 
 -- the field was set to another value
 returns : tie.Need-returns-then-holds_other
 unfolding stored_number
 returns c =
     let after_test_lem = c.before.before in
-    let at_read = after_test_lem.before.before in
-    let args = at_read.before.before.before.before.args in
+    let at_read = after_test_lem.before in
+    let args = at_read.args in
     rw (
-      at_read.before.number-in-Read-1.given.1,
-      answered args.f.now args.task.field (value-fits at_read) after_test_lem.holds_other.ensures c.before.if-holds_other.true,
+      at_read.in-Read.is,
+      answered args.f.now args.task.field (value-fits at_read) after_test_lem.holds_other.ensures c.if-holds_other.true,
       c.refuse-then-holds_other.ensures,
     )
 
 -- no number was read
 returns-2 : tie.Need-returns-in-Refused
 unfolding stored_number
-returns-2 c = rw (c.before.before.number-1.given.1, c.refuse.ensures)
+returns-2 c = rw (c.in-Refused.is, c.refuse.ensures)
 
 -- the number goes into its field
 returns-3 : tie.Need-returns-else-holds_other
@@ -46,14 +46,14 @@ returns-3 c =
     let after-put = after-place.before.before in
     let not-other = after-put.before.before.before in
     let after_test_lem = not-other.before in
-    let at_read = after_test_lem.before.before in
-    let args = at_read.before.before.before.before.args in
+    let at_read = after_test_lem.before in
+    let args = at_read.args in
     simp (
-      at_read.before.number-in-Read-1.given.1,
+      at_read.in-Read.is,
       answered args.f.now args.task.field (value-fits at_read) after_test_lem.holds_other.ensures not-other.if-holds_other.false,
       c.read.ensures,
       after-place.at_place.ensures,
-      after-place.before.skip_th.ensures.is,
+      after-place.skip_th.ensures.is,
       after-put.put_number.ensures,
       to_z-of_z (value-fits at_read),
     )
@@ -68,7 +68,7 @@ stored_number_spec =
     (λ c κs. search rules)
     (λ c κs. search rules)
     returns
-    (λ c. let later = moved_on c.before.before.before.before in omega arith)
+    (λ c. let later = moved_on c.before.before.before in omega arith)
     (λ c κs. search rules)
     (λ c κs. search rules)
     (λ c κs. search rules)

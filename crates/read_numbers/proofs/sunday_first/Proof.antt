@@ -8,15 +8,15 @@ use Rattle.read_numbers.proofs.sunday_first.Tie as tie
 -- past 7: Sunday
 returns : tie.Need-returns-then-d-gt7
 returns c =
-    let sum = c.before.wrapping_add-d in
-    simp (simp (returned sum.type-inv sum.ensures, to_z-of_z c.before.before.ranges.z) at c.if-d-gt7.true)
+    let sum = c.wrapping_add-d in
+    simp (simp (returned sum.type_inv sum.ensures, to_z-of_z c.ranges.z) at c.if-d-gt7.true)
 
 -- any other day
 returns-2 : tie.Need-returns-else-d-gt7
 returns-2 c =
-    let sum = c.before.wrapping_add-d in
-    let z-read = to_z-of_z c.before.before.ranges.z in
-    simp (simp (returned sum.type-inv sum.ensures, z-read) at c.if-d-gt7.false, returned sum.type-inv sum.ensures, z-read)
+    let sum = c.wrapping_add-d in
+    let z-read = to_z-of_z c.ranges.z in
+    simp (simp (returned sum.type_inv sum.ensures, z-read) at c.if-d-gt7.false, returned sum.type_inv sum.ensures, z-read)
 
 pub sunday_first_spec : {M : Type 1} → statement M
 sunday_first_spec = tie.close (tie.spec (λ c κs. search rules) returns returns-2)

@@ -14,28 +14,28 @@ use Rattle.read_offsets.proofs.colon_minutes.Tie as tie
 
 -- a colon is at the place, and so within the input
 colon : (c : tie.Else-byte_at-ne58) →
-    let args = c.before.before.before.before.args in
+    let args = c.args in
     byte_at args.s.now args.p.at ≡ 58
-colon c = sym c.before.byte_at.ensures ∙ c.if-byte_at-ne58.false
+colon c = sym c.byte_at.ensures ∙ c.if-byte_at-ne58.false
 
 inside : (c : tie.Else-byte_at-ne58) →
-    let args = c.before.before.before.before.args in
+    let args = c.args in
     args.p.at < length args.s.now
 inside c =
-    let args = c.before.before.before.before.args in
+    let args = c.args in
     byte-within args.s.now args.p.at (λ z. omega (arith, colon c, z))
 
 -- hours alone
 returns : tie.Need-returns-then-rule-eq-HOURS
 unfolding colon_minutes
-returns c = rw (c.before.if-rule-eq-HOURS.true, c.read.ensures)
+returns c = rw (c.if-rule-eq-HOURS.true, c.read.ensures)
 
 -- no colon after them
 returns-2 : tie.Need-returns-then-byte_at-ne58
 unfolding colon_minutes
 returns-2 c =
     let at_byte = c.before.before in
-    rw (ne_eqb _ _ at_byte.before.if-rule-eq-HOURS.false, ne_eqb _ _ (λ e. c.before.if-byte_at-ne58.true (at_byte.byte_at.ensures ∙ e)), c.read-then-byte_at-ne58.ensures)
+    rw (ne_eqb _ _ at_byte.if-rule-eq-HOURS.false, ne_eqb _ _ (λ e. c.if-byte_at-ne58.true (at_byte.byte_at.ensures ∙ e)), c.read-then-byte_at-ne58.ensures)
 
 -- the minutes after a colon
 returns-3 : tie.Need-returns
@@ -43,7 +43,7 @@ unfolding colon_minutes
 returns-3 c =
     let after-number = c.before.before in
     let at-colon = after-number.before in
-    rw (ne_eqb _ _ at-colon.before.before.if-rule-eq-HOURS.false, colon at-colon, ← after-number.strtol_number-number.ensures.is) c.stored_offset.ensures
+    rw (ne_eqb _ _ at-colon.if-rule-eq-HOURS.false, colon at-colon, ← after-number.strtol_number-number.ensures.is) c.stored_offset.ensures
 
 pub colon_minutes_spec : {M : Type 1} → statement M
 colon_minutes_spec =

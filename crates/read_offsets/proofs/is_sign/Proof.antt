@@ -13,7 +13,7 @@ returns-2 c = rw c.if-b-eq45.true
 
 -- neither: whether it is a space
 returns-3 : tie.Need-returns
-returns-3 c = rw (ne_eqb _ _ c.before.if-b-eq43.false, ne_eqb _ _ c.if-b-eq45.false)
+returns-3 c = rw (ne_eqb _ _ c.if-b-eq43.false, ne_eqb _ _ c.if-b-eq45.false)
 
 pub is_sign_spec : {M : Type 1} → statement M
 is_sign_spec = tie.close (tie.spec returns returns-2 returns-3)

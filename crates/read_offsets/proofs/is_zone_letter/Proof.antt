@@ -6,7 +6,7 @@ use Rattle.read_offsets.proofs.is_zone_letter.Tie as tie
 
 -- TZ: whether the byte is a letter
 returns : tie.Need-returns-then-rule-eq-NO_LETTER
-returns c = rw c.before.if-rule-eq-NO_LETTER.true c.is_alpha_c.ensures
+returns c = rw c.if-rule-eq-NO_LETTER.true c.is_alpha_c.ensures
 
 -- any other pattern
 returns-2 : tie.Need-returns

@@ -13,14 +13,14 @@ use Rattle.read_offsets.proofs.past_sign.Tie as tie
 
 -- the test whether a sign is at the place
 tested : (c : tie.After-is_sign) →
-    let args = c.before.before.before.args in
+    let args = c.args in
     c.is_sign.result ≡ is_sign (byte_at args.s.now args.at)
-tested c = rw c.before.byte_at.ensures at c.is_sign.ensures
+tested c = rw c.byte_at.ensures at c.is_sign.ensures
 
 -- a sign is within the input
-inside : (c : tie.Then-is_sign) → let args = c.before.before.before.before.args in args.at < length args.s.now
+inside : (c : tie.Then-is_sign) → let args = c.args in args.at < length args.s.now
 inside c =
-    let args = c.before.before.before.before.args in
+    let args = c.args in
     byte-within args.s.now args.at (λ z. true≢false (sym c.if-is_sign.true ∙ tested c.before ∙ rw z))
 
 -- past a sign

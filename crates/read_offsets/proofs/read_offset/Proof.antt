@@ -16,18 +16,18 @@ use Rattle.read_offsets.proofs.read_offset.Tie as tie
 
 -- the test whether a letter is refused
 tested : (c : tie.After-is_zone_letter) →
-    let args = c.before.before.before.args in
+    let args = c.args in
     c.is_zone_letter.result ≡ (eqb args.task.rule no_letter && is_letter (byte_at args.s.now args.p.at))
-tested c = rw c.before.byte_at.ensures at c.is_zone_letter.ensures
+tested c = rw c.byte_at.ensures at c.is_zone_letter.ensures
 
 -- a letter
 returns : tie.Need-returns-then-is_zone_letter
 unfolding read_offset
-returns c = rw (sym (tested c.before.before) ∙ c.before.if-is_zone_letter.true, c.refuse.ensures)
+returns c = rw (sym (tested c.before.before) ∙ c.if-is_zone_letter.true, c.refuse.ensures)
 
 -- the hours: a sign that is stored, and a number
 hours : (c : tie.After-stored_offset-hours) →
-    let args = c.before.before.before.before.before.before.before.before.before.before.before.args in
+    let args = c.args in
     read_into c.stored_offset-hours.result c.stored_offset-hours.new.1.1.1.0
     ≡ stored_offset args.n tzh (number_at args.s.now (past_sign args.s.now args.p.at) 2 args.n.pattern args.free)
     (put (fields_of args.f.now) tzsign (sign_of args.s.now args.p)) args.p
@@ -35,8 +35,8 @@ hours c =
     let after-number = c.before.before in
     let after-sign = after-number.before in
     let after-put = after-sign.before in
-    let sign = after-put.before.sign_of in
-    let signed = rw (returned sign.type-inv sign.ensures) at after-put.put.ensures in
+    let sign = after-put.sign_of in
+    let signed = rw (returned sign.type_inv sign.ensures) at after-put.put.ensures in
     rw (← after-sign.past_sign.ensures.is, ← after-number.strtol_number-number.ensures.is, ← signed) c.stored_offset-hours.ensures
 
 -- where the letter was tested: there was none
@@ -47,18 +47,18 @@ no-letter c = c.before.before.before.before.before.before.before
 returns-2 : tie.Need-returns-in-Refused
 unfolding read_offset then_minutes
 returns-2 c =
-    let after-hours = c.before.before in
+    let after-hours = c.before in
     let at_test = no-letter after-hours in
-    rw (sym (tested at_test.before) ∙ at_test.if-is_zone_letter.left, ← hours after-hours, c.enum_told-1.given.1)
+    rw (sym (tested at_test.before) ∙ at_test.if-is_zone_letter.left, ← hours after-hours, c.in-Refused.is)
 
 -- the hours were read: the minutes after them
 returns-3 : tie.Need-returns-in-Read
 unfolding read_offset then_minutes
 returns-3 c =
     let at-verdict = c.before.before.before in
-    let after-hours = at-verdict.before.before in
+    let after-hours = at-verdict.before in
     let at_test = no-letter after-hours in
-    rw (sym (tested at_test.before) ∙ at_test.if-is_zone_letter.left, ← hours after-hours, at-verdict.enum_told-in-Read-1.given.1) c.colon_minutes.ensures
+    rw (sym (tested at_test.before) ∙ at_test.if-is_zone_letter.left, ← hours after-hours, at-verdict.in-Read.is) c.colon_minutes.ensures
 
 pub read_offset_spec : {M : Type 1} → statement M
 read_offset_spec =

@@ -7,7 +7,7 @@ use Rattle.read_offsets.proofs.read_offset_minutes.Tie as tie
 returns : tie.Need-returns
 returns c =
     let after-sign = c.before.before in
-    rw (← after-sign.before.before.strtol_number-number.ensures.is, ← after-sign.with_sign.ensures) c.stored_offset.ensures
+    rw (← after-sign.strtol_number-number.ensures.is, ← after-sign.with_sign.ensures) c.stored_offset.ensures
 
 pub read_offset_minutes_spec : {M : Type 1} → statement M
 read_offset_minutes_spec =

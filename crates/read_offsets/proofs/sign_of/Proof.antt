@@ -13,9 +13,9 @@ use Rattle.read_offsets.proofs.sign_of.Tie as tie
 
 -- the test whether a sign is at the place
 tested : (c : tie.After-is_sign) →
-    let args = c.before.before.before.args in
+    let args = c.args in
     c.is_sign.result ≡ is_sign (byte_at args.s.now args.p.at)
-tested c = rw c.before.byte_at-b.ensures at c.is_sign.ensures
+tested c = rw c.byte_at-b.ensures at c.is_sign.ensures
 
 positive : (n : ℕ) → (n ≡ 0 → ⊥) → ltb 0 n ≡ true
 positive n h = lt-ltb 0 n (omega arith)
@@ -32,7 +32,7 @@ returns-2 : tie.Need-returns-then-is_sign
 unfolding sign_of
 returns-2 c =
     let after_test_lem = c.before.before in
-    rw (sym (tested after_test_lem) ∙ c.before.if-is_sign.true, ne_eqb _ _ (λ e. c.if-b-eq45.false (after_test_lem.before.byte_at-b.ensures ∙ e)))
+    rw (sym (tested after_test_lem) ∙ c.if-is_sign.true, ne_eqb _ _ (λ e. c.if-b-eq45.false (after_test_lem.byte_at-b.ensures ∙ e)))
 
 -- no sign, and no space was skipped: plus
 returns-3 : tie.Need-returns-then-p-eq0
@@ -46,7 +46,7 @@ returns-4 : tie.Need-returns-then-at-eq0
 unfolding sign_of
 returns-4 c =
     let no_sign = c.before.before.before in
-    rw (sym (tested no_sign.before) ∙ no_sign.if-is_sign.false, positive _ c.before.if-p-eq0.false, c.if-at-eq0.true)
+    rw (sym (tested no_sign.before) ∙ no_sign.if-is_sign.false, positive _ c.if-p-eq0.false, c.if-at-eq0.true)
 
 -- a minus one byte back
 returns-5 : tie.Need-returns-then-byte_at-eq45
@@ -56,9 +56,9 @@ returns-5 c =
     let no_sign = not_first.before.before.before in
     rw (
       sym (tested no_sign.before) ∙ no_sign.if-is_sign.false,
-      positive _ not_first.before.if-p-eq0.false,
+      positive _ not_first.if-p-eq0.false,
       positive _ not_first.if-at-eq0.false,
-      sym c.before.byte_at.ensures ∙ c.if-byte_at-eq45.true,
+      sym c.byte_at.ensures ∙ c.if-byte_at-eq45.true,
     )
 
 -- no minus there either: plus
@@ -69,9 +69,9 @@ returns-6 c =
     let no_sign = not_first.before.before.before in
     rw (
       sym (tested no_sign.before) ∙ no_sign.if-is_sign.false,
-      positive _ not_first.before.if-p-eq0.false,
+      positive _ not_first.if-p-eq0.false,
       positive _ not_first.if-at-eq0.false,
-      ne_eqb _ _ (λ e. c.if-byte_at-eq45.false (c.before.byte_at.ensures ∙ e)),
+      ne_eqb _ _ (λ e. c.if-byte_at-eq45.false (c.byte_at.ensures ∙ e)),
     )
 
 pub sign_of_spec : {M : Type 1} → statement M

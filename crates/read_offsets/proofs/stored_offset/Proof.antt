@@ -9,7 +9,7 @@ use Rattle.read_offsets.proofs.stored_offset.Statement.{statement}
 use Rattle.read_offsets.proofs.stored_offset.Tie as tie
 
 -- the number that was read has 32 bits
-value-fits : (c : tie.In-Read) → SFits w32 c.before.number-in-Read-1.given.0.0
+value-fits : (c : tie.In-Read) → SFits w32 c.in-Read.value
 value-fits c = search rules
 
 -- the field was set to another value
@@ -17,18 +17,18 @@ returns : tie.Need-returns-then-holds_other
 unfolding stored_offset
 returns c =
     let after_test_lem = c.before.before in
-    let at_read = after_test_lem.before.before in
-    let args = at_read.before.before.before.args in
+    let at_read = after_test_lem.before in
+    let args = at_read.args in
     rw (
-      at_read.before.number-in-Read-1.given.1,
-      answered args.f.now args.k (value-fits at_read) after_test_lem.holds_other.ensures c.before.if-holds_other.true,
+      at_read.in-Read.is,
+      answered args.f.now args.k (value-fits at_read) after_test_lem.holds_other.ensures c.if-holds_other.true,
       c.refuse-then-holds_other.ensures,
     )
 
 -- no number was read
 returns-2 : tie.Need-returns-in-Refused
 unfolding stored_offset
-returns-2 c = rw (c.before.before.number-1.given.1, c.refuse.ensures)
+returns-2 c = rw (c.in-Refused.is, c.refuse.ensures)
 
 -- the number goes into its field
 returns-3 : tie.Need-returns-else-holds_other
@@ -37,13 +37,13 @@ returns-3 c =
     let after-put = c.before.before in
     let not-other = after-put.before.before in
     let after_test_lem = not-other.before in
-    let at_read = after_test_lem.before.before in
-    let args = at_read.before.before.before.args in
+    let at_read = after_test_lem.before in
+    let args = at_read.args in
     simp (
-      at_read.before.number-in-Read-1.given.1,
+      at_read.in-Read.is,
       answered args.f.now args.k (value-fits at_read) after_test_lem.holds_other.ensures not-other.if-holds_other.false,
       c.read.ensures,
-      c.before.at_place.ensures,
+      c.at_place.ensures,
       after-put.put.ensures,
       to_z-of_z (value-fits at_read),
     )

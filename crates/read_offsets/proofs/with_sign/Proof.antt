@@ -14,12 +14,12 @@ use Rattle.read_offsets.proofs.with_sign.Statement.{statement}
 use Rattle.read_offsets.proofs.with_sign.Tie as tie
 
 -- the test whether a sign was read
-tested : (c : tie.After-get) → is_zero (get (fields_of c.before.before.args.f.now) tzsign) ≡ eqb (of_z w32 c.get.result) 0
-tested c = rw (← c.get.ensures) (sym (same_bits c.get.result (pos 0) (sfits_of c.get.type-inv) (omega arith)))
+tested : (c : tie.After-get) → is_zero (get (fields_of c.args.f.now) tzsign) ≡ eqb (of_z w32 c.get.result) 0
+tested c = rw (← c.get.ensures) (sym (same_bits c.get.result (pos 0) (sfits_of c.get.type_inv) (omega arith)))
 
 -- none was: plus
 returns : tie.Need-returns-then-get-eq0
-returns c = rw (tested c.before.before.before ∙ eq-eqb _ _ c.before.before.if-get-eq0.true) c.put.ensures
+returns c = rw (tested c.before.before.before ∙ eq-eqb _ _ c.if-get-eq0.true) c.put.ensures
 
 -- one was: it stays
 returns-2 : tie.Need-returns-else-get-eq0

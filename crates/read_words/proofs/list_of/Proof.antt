@@ -24,7 +24,7 @@ other (suc (suc (suc (suc (suc (suc (suc (suc (suc k))))))))) n1 n2 n3 n4 n5 n6 
 -- any other number
 returns-9 : tie.Need-returns-in_default
 returns-9 c =
-    let n8 = c.in-1.rest in
+    let n8 = c.in_default.rest in
     let n7 = n8.0 in
     let n6 = n7.0 in
     let n5 = n6.0 in
@@ -32,7 +32,7 @@ returns-9 c =
     let n3 = n4.0 in
     let n2 = n3.0 in
     let n1 = n2.0 in
-    other c.before.args.k n1.1 n2.1 n3.1 n4.1 n5.1 n6.1 n7.1 n8.1
+    other c.args.k n1.1 n2.1 n3.1 n4.1 n5.1 n6.1 n7.1 n8.1
 
 pub list_of_spec : {M : Type 1} → statement M
 list_of_spec =

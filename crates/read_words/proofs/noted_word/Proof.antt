@@ -6,7 +6,7 @@ use Rattle.read_words.proofs.noted_word.Tie as tie
 
 -- the 12-hour clock is noted
 returns : tie.Need-returns-then-rule-eq-ODD_HOUR12
-returns c = rw c.before.before.if-rule-eq-ODD_HOUR12.true c.put.ensures
+returns c = rw c.if-rule-eq-ODD_HOUR12.true c.put.ensures
 
 -- nothing is
 returns-2 : tie.Need-returns-else-rule-eq-ODD_HOUR12

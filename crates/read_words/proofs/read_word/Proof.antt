@@ -12,25 +12,25 @@ use Rattle.read_words.proofs.read_word.Tie as tie
 
 -- the word is one of twelve, and ends within the input
 inside : (c : tie.In-At) →
-    let args = c.before.before.before.before.before.before.args in
-    Inside args.s.now args.p.at (At c.before.index-1.given.0.0 c.before.index-1.given.0.1.0)
-inside c = rw c.before.index-1.given.1 at c.before.before.before.seq_search_ascii.ensures.inside
+    let args = c.args in
+    Inside args.s.now args.p.at (At c.in-At.index c.in-At.len)
+inside c = rw c.in-At.is at c.seq_search_ascii.ensures.inside
 
 -- no word of the list is there
 returns : tie.Need-returns-in-Nothing
 unfolding stored_word
 returns c =
-    let after-search = c.before.before.before in
-    rw (← after-search.before.list_of.ensures, ← after-search.seq_search_ascii.ensures.is, c.before.enum_told-1.given.1, c.refuse.ensures)
+    let after-search = c.before.before in
+    rw (← after-search.list_of.ensures, ← after-search.seq_search_ascii.ensures.is, c.in-Nothing.is, c.refuse.ensures)
 
 -- a word, whose number is stored
 returns-2 : tie.Need-returns-in-At
 unfolding stored_word
 returns-2 c =
     let after-meant = c.before.before in
-    let at-word = after-meant.before.before in
-    let after-search = at-word.before.before in
-    rw (← after-search.before.list_of.ensures, ← after-search.seq_search_ascii.ensures.is, at-word.index-1.given.1, ← after-meant.meant.ensures.0)
+    let at-word = after-meant.before in
+    let after-search = at-word.before in
+    rw (← after-search.list_of.ensures, ← after-search.seq_search_ascii.ensures.is, at-word.in-At.is, ← after-meant.meant.ensures.0)
     c.word_stored.ensures
 
 pub read_word_spec : {M : Type 1} → statement M

@@ -10,27 +10,27 @@ use Rattle.readback.proofs.write_and_read.Tie as tie
 -- the part that is read is within the buffer
 slice-reshare-prefix-read-by-all : tie.Need-slice_bounds-read_by_all-end
 slice-reshare-prefix-read-by-all c =
-    let after_write = c.before.before.before.before.before in
-    room _ _ _ after_write.write.ensures c.before.n-1.given.1
+    let after_write = c.before.before.before in
+    room _ _ _ after_write.write.ensures c.in-Length.is
 
 -- and is as long as the text
 slice-aggregate-read-by-all : tie.Need-slice_bounds-read_by_all-end-in-Length
 slice-aggregate-read-by-all c =
-    let after_write = c.before.before.before.before.before.before in
-    let is-length = c.before.before.n-1.given in
+    let after_write = c.before.before.before.before in
+    let is-length = c.n-1.given in
     omega (arith, room _ _ _ after_write.write.ensures is-length.1, length-take is-length.0.0 after_write.write.new.1.1.1.0)
 
 -- the text was written, and is read by each answer
 returns : tie.Need-returns-in-Length
 returns c =
-    let after_write = c.before.before.before.before.before.before.before in
-    read _ _ _ after_write.write.ensures c.before.before.before.n-1.given.1 _ c.read_by_all.ensures
+    let after_write = c.before.before.before.before.before in
+    read _ _ _ after_write.write.ensures c.in-Length.is _ c.read_by_all.ensures
 
 -- nothing was written
 returns-2 : tie.Need-returns-in-Refused
 returns-2 c =
-    let after_write = c.before.before.before.before.before in
-    not_written _ _ _ after_write.write.ensures c.before.why-1.given.1
+    let after_write = c.before.before.before in
+    not_written _ _ _ after_write.write.ensures c.in-Refused.is
 
 pub write_and_read_spec : {M : Type 1} → statement M
 write_and_read_spec =

@@ -10,7 +10,7 @@ use Rattle.sorbilgan_records.proofs.Values.{value-recorded}
 use Rattle.sorbilgan_records.proofs.put_day.Statement.{statement}
 use Rattle.sorbilgan_records.proofs.put_day.Tie as tie
 
-days-fit : (c : tie.In-Number) → SFits w32 c.before.day-1.given.0.0
+days-fit : (c : tie.In-Number) → SFits w32 c.in-Number.days
 days-fit c = search rules
 
 -- a day
@@ -19,14 +19,14 @@ unfolding day_record
 returns c =
     let after-alone = c.before.before in
     let at-days = after-alone.before in
-    value-recorded after-alone.alone.ensures (wide (days-fit at-days)) (ap day_record at-days.before.day-1.given.1) c.put_value.ensures
+    value-recorded after-alone.alone.ensures (wide (days-fit at-days)) (ap day_record at-days.in-Number.is) c.put_value.ensures
 
 -- a refusal
 returns-2 : tie.Need-returns-in-Refused
 unfolding day_record
 returns-2 c =
     let after-report = c.before.before in
-    value-recorded after-report.report_of.ensures refl (ap day_record after-report.before.before.day-in-Refused-1.given.1) c.put_value-in-Refused.ensures
+    value-recorded after-report.report_of.ensures refl (ap day_record after-report.in-Refused.is) c.put_value-in-Refused.ensures
 
 pub put_day_spec : {M : Type 1} → statement M
 put_day_spec =

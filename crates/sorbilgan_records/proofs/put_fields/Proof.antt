@@ -14,12 +14,12 @@ unfolding parts_record plain_parts
 returns c =
     let after-parts = c.before.before in
     let plain = after-parts.before in
-    rw (plain-moment _ _ (sym plain.before.has_plain_moment.ensures ∙ plain.if-has_plain_moment.true))
+    rw (plain-moment _ _ (sym plain.has_plain_moment.ensures ∙ plain.if-has_plain_moment.true))
     (rw after-parts.plain_parts.ensures at c.put_moment.ensures)
 
 -- any others
 returns-2 : tie.Need-returns
-returns-2 c = rw c.before.before.moment_of.ensures at c.put_parts.ensures
+returns-2 c = rw c.moment_of.ensures at c.put_parts.ensures
 
 pub put_fields_spec : {M : Type 1} → statement M
 put_fields_spec =

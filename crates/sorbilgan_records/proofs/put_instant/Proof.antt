@@ -10,7 +10,7 @@ use Rattle.sorbilgan_records.proofs.Values.{value-recorded}
 use Rattle.sorbilgan_records.proofs.put_instant.Statement.{statement}
 use Rattle.sorbilgan_records.proofs.put_instant.Tie as tie
 
-micros-fit : (c : tie.In-Micros) → SFits w64 c.before.instant-1.given.0.0
+micros-fit : (c : tie.In-Micros) → SFits w64 c.in-Micros.micros
 micros-fit c = search rules
 
 -- an instant
@@ -19,14 +19,14 @@ unfolding instant_record
 returns c =
     let after-alone = c.before.before in
     let at-micros = after-alone.before in
-    value-recorded after-alone.alone.ensures (to_z-of_z (micros-fit at-micros)) (ap instant_record at-micros.before.instant-1.given.1) c.put_value.ensures
+    value-recorded after-alone.alone.ensures (to_z-of_z (micros-fit at-micros)) (ap instant_record at-micros.in-Micros.is) c.put_value.ensures
 
 -- a refusal
 returns-2 : tie.Need-returns-in-Refused
 unfolding instant_record
 returns-2 c =
     let after-report = c.before.before in
-    value-recorded after-report.report_of.ensures refl (ap instant_record after-report.before.before.instant-in-Refused-1.given.1) c.put_value-in-Refused.ensures
+    value-recorded after-report.report_of.ensures refl (ap instant_record after-report.in-Refused.is) c.put_value-in-Refused.ensures
 
 pub put_instant_spec : {M : Type 1} → statement M
 put_instant_spec =

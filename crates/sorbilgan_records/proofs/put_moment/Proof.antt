@@ -13,10 +13,10 @@ use Rattle.sorbilgan_records.proofs.put_moment.Statement.{statement}
 use Rattle.sorbilgan_records.proofs.put_moment.Tie as tie
 
 -- the numbers of the parts fit 32 bits
-ranged : (c : tie.After-struct_told-1) → Ranged c.before.before.args.p
+ranged : (c : tie.After-struct_told-1) → Ranged c.args.p
 ranged c = search rules
 
-marks-range : (c : tie.After-struct_told-1) → c.before.before.args.p.marks < 2 ^ 8
+marks-range : (c : tie.After-struct_told-1) → c.args.p.marks < 2 ^ 8
 marks-range c = search rules
 
 -- where the first field is read, as seen from where the fifth is read, and the last
@@ -31,7 +31,7 @@ returns c =
     let at-precision = c.before.before in
     let at-year = from_last at-precision in
     let in-32 = ranged at-year in
-    let in-64 = at-year.before.before.fits in
+    let in-64 = at-year.ranges in
     record {
       is = λ i.
           pos 0
@@ -48,7 +48,7 @@ returns c =
           ∷ wide in-32.precision i
           ∷ to_z-of_z in-64.zoned i
           ∷ to_z-of_z in-64.offset i
-          ∷ to_z_pos w64 {n = at-year.before.before.args.p.marks} (omega (arith, marks-range at-year)) i
+          ∷ to_z_pos w64 {n = at-year.args.p.marks} (omega (arith, marks-range at-year)) i
           ∷ [];
       number = refl;
     }

@@ -8,7 +8,7 @@ use Rattle.sorbilgan_records.specs.Records.{parts_record}
 use Rattle.sorbilgan_records.proofs.put_parts.Statement.{statement}
 use Rattle.sorbilgan_records.proofs.put_parts.Tie as tie
 
-offset-fits : (c : tie.In-East) → SFits w32 c.before.offset-1.given.0.0
+offset-fits : (c : tie.In-East) → SFits w32 c.in-East.seconds
 offset-fits c = search rules
 
 -- a moment without an offset
@@ -16,16 +16,16 @@ returns : tie.Need-returns-in-Absent
 unfolding parts_record
 returns c =
     let at-absent = c.before.before in
-    let at-moment = at-absent.before.before.before in
-    rw (at-moment.answer-1.given.1, at-absent.enum_told-1.given.1) c.put_moment.ensures
+    let at-moment = at-absent.before in
+    rw (at-moment.in-Moment.is, at-absent.in-Absent.is) c.put_moment.ensures
 
 -- a moment with an offset, an i32 that keeps its value as an i64
 returns-2 : tie.Need-returns-in-East
 unfolding parts_record
 returns-2 c =
     let at_offset = c.before.before in
-    let at-moment = at_offset.before.before.before.before in
-    rw (at-moment.answer-1.given.1, at_offset.before.offset-1.given.1)
+    let at-moment = at_offset.before in
+    rw (at-moment.in-Moment.is, at_offset.in-East.is)
     (rw (wide (offset-fits at_offset)) at c.put_moment-in-East.ensures)
 
 -- a refusal
@@ -33,7 +33,7 @@ returns-3 : tie.Need-returns-in-Refused
 unfolding parts_record
 returns-3 c =
     let after-report = c.before.before in
-    rw after-report.before.before.answer-in-Refused-1.given.1 (rw after-report.report_of.ensures at c.put_refusal.ensures)
+    rw after-report.in-Refused.is (rw after-report.report_of.ensures at c.put_refusal.ensures)
 
 pub put_parts_spec : {M : Type 1} → statement M
 put_parts_spec =

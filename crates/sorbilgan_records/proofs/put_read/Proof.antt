@@ -6,14 +6,14 @@ use Rattle.sorbilgan_records.proofs.put_read.Tie as tie
 
 -- all was read
 returns : tie.Need-returns-in-Read
-returns c = rw c.before.before.enum_told-1.given.1 c.put_fields.ensures
+returns c = rw c.in-Read.is c.put_fields.ensures
 
 -- a refusal
 returns-2 : tie.Need-returns-in-Refused
 unfolding parts_record
 returns-2 c =
     let after-report = c.before.before in
-    rw after-report.before.before.verdict-1.given.1 (rw after-report.report_of.ensures at c.put_refusal.ensures)
+    rw after-report.in-Refused.is (rw after-report.report_of.ensures at c.put_refusal.ensures)
 
 pub put_read_spec : {M : Type 1} → statement M
 put_read_spec =

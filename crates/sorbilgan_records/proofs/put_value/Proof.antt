@@ -6,7 +6,7 @@ use Rattle.sorbilgan_records.proofs.Stored.{Ranged, stored}
 use Rattle.sorbilgan_records.proofs.put_value.Statement.{statement}
 use Rattle.sorbilgan_records.proofs.put_value.Tie as tie
 
-ranged : (c : tie.After-out-1) → Ranged c.before.before.before.before.args.r
+ranged : (c : tie.After-out-1) → Ranged c.args.r
 ranged c = search rules
 
 returns : tie.Need-returns

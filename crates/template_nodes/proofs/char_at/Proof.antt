@@ -9,7 +9,7 @@ use Rattle.template_nodes.proofs.char_at.Tie as tie
 
 returns : tie.Need-returns
 returns c =
-    let args = c.before.before.args in
+    let args = c.args in
     let measured = c.measure_usual-n.ensures in
     record {
       is = ap (λ (n : ℕ). make (in_mode args.accents (literal args.kind args.at n)) (args.at + n) args.quoted) measured.is;

@@ -22,7 +22,7 @@ unfolding char_place
 returns-2 c =
     let at-backslash = c.before.before in
     record {
-      is = simp (at-backslash.if-t-at-ne92.false, c.before.if-quoted.true, lt-ltb _ _ c.if-at-t.true);
+      is = simp (at-backslash.if-t-at-ne92.false, c.if-quoted.true, lt-ltb _ _ c.if-at-t.true);
       from = omega arith;
       near = omega arith;
       within = c.if-at-t.true;
@@ -34,7 +34,7 @@ unfolding char_place
 returns-3 c =
     let at-backslash = c.before.before in
     record {
-      is = simp (at-backslash.if-t-at-ne92.false, c.before.if-quoted.true, le-ltb _ _ c.if-at-t.false);
+      is = simp (at-backslash.if-t-at-ne92.false, c.if-quoted.true, le-ltb _ _ c.if-at-t.false);
       from = omega arith;
       near = omega arith;
       within = search rules;
@@ -45,10 +45,10 @@ returns-4 : tie.Need-returns-then-byte_at-eq34
 unfolding char_place
 returns-4 c =
     let at-backslash = c.before.before.before in
-    let args = at-backslash.before.before.before.args in
-    let is-quote = sym c.before.byte_at.ensures ∙ c.if-byte_at-eq34.true in
+    let args = at-backslash.args in
+    let is-quote = sym c.byte_at.ensures ∙ c.if-byte_at-eq34.true in
     record {
-      is = simp (at-backslash.if-t-at-ne92.false, c.before.before.if-quoted.false, eq-eqb _ _ is-quote);
+      is = simp (at-backslash.if-t-at-ne92.false, c.if-quoted.false, eq-eqb _ _ is-quote);
       from = omega arith;
       near = omega arith;
       within = byte-within args.t.now _ (λ z. omega (arith, is-quote, z));
@@ -60,7 +60,7 @@ unfolding char_place
 returns-5 c =
     let at-backslash = c.before.before.before in
     record {
-      is = simp (at-backslash.if-t-at-ne92.false, c.before.before.if-quoted.false, ne_eqb _ _ (λ z. c.if-byte_at-eq34.false (c.before.byte_at.ensures ∙ z)));
+      is = simp (at-backslash.if-t-at-ne92.false, c.if-quoted.false, ne_eqb _ _ (λ z. c.if-byte_at-eq34.false (c.byte_at.ensures ∙ z)));
       from = omega arith;
       near = omega arith;
       within = search rules;

@@ -12,11 +12,11 @@ use Rattle.template_nodes.proofs.element_after.Statement.{statement}
 use Rattle.template_nodes.proofs.element_after.Tie as tie
 
 abbrev at-start : tie.In-Pattern → tie.Start
-at-start c = c.before.before.before.before.before
+at-start c = c.before.before.before
 
 -- what the search found
-found : (c : tie.In-Pattern) → pattern_at (at-start c).args.t.now (at-start c).args.at ≡ Pattern c.before.number-1.given.0.0 c.before.number-1.given.0.1.0
-found c = sym c.before.before.before.fmt_index_search.ensures ∙ c.before.number-1.given.1
+found : (c : tie.In-Pattern) → pattern_at (at-start c).args.t.now (at-start c).args.at ≡ Pattern c.in-Pattern.number c.in-Pattern.len
+found c = sym c.fmt_index_search.ensures ∙ c.in-Pattern.is
 
 -- its number is in the table, and its name has one to five bytes
 named-requires : tie.Need-named-requires
@@ -34,10 +34,10 @@ returns c =
 -- none
 returns-2 : tie.Need-returns-in-Nothing
 returns-2 c =
-    let after-search = c.before.before.before in
+    let after-search = c.before.before in
     let next-is = ap (λ (e : Element). e.next) c.no_pattern.ensures in
     record {
-      is = rw (sym after-search.fmt_index_search.ensures ∙ c.before.enum_told-1.given.1) c.no_pattern.ensures;
+      is = rw (sym after-search.fmt_index_search.ensures ∙ c.in-Nothing.is) c.no_pattern.ensures;
       from = omega (arith, next-is);
       on = λ q. absurd (false≢true (sym (ap (λ (e : Element). e.found) c.no_pattern.ensures) ∙ q));
     }

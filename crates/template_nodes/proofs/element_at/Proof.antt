@@ -14,7 +14,7 @@ returns : tie.Need-returns-then-quoted
 returns c =
     let next-is = ap (λ (e : Element). e.next) c.no_pattern.ensures in
     record {
-      is = rw c.before.if-quoted.true c.no_pattern.ensures;
+      is = rw c.if-quoted.true c.no_pattern.ensures;
       from = omega (arith, next-is);
       on = λ q. absurd (false≢true (sym (ap (λ (e : Element). e.found) c.no_pattern.ensures) ∙ q));
     }
@@ -23,12 +23,12 @@ returns c =
 returns-2 : tie.Need-returns-then-start-t
 returns-2 c =
     let after-start = c.before.before in
-    let prefix = after-start.before.fmt_suffix_search-prefix in
-    let outside = after-start.before.before.if-quoted.false in
+    let prefix = after-start.fmt_suffix_search-prefix in
+    let outside = after-start.if-quoted.false in
     let start_is = after-start.past_affix-start.ensures in
     let made = c.element_after.ensures in
     record {
-      is = rw (outside, ← prefix.ensures, ← start_is, lt-ltb _ _ c.before.if-start-t.true) made.is;
+      is = rw (outside, ← prefix.ensures, ← start_is, lt-ltb _ _ c.if-start-t.true) made.is;
       from = omega (arith, made.from, start_is);
       on = λ q. omega (arith, made.on q, start_is);
     }
@@ -37,12 +37,12 @@ returns-2 c =
 returns-3 : tie.Need-returns
 returns-3 c =
     let after-start = c.before.before in
-    let prefix = after-start.before.fmt_suffix_search-prefix in
-    let outside = after-start.before.before.if-quoted.false in
+    let prefix = after-start.fmt_suffix_search-prefix in
+    let outside = after-start.if-quoted.false in
     let start_is = after-start.past_affix-start.ensures in
     let next-is = ap (λ (e : Element). e.next) c.no_pattern-2.ensures in
     record {
-      is = rw (outside, ← prefix.ensures, ← start_is, le-ltb _ _ c.before.if-start-t.false) c.no_pattern-2.ensures;
+      is = rw (outside, ← prefix.ensures, ← start_is, le-ltb _ _ c.if-start-t.false) c.no_pattern-2.ensures;
       from = omega (arith, next-is, start_is);
       on = λ q. absurd (false≢true (sym (ap (λ (e : Element). e.found) c.no_pattern-2.ensures) ∙ q));
     }

@@ -6,19 +6,19 @@ use Rattle.template_nodes.proofs.is_quoted_char.Tie as tie
 
 -- outside quotes
 returns : tie.Need-returns-then-not-quoted
-returns c = let args = c.before.args in rw (not-true args.quoted c.if-not-quoted.true)
+returns c = let args = c.args in rw (not-true args.quoted c.if-not-quoted.true)
 
 -- the quote that ends them
 returns-2 : tie.Need-returns-then-t-at-eq34
 returns-2 c =
     let in-quotes = c.before.before in
-    rw (not-false in-quotes.before.args.quoted in-quotes.if-not-quoted.false, eq-eqb _ 34 c.if-t-at-eq34.true)
+    rw (not-false in-quotes.args.quoted in-quotes.if-not-quoted.false, eq-eqb _ 34 c.if-t-at-eq34.true)
 
 -- any other byte in quotes
 returns-3 : tie.Need-returns
 returns-3 c =
     let in-quotes = c.before.before.before in
-    rw (not-false in-quotes.before.args.quoted in-quotes.if-not-quoted.false, ne_eqb _ 34 c.before.if-t-at-eq34.false)
+    rw (not-false in-quotes.args.quoted in-quotes.if-not-quoted.false, ne_eqb _ 34 c.if-t-at-eq34.false)
 
 pub is_quoted_char_spec : {M : Type 1} → statement M
 is_quoted_char_spec =

@@ -12,10 +12,10 @@ use Rattle.template_nodes.proofs.literal_step.Tie as tie
 -- a quote
 returns : tie.Need-returns-then-t-at-eq34
 returns c =
-    let args = c.before.before.before.before.args in
+    let args = c.args in
     let next-is = ap (λ (s : Step). s.next) c.skipped.ensures in
     record {
-      is = c.skipped.ensures ∙ sym (at-quote args.accents args.t.now args.at args.quoted c.before.if-t-at-eq34.true);
+      is = c.skipped.ensures ∙ sym (at-quote args.accents args.t.now args.at args.quoted c.if-t-at-eq34.true);
       on = omega arith;
     }
 
@@ -24,13 +24,13 @@ returns-2 : tie.Need-returns
 returns-2 c =
     let after-kind = c.before in
     let after-place = after-kind.before.before in
-    let args = after-place.before.before.before.before.args in
+    let args = after-place.args in
     let step = c.char_at.ensures in
     let placed = after-place.char_place-place.ensures in
     record {
       is =
           step.is ∙ ap (λ (k : ℕ). char_at args.accents args.t.now after-place.char_place-place.result k args.quoted) after-kind.literal_kind.ensures
-          ∙ sym (at_literal args.accents args.t.now args.at args.quoted after-place.before.if-t-at-eq34.false after-place.char_place-place.result placed.is);
+          ∙ sym (at_literal args.accents args.t.now args.at args.quoted after-place.if-t-at-eq34.false after-place.char_place-place.result placed.is);
       on = omega (arith, step.on, placed.from);
     }
 
@@ -43,7 +43,7 @@ literal_step_spec =
     (λ c κs. search rules)
     returns
     (λ c κs. search rules)
-    (λ c. c.before.char_place-place.ensures.within)
+    (λ c. c.char_place-place.ensures.within)
     (λ c κs. search rules)
-    (λ c κs. (c.before.before.char_place-place.ensures.within, search rules))
+    (λ c κs. (c.char_place-place.ensures.within, search rules))
     returns-2)

@@ -7,7 +7,7 @@ use Rattle.template_nodes.proofs.named.Tie as tie
 
 returns : tie.Need-returns
 returns c =
-    let suffix = c.before.fmt_suffix_search-suffix in
+    let suffix = c.fmt_suffix_search-suffix in
     let next-is = c.past_affix.ensures in
     record { is = rw (next-is, suffix.ensures); from = omega (arith, next-is); on = λ q. omega (arith, next-is) }
 

@@ -13,9 +13,9 @@ use Rattle.template_nodes.proofs.node_at.Tie as tie
 
 -- the high byte of the length
 abbrev at_high : tie.After-shared_slice_known-then-i-c-1 → ℕ
-at_high c = 6 * c.before.before.before.args.i + 1
+at_high c = 6 * c.args.i + 1
 
-high : (c : tie.After-shared_slice_known-then-i-c-1) → get_or c.before.before.before.args.c.now (at_high c) 0 < 256
+high : (c : tie.After-shared_slice_known-then-i-c-1) → get_or c.args.c.now (at_high c) 0 < 256
 high c = omega (arith, c.shared_slice_known-then-i-c-1.given (at_high c))
 
 -- it fits 16 bits, and so do its product with 256 and the sum with the low byte
@@ -26,8 +26,8 @@ mul-t13 : tie.Need-overflow_mul-result
 mul-t13 c = omega (arith, high c)
 
 -- the low byte
-low : (c : tie.After-shared_slice_known-then-i-c-2-1) → let args = c.before.before.before.before.args in get_or args.c.now (6 * args.i + 2) 0 < 256
-low c = omega (arith, c.shared_slice_known-then-i-c-2-1.given (6 * c.before.before.before.before.args.i + 2))
+low : (c : tie.After-shared_slice_known-then-i-c-2-1) → let args = c.args in get_or args.c.now (6 * args.i + 2) 0 < 256
+low c = omega (arith, c.shared_slice_known-then-i-c-2-1.given (6 * c.args.i + 2))
 
 cast-t17 : tie.Need-overflow_cast-result-then-i-c
 cast-t17 c = omega (arith, low c)
@@ -39,12 +39,12 @@ add-t18 c = omega (arith, high c.before, low c)
 returns : tie.Need-returns-then-i-c
 returns c =
     let at_test = c.before.before.before.before.before.before.before in
-    node_in _ at_test.before.args.i at_test.if-i-c.true
+    node_in _ at_test.args.i at_test.if-i-c.true
 
 -- past the last node
 returns-2 : tie.Need-returns
 returns-2 c =
-    let bytes = c.before.args.c.now in
+    let bytes = c.args.c.now in
     sym (get_or-eq_default (nodes_in bytes) end_node (omega (arith, nodes-length bytes, c.if-i-c.false)))
 
 pub node_at_spec : {M : Type 1} → statement M

@@ -27,27 +27,27 @@ loop-holds c = (omega arith, omega arith, refl, begun _ _ _)
 
 -- a plain character in quotes: there is room for one node more
 put-literal-requires : tie.Need-put_literal-requires invariant-loop decreases-loop
-put-literal-requires c κs = (omega arith, omega arith, omega (arith, c.before.measure_usual-len.ensures.within))
+put-literal-requires c κs = (omega arith, omega arith, omega (arith, c.measure_usual-len.ensures.within))
 
 loop-less : tie.Need-loop-at-smaller-then-is_quoted_char invariant-loop decreases-loop
-loop-less c = omega (arith, c.before.before.before.before.measure_usual-len.ensures.some)
+loop-less c = omega (arith, c.measure_usual-len.ensures.some)
 
 loop-again : tie.Need-loop-at-preserved-then-is_quoted_char invariant-loop decreases-loop
 loop-again c =
-    let put = c.before.before.put_literal.ensures in
+    let put = c.put_literal.ensures in
     let after-length = c.before.before.before.before in
     let at_test = after-length.before in
     let at-loop = at_test.before.before.before in
-    let args = at-loop.before.before.before.args in
+    let args = at-loop.args in
     let turn = at-loop.loop-at in
-    let plain = sym at_test.before.is_quoted_char.ensures ∙ at_test.if-is_quoted_char.true in
+    let plain = sym at_test.is_quoted_char.ensures ∙ at_test.if-is_quoted_char.true in
     let measured = after-length.measure_usual-len.ensures in
     let character-of : ℕ → Step = λ n. make (in_mode args.accents (literal character turn.at n)) (turn.at + n) true in (
       omega (arith, measured.some),
       omega arith,
       search rules,
       rw (put, ← in-quotes args.t.now turn.at turn.quoted plain)
-          (kept args.accents args.t.now args.out-1.now turn.n turn.at turn.quoted (character-of after-length.measure_usual-len.result)
+          (kept args.accents args.t.now args.out.now turn.n turn.at turn.quoted (character-of after-length.measure_usual-len.result)
           (ap character-of measured.is ∙ plain_step args.accents args.t.now turn.at turn.quoted plain) (search rules)
           (omega (arith, measured.some)) turn.invariant.3 (omega arith) refl),
     )
@@ -57,9 +57,9 @@ single-kind-requires : tie.Need-single_kind-requires invariant-loop decreases-lo
 single-kind-requires c κs =
     let at_test = c.before.before in
     let at-loop = at_test.before.before.before.before.before in
-    let args = at-loop.before.before.before.args in
+    let args = at-loop.args in
     let turn = at-loop.loop-at in
-    let told = sym at_test.before.is_single.ensures ∙ at_test.if-is_single.true in
+    let told = sym at_test.is_single.ensures ∙ at_test.if-is_single.true in
     (both (not turn.quoted) (is_single (byte_at args.t.now turn.at)) told).1
 
 put-literal-requires-2 : tie.Need-put_literal-requires-then-is_single invariant-loop decreases-loop
@@ -67,19 +67,19 @@ put-literal-requires-2 c κs = omega arith
 
 loop-again-2 : tie.Need-loop-at-preserved-then-is_single invariant-loop decreases-loop
 loop-again-2 c =
-    let put = c.before.before.put_literal-then-is_single.ensures in
-    let kind-is = c.before.before.before.single_kind.ensures in
+    let put = c.put_literal-then-is_single.ensures in
+    let kind-is = c.single_kind.ensures in
     let at_test = c.before.before.before.before.before.before in
     let at-loop = at_test.before.before.before.before.before in
-    let args = at-loop.before.before.before.args in
+    let args = at-loop.args in
     let turn = at-loop.loop-at in
-    let told = sym at_test.before.is_single.ensures ∙ at_test.if-is_single.true in
+    let told = sym at_test.is_single.ensures ∙ at_test.if-is_single.true in
     let step = make (in_mode args.accents (literal (kind_of (byte_at args.t.now turn.at)) turn.at 1)) (turn.at + 1) turn.quoted in (
       omega arith,
       omega arith,
       search rules,
       rw (put, kind-is)
-          (kept args.accents args.t.now args.out-1.now turn.n turn.at turn.quoted step
+          (kept args.accents args.t.now args.out.now turn.n turn.at turn.quoted step
           (single_step args.accents args.t.now turn.at (search rules) turn.quoted told) (search rules) (omega arith) turn.invariant.3
           (omega arith) refl),
     )
@@ -88,12 +88,12 @@ loop-again-2 c =
 loop-again-3 : tie.Need-loop-at-preserved-then-t-at-eq34 invariant-loop decreases-loop
 loop-again-3 c =
     let at-loop = c.before.before.before.before.before.before.before in
-    let args = at-loop.before.before.before.args in
+    let args = at-loop.args in
     let turn = at-loop.loop-at in (
       omega arith,
       search rules,
       search rules,
-      passed args.accents args.t.now args.out-1.now turn.n turn.at turn.quoted (skip (turn.at + 1) (not turn.quoted))
+      passed args.accents args.t.now args.out.now turn.n turn.at turn.quoted (skip (turn.at + 1) (not turn.quoted))
           (quote-step args.accents args.t.now turn.at (search rules) turn.quoted c.if-t-at-eq34.true) (search rules) (omega arith) turn.invariant.3 refl,
     )
 
@@ -103,79 +103,79 @@ put-bytes-requires c κs = omega arith
 
 loop-less-4 : tie.Need-loop-at-smaller-then-e invariant-loop decreases-loop
 loop-less-4 c =
-    let inside = c.before.before.before.before.before.before.before.before.before.before.before.before.before.loop-at-test.true in
-    omega (arith, inside, c.before.before.before.before.before.before.element_at-e.ensures.on c.before.before.before.before.before.if-e.true)
+    let inside = c.loop-at-test.true in
+    omega (arith, inside, c.element_at-e.ensures.on c.if-e.true)
 
 loop-again-4 : tie.Need-loop-at-preserved-then-e invariant-loop decreases-loop
 loop-again-4 c =
-    let put = c.before.before.put_bytes.ensures in
-    let last = c.before.before.before.before.last_byte-last.ensures in
+    let put = c.put_bytes.ensures in
+    let last = c.last_byte-last.ensures in
     let at-found = c.before.before.before.before.before in
-    let element = at-found.before.element_at-e in
+    let element = at-found.element_at-e in
     let on = element.ensures.on at-found.if-e.true in
-    let inside = at-found.before.before.before.before.before.before.before.before.loop-at-test.true in
+    let inside = at-found.loop-at-test.true in
     let at-loop = at-found.before.before.before.before.before.before.before.before.before in
-    let args = at-loop.before.before.before.args in
+    let args = at-loop.args in
     let turn = at-loop.loop-at in (
       omega (arith, on),
       omega (arith, inside),
       search rules,
       rw (put, last)
-          (kept args.accents args.t.now args.out-1.now turn.n turn.at turn.quoted (pattern_step args.accents turn.quoted element.result)
+          (kept args.accents args.t.now args.out.now turn.n turn.at turn.quoted (pattern_step args.accents turn.quoted element.result)
           (found-step args.accents args.t.now turn.at inside turn.quoted element.result element.ensures.is at-found.if-e.true) inside
           on turn.invariant.3 (omega (arith, inside)) refl),
     )
 
 -- no pattern: the step takes a byte at least
-rest-on : (c : tie.After-rest_step-s invariant-loop decreases-loop) → c.before.before.before.before.before.before.before.before.before.before.loop-at.at < c.rest_step-s.result.next
+rest-on : (c : tie.After-rest_step-s invariant-loop decreases-loop) → c.loop-at.at < c.rest_step-s.result.next
 rest-on c =
-    let element = c.before.before.element_at-e in
+    let element = c.element_at-e in
     let rest = c.rest_step-s.ensures in
     let at-loop = c.before.before.before.before.before.before.before.before.before.before in
-    let args = at-loop.before.before.before.args in
-    goes_on (length args.t.now) at-loop.loop-at.at element.result.next c.rest_step-s.result.next c.before.before.before.before.before.before.before.before.before.loop-at-test.true element.ensures.from rest.from rest.on
+    let args = at-loop.args in
+    goes_on (length args.t.now) at-loop.loop-at.at element.result.next c.rest_step-s.result.next c.loop-at-test.true element.ensures.from rest.from rest.on
 
 -- and it is the step of the definitions
-rest-is : (c : tie.After-rest_step-s invariant-loop decreases-loop) → let at-loop = c.before.before.before.before.before.before.before.before.before.before in let args = at-loop.before.before.before.args in
+rest-is : (c : tie.After-rest_step-s invariant-loop decreases-loop) → let at-loop = c.before.before.before.before.before.before.before.before.before.before in let args = at-loop.args in
     c.rest_step-s.result ≡ step_at args.accents args.t.now at-loop.loop-at.at at-loop.loop-at.quoted
 rest-is c =
-    let element = c.before.before.element_at-e in
+    let element = c.element_at-e in
     let at-loop = c.before.before.before.before.before.before.before.before.before.before in
-    let args = at-loop.before.before.before.args in
+    let args = at-loop.args in
     c.rest_step-s.ensures.is
-    ∙ rest-step args.accents args.t.now at-loop.loop-at.at c.before.before.before.before.before.before.before.before.before.loop-at-test.true at-loop.loop-at.quoted element.result element.ensures.is c.before.if-e.false
+    ∙ rest-step args.accents args.t.now at-loop.loop-at.at c.loop-at-test.true at-loop.loop-at.quoted element.result element.ensures.is c.if-e.false
 
 put-made-requires : tie.Need-put_made-n-requires invariant-loop decreases-loop
 put-made-requires c κs =
-    let inside = c.before.before.before.before.before.before.before.before.before.before.loop-at-test.true in
-    let turn = c.before.before.before.before.before.before.before.before.before.before.before.loop-at in
-    (omega (arith, inside, turn.invariant.0, turn.invariant.2, c.before.before.before.before.before.before.before.before.before.before.before.before.before.before.requires), turn.invariant.1)
+    let inside = c.loop-at-test.true in
+    let turn = c.loop-at in
+    (omega (arith, inside, turn.invariant.0, turn.invariant.2, c.requires), turn.invariant.1)
 
 loop-less-5 : tie.Need-loop-at-smaller invariant-loop decreases-loop
-loop-less-5 c = let inside = c.before.before.before.before.before.before.before.before.before.before.before.before.before.loop-at-test.true in omega (arith, inside, rest-on c.before.before.before.before)
+loop-less-5 c = let inside = c.loop-at-test.true in omega (arith, inside, rest-on c.before.before.before.before)
 
 loop-again-5 : tie.Need-loop-at-preserved invariant-loop decreases-loop
 loop-again-5 c =
-    let put = c.before.before.put_made-n in
+    let put = c.put_made-n in
     let after-rest = c.before.before.before.before in
-    let inside = after-rest.before.before.before.before.before.before.before.before.before.loop-at-test.true in
+    let inside = after-rest.loop-at-test.true in
     let at-loop = after-rest.before.before.before.before.before.before.before.before.before.before in
     let start = at-loop.before.before.before in
     let args = start.args in
     let turn = at-loop.loop-at in
-    let one = put_one after-rest.rest_step-s.result turn.out-1 put.new.0 turn.n put.result put.ensures in (
+    let one = put_one after-rest.rest_step-s.result turn.out put.new.0 turn.n put.result put.ensures in (
       omega (arith, one, rest-on after-rest, turn.invariant.0),
       omega (arith, one, inside, turn.invariant.0, start.requires),
       search rules,
-      turned args.accents args.t.now args.out-1.now turn.n turn.at turn.quoted after-rest.rest_step-s.result (rest-is after-rest) inside
+      turned args.accents args.t.now args.out.now turn.n turn.at turn.quoted after-rest.rest_step-s.result (rest-is after-rest) inside
           (rest-on after-rest) turn.invariant.3 (omega (arith, inside, turn.invariant.0, start.requires)) put.new.0 put.result put.ensures,
     )
 
 same_length : tie.Need-shape_of-out invariant-loop decreases-loop
-same_length c = c.before.loop-at.invariant.2
+same_length c = c.loop-at.invariant.2
 
 returns : tie.Need-returns invariant-loop decreases-loop
-returns c = let turn = c.before.loop-at in ended _ _ _ _ _ _ _ turn.invariant.3 turn.invariant.1 (search rules)
+returns c = let turn = c.loop-at in ended _ _ _ _ _ _ _ turn.invariant.3 turn.invariant.1 (search rules)
 
 pub parse_format_spec : {M : Type 1} → statement M
 parse_format_spec =
@@ -188,7 +188,7 @@ parse_format_spec =
     (λ c κs. search rules)
     put-literal-requires
     (λ c. search rules)
-    (λ c. omega (arith, c.before.before.before.before.measure_usual-len.ensures.within))
+    (λ c. omega (arith, c.measure_usual-len.ensures.within))
     loop-less
     loop-again
     (λ c κs. search rules)

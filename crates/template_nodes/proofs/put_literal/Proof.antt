@@ -4,7 +4,7 @@ use Rattle.template_nodes.proofs.put_literal.Statement.{statement}
 use Rattle.template_nodes.proofs.put_literal.Tie as tie
 
 returns : tie.Need-returns
-returns c = rw (c.before.before.put_bytes.ensures, c.before.before.before.last_byte.ensures)
+returns c = rw (c.put_bytes.ensures, c.last_byte.ensures)
 
 pub put_literal_spec : {M : Type 1} → statement M
 put_literal_spec =

@@ -6,9 +6,9 @@ use Rattle.template_nodes.proofs.put_made.Tie as tie
 
 returns : tie.Need-returns-then-s
 returns c =
-    let made = c.before.before.before.before.before.before.if-s.true in
-    let last = c.before.before.before.before.last_byte-last.ensures in
-    record { is = rw (c.before.before.put_bytes.ensures, last, made); count = rw made }
+    let made = c.if-s.true in
+    let last = c.last_byte-last.ensures in
+    record { is = rw (c.put_bytes.ensures, last, made); count = rw made }
 
 returns-2 : tie.Need-returns
 returns-2 c = record { is = rw c.if-s.false; count = rw c.if-s.false }

@@ -11,13 +11,13 @@ use Rattle.template_nodes.proofs.rest_step.Tie as tie
 returns : tie.Need-returns-then-at-t
 returns c =
     let step = c.literal_step.ensures in
-    record { is = rw (lt-ltb _ _ c.before.if-at-t.true) step.is; from = omega (arith, step.on); on = λ h. step.on }
+    record { is = rw (lt-ltb _ _ c.if-at-t.true) step.is; from = omega (arith, step.on); on = λ h. step.on }
 
 -- the end
 returns-2 : tie.Need-returns
 returns-2 c =
     let next-is = ap (λ (s : Step). s.next) c.skipped.ensures in
-    let at-end = c.before.if-at-t.false in
+    let at-end = c.if-at-t.false in
     record { is = rw (le-ltb _ _ at-end) c.skipped.ensures; from = omega (arith, next-is); on = λ h. absurd (omega (arith, h, at-end)) }
 
 pub rest_step_spec : {M : Type 1} → statement M

@@ -7,11 +7,11 @@ use Rattle.template_patterns.proofs.five.Statement.{statement}
 use Rattle.template_patterns.proofs.five.Tie as tie
 
 -- the fifth is a byte
-fifth : (c : tie.After-shared_slice_known-6-1) → let args = c.before.before.before.before.before.before.before.args in get_or args.t.now (args.at + 4) 0 < 256
-fifth c = omega (arith, c.shared_slice_known-6-1.given (c.before.before.before.before.before.before.before.args.at + 4))
+fifth : (c : tie.After-shared_slice_known-6-1) → let args = c.args in get_or args.t.now (args.at + 4) 0 < 256
+fifth c = omega (arith, c.shared_slice_known-6-1.given (c.args.at + 4))
 
 returns : tie.Need-returns
-returns c = record { is = omega (arith, c.before.four.ensures); bytes = λ i. omega (arith, c.shared_slice_known-6-1.given i) }
+returns c = record { is = omega (arith, c.four.ensures); bytes = λ i. omega (arith, c.shared_slice_known-6-1.given i) }
 
 pub five_spec : {M : Type 1} → statement M
 five_spec =

@@ -24,15 +24,15 @@ decreases-loop t at k₀ key k = 112 - k
 -- no name begins with the byte
 returns : tie.Need-returns-then-k-eq112 invariant-loop decreases-loop
 returns c =
-    let args = c.before.before.before.before.args in
-    let from_start = begins args.t.now args.at c.before.first_of-k.result c.before.first_of-k.ensures in
+    let args = c.args in
+    let from_start = begins args.t.now args.at c.first_of-k.result c.first_of-k.ensures in
     sym (rw c.if-k-eq112.true at from_start.1)
 
 -- the search begins at the first name that begins with the byte
 loop-holds : tie.Need-loop-k-init invariant-loop decreases-loop
 loop-holds c =
     let after_first = c.before.before in
-    let args = after_first.before.before.before.args in
+    let args = after_first.args in
     let from_start = begins args.t.now args.at after_first.first_of-k.result after_first.first_of-k.ensures in
     (search rules, from_start.0, from_start.1)
 
@@ -41,11 +41,11 @@ returns-2 : tie.Need-returns-then-name-key invariant-loop decreases-loop
 returns-2 c =
     let at-loop = c.before.before.before in
     let k = at-loop.loop-k.k in
-    let key = at-loop.before.key_at-key.ensures in
+    let key = at-loop.key_at-key.ensures in
     let after_first = at-loop.before.before.before in
-    let args = after_first.before.before.before.args in
-    let in_table = c.before.before.loop-k-test.true in
-    let same_first = c.before.name_of-name.ensures in
+    let args = after_first.args in
+    let in_table = c.loop-k-test.true in
+    let same_first = c.name_of-name.ensures in
     let name-first = rw (← same_first) at (number-parts k in_table).first in
     let key-begins-with = rw (← key.is) at (key-first args.t.now key.bytes args.at) in
     sym (at-loop.loop-k.invariant.2
@@ -55,9 +55,9 @@ returns-2 c =
 -- a name has at most 40 bits
 begins-requires : tie.Need-begins-requires invariant-loop decreases-loop
 begins-requires c κs =
-    let in_table = c.before.before.loop-k-test.true in
-    let k = c.before.before.before.loop-k.k in
-    let name-is = c.before.name_of-name.ensures in
+    let in_table = c.loop-k-test.true in
+    let k = c.loop-k.k in
+    let name-is = c.name_of-name.ensures in
     let bits = rw (← name-is) at (number-parts k in_table).bits in
     omega (arith, bits, name-length k in_table)
 
@@ -66,12 +66,12 @@ returns-3 : tie.Need-returns-then-begins invariant-loop decreases-loop
 returns-3 c =
     let at-loop = c.before.before.before.before.before in
     let k = at-loop.loop-k.k in
-    let key = at-loop.before.key_at-key.ensures in
-    let args = at-loop.before.before.before.before.before.before.args in
-    let in_table = c.before.before.before.before.loop-k-test.true in
-    let name-is = c.before.before.before.name_of-name.ensures in
+    let key = at-loop.key_at-key.ensures in
+    let args = at-loop.args in
+    let in_table = c.loop-k-test.true in
+    let name-is = c.name_of-name.ensures in
     let told = key-begins args.t.now key.bytes args.at k in_table in
-    let is-there = sym told ∙ sym (rw (← key.is, ← name-is) c.before.begins.ensures) ∙ c.if-begins.true in
+    let is-there = sym told ∙ sym (rw (← key.is, ← name-is) c.begins.ensures) ∙ c.if-begins.true in
     ap (Pattern k) (rw (← name-is) at (number-parts k in_table).size) ∙ sym (at-loop.loop-k.invariant.2 ∙ found args.t.now args.at k in_table is-there)
 
 -- name k is not there
@@ -79,18 +79,18 @@ loop-again : tie.Need-loop-k-preserved invariant-loop decreases-loop
 loop-again c =
     let at-loop = c.before.before.before.before.before in
     let k = at-loop.loop-k.k in
-    let key = at-loop.before.key_at-key.ensures in
-    let args = at-loop.before.before.before.before.before.before.args in
-    let in_table = c.before.before.before.before.loop-k-test.true in
-    let name-is = c.before.before.before.name_of-name.ensures in
+    let key = at-loop.key_at-key.ensures in
+    let args = at-loop.args in
+    let in_table = c.loop-k-test.true in
+    let name-is = c.name_of-name.ensures in
     let told = key-begins args.t.now key.bytes args.at k in_table in
-    let not_there = sym told ∙ sym (rw (← key.is, ← name-is) c.before.begins.ensures) ∙ c.if-begins.false in
+    let not_there = sym told ∙ sym (rw (← key.is, ← name-is) c.begins.ensures) ∙ c.if-begins.false in
     (search rules, search rules, at-loop.loop-k.invariant.2 ∙ next args.t.now args.at k in_table not_there)
 
 -- no name is left
 returns-4 : tie.Need-returns invariant-loop decreases-loop
 returns-4 c =
-    let at-loop = c.before.loop-k in
+    let at-loop = c.loop-k in
     let at-end : at-loop.k ≡ 112 = omega arith in
     sym (rw at-end at at-loop.invariant.2)
 

@@ -10,28 +10,28 @@ use Rattle.template_patterns.proofs.fmt_suffix_search.Tie as tie
 -- past the end
 returns : tie.Need-returns-then-at-t
 returns c =
-    let args = c.before.before.args in
+    let args = c.args in
     sym (none-past args.prefix args.t.now args.at c.if-at-t.true)
 
 -- a byte that no affix begins with
 returns-2 : tie.Need-returns-then-a-lt70
 returns-2 c =
-    let args = c.before.before.before.before.args in
+    let args = c.args in
     sym (none_below args.prefix args.t.now args.at c.if-a-lt70.true)
 
 -- a prefix is wanted
 returns-3 : tie.Need-returns-then-prefix
 returns-3 c =
     let after-byte = c.before.before in
-    let args = after-byte.before.before.before.before.before.args in
-    rw (c.before.if-prefix.true, by-letters true args.t.now args.at, ← after-byte.byte_at-b.ensures) c.prefix_bit.ensures
+    let args = after-byte.args in
+    rw (c.if-prefix.true, by-letters true args.t.now args.at, ← after-byte.byte_at-b.ensures) c.prefix_bit.ensures
 
 -- a suffix is wanted
 returns-4 : tie.Need-returns
 returns-4 c =
     let after-byte = c.before.before in
-    let args = after-byte.before.before.before.before.before.args in
-    rw (c.before.if-prefix.false, by-letters false args.t.now args.at, ← after-byte.byte_at-b.ensures) c.suffix_bit.ensures
+    let args = after-byte.args in
+    rw (c.if-prefix.false, by-letters false args.t.now args.at, ← after-byte.byte_at-b.ensures) c.suffix_bit.ensures
 
 pub fmt_suffix_search_spec : {M : Type 1} → statement M
 fmt_suffix_search_spec =

@@ -7,7 +7,7 @@ use Rattle.template_patterns.proofs.is_digit.Statement.{statement}
 use Rattle.template_patterns.proofs.is_digit.Tie as tie
 
 returns : tie.Need-returns
-returns c = c.in_set.ensures ∙ digits c.before.args.k
+returns c = c.in_set.ensures ∙ digits c.args.k
 
 pub is_digit_spec : {M : Type 1} → statement M
 is_digit_spec = tie.close (tie.spec (λ c κs. search rules) returns)

@@ -7,19 +7,19 @@ use Rattle.template_patterns.proofs.last_four.Statement.{statement}
 use Rattle.template_patterns.proofs.last_four.Tie as tie
 
 -- the first is a byte
-first : (c : tie.After-shared_slice_known-2-1) → let args = c.before.before.before.before.before.args in get_or args.t.now args.at 0 < 256
-first c = omega (arith, c.shared_slice_known-2-1.given c.before.before.before.before.before.args.at)
+first : (c : tie.After-shared_slice_known-2-1) → let args = c.args in get_or args.t.now args.at 0 < 256
+first c = omega (arith, c.shared_slice_known-2-1.given c.args.at)
 
 returns : tie.Need-returns
 returns c =
     let after-d = c.before.before in
     let after-c = after-d.before in
     let after-b = after-c.before in
-    let args = after-b.before.before.args in
+    let args = after-b.args in
     let past_end = get_or-eq_default args.t.now 0 {n = args.at + 4} (omega arith) in
     record {
       is = omega (arith, c.four.ensures, after-d.byte_at-d.ensures, after-c.byte_at-c.ensures, after-b.byte_at-b.ensures, past_end);
-      bytes = λ i. omega (arith, c.before.shared_slice_known-2-1.given i);
+      bytes = λ i. omega (arith, c.shared_slice_known-2-1.given i);
     }
 
 pub last_four_spec : {M : Type 1} → statement M

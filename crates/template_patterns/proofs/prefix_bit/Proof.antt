@@ -11,10 +11,10 @@ unfolding bit_at
 prefix_bit_spec =
     tie.close
     (tie.spec
-    (λ c. simp (c.before.if-b-eq77.true, c.if-a-eq70.true))
-    (λ c. simp (c.before.before.if-b-eq77.true, c.if-a-eq84.true))
-    (λ c. simp (c.before.before.if-b-eq77.true, ne_eqb _ _ c.before.if-a-eq70.false, ne_eqb _ _ c.if-a-eq84.false, and-false))
-    (λ c. simp (c.before.if-b-eq109.true, c.if-a-eq102.true))
-    (λ c. simp (c.before.before.if-b-eq109.true, c.if-a-eq116.true))
-    (λ c. simp (c.before.before.if-b-eq109.true, ne_eqb _ _ c.before.if-a-eq102.false, ne_eqb _ _ c.if-a-eq116.false, and-false))
-    (λ c. simp (ne_eqb _ _ c.before.if-b-eq77.false, ne_eqb _ _ c.if-b-eq109.false, and-false)))
+    (λ c. simp (c.if-b-eq77.true, c.if-a-eq70.true))
+    (λ c. simp (c.if-b-eq77.true, c.if-a-eq84.true))
+    (λ c. simp (c.if-b-eq77.true, ne_eqb _ _ c.if-a-eq70.false, ne_eqb _ _ c.if-a-eq84.false, and-false))
+    (λ c. simp (c.if-b-eq109.true, c.if-a-eq102.true))
+    (λ c. simp (c.if-b-eq109.true, c.if-a-eq116.true))
+    (λ c. simp (c.if-b-eq109.true, ne_eqb _ _ c.if-a-eq102.false, ne_eqb _ _ c.if-a-eq116.false, and-false))
+    (λ c. simp (ne_eqb _ _ c.if-b-eq77.false, ne_eqb _ _ c.if-b-eq109.false, and-false)))

@@ -12,10 +12,10 @@ unfolding bit_at
 suffix_bit_spec =
     tie.close
     (tie.spec
-    (λ c. simp (c.before.if-b-eq72.true, c.if-a-eq84.true))
-    (λ c. simp (c.before.if-b-eq72.true, ne_eqb _ _ c.if-a-eq84.false, and-false))
-    (λ c. simp (c.before.if-b-eq104.true, c.if-a-eq116.true))
-    (λ c. simp (c.before.if-b-eq104.true, ne_eqb _ _ c.if-a-eq116.false, and-false))
-    (λ c. simp (c.before.if-b-eq80.true, c.if-a-eq83.true))
-    (λ c. simp (c.before.if-b-eq80.true, ne_eqb _ _ c.if-a-eq83.false, and-false))
-    (λ c. simp (ne_eqb _ _ c.before.before.if-b-eq72.false, ne_eqb _ _ c.before.if-b-eq104.false, ne_eqb _ _ c.if-b-eq80.false, and-false)))
+    (λ c. simp (c.if-b-eq72.true, c.if-a-eq84.true))
+    (λ c. simp (c.if-b-eq72.true, ne_eqb _ _ c.if-a-eq84.false, and-false))
+    (λ c. simp (c.if-b-eq104.true, c.if-a-eq116.true))
+    (λ c. simp (c.if-b-eq104.true, ne_eqb _ _ c.if-a-eq116.false, and-false))
+    (λ c. simp (c.if-b-eq80.true, c.if-a-eq83.true))
+    (λ c. simp (c.if-b-eq80.true, ne_eqb _ _ c.if-a-eq83.false, and-false))
+    (λ c. simp (ne_eqb _ _ c.if-b-eq72.false, ne_eqb _ _ c.if-b-eq104.false, ne_eqb _ _ c.if-b-eq80.false, and-false)))

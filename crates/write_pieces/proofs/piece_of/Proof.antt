@@ -11,8 +11,8 @@ use Rattle.write_pieces.proofs.piece_of.Statement.{statement}
 use Rattle.write_pieces.proofs.piece_of.Tie as tie
 
 -- the entry that is read is the letter of the pattern's piece
-read : (c : tie.Else-pattern-ge112) → get_or c.before.args.table.now c.before.args.pattern 0 ≡ letter_of (piece_of c.before.args.pattern)
-read c = rw c.before.requires (letter_at _ (omega arith))
+read : (c : tie.Else-pattern-ge112) → get_or c.args.table.now c.args.pattern 0 ≡ letter_of (piece_of c.args.pattern)
+read c = rw c.requires (letter_at _ (omega arith))
 
 pub piece_of_spec : {M : Type 1} → statement M
 piece_of_spec =

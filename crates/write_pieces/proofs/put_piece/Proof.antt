@@ -19,14 +19,14 @@ use Rattle.write_pieces.proofs.put_piece.Statement.{statement}
 use Rattle.write_pieces.proofs.put_piece.Tie as tie
 
 -- what is put for a marker, without and with dots, is the piece's text
-plain-is : (c : tie.Then-piece-eq-MARKER) → let args = c.before.before.args in
+plain-is : (c : tie.Then-piece-eq-MARKER) → let args = c.args in
     marker_text args.case false (lt_z (read args.m.hour) (pos 12)) ≡ piece_text args.piece args.case args.m
 plain-is c =
     let at-start = c.before.before in
     let args = at-start.args in
     marker-put args.case args.m args.piece _ (morning args.m at-start.requires.1) c.if-piece-eq-MARKER.true
 
-dotted-is : (c : tie.Then-piece-eq-DOTTED_MARKER) → let args = c.before.before.before.args in
+dotted-is : (c : tie.Then-piece-eq-DOTTED_MARKER) → let args = c.args in
     marker_text args.case true (lt_z (read args.m.hour) (pos 12)) ≡ piece_text args.piece args.case args.m
 dotted-is c =
     let at-start = c.before.before.before in
@@ -34,14 +34,14 @@ dotted-is c =
     dotted-put args.case args.m args.piece _ (morning args.m at-start.requires.1) c.if-piece-eq-DOTTED_MARKER.true
 
 -- and for a name, full and short
-name-is : (c : tie.Then-piece-eq-MONTH_NAME) → let args = c.before.before.before.before.args in
+name-is : (c : tie.Then-piece-eq-MONTH_NAME) → let args = c.args in
     month_text args.case true (nat_abs (read args.m.month)) ≡ piece_text args.piece args.case args.m
 name-is c =
     let at-start = c.before.before.before.before in
     let args = at-start.args in
     name-put args.case args.m args.piece _ (named-month args.m at-start.requires.1).0 c.if-piece-eq-MONTH_NAME.true
 
-short-is : (c : tie.Then-piece-eq-SHORT_MONTH) → let args = c.before.before.before.before.before.args in
+short-is : (c : tie.Then-piece-eq-SHORT_MONTH) → let args = c.args in
     month_text args.case false (nat_abs (read args.m.month)) ≡ piece_text args.piece args.case args.m
 short-is c =
     let at-start = c.before.before.before.before.before in
@@ -49,16 +49,16 @@ short-is c =
     short-put args.case args.m args.piece _ (named-month args.m at-start.requires.1).0 c.if-piece-eq-SHORT_MONTH.true
 
 -- any other piece is a number
-number : (c : tie.Else-piece-eq-SHORT_MONTH) → c.before.before.before.before.before.args.piece < 14
+number : (c : tie.Else-piece-eq-SHORT_MONTH) → c.args.piece < 14
 number c =
     let at-start = c.before.before.before.before.before in
-    omega (arith, at-start.requires.0, c.if-piece-eq-SHORT_MONTH.false, c.before.if-piece-eq-MONTH_NAME.false, c.before.before.if-piece-eq-DOTTED_MARKER.false, c.before.before.before.if-piece-eq-MARKER.false)
+    omega (arith, at-start.requires.0, c.if-piece-eq-SHORT_MONTH.false, c.if-piece-eq-MONTH_NAME.false, c.if-piece-eq-DOTTED_MARKER.false, c.if-piece-eq-MARKER.false)
 
 -- there is room for a marker without dots, and it is put
 put-marker-requires : tie.Need-put_marker-requires
 put-marker-requires c κs =
     let at_test = c.before.before.before in
-    omega (arith, ap length (plain-is at_test), at_test.before.before.requires.2)
+    omega (arith, ap length (plain-is at_test), at_test.requires.2)
 
 returns : tie.Need-returns-then-piece-eq-MARKER
 returns c =
@@ -69,7 +69,7 @@ returns c =
 put-marker-requires-2 : tie.Need-put_marker-requires-then-piece-eq-DOTTED_MARKER
 put-marker-requires-2 c κs =
     let at_test = c.before.before.before in
-    omega (arith, ap length (dotted-is at_test), at_test.before.before.before.requires.2)
+    omega (arith, ap length (dotted-is at_test), at_test.requires.2)
 
 returns-2 : tie.Need-returns-then-piece-eq-DOTTED_MARKER
 returns-2 c =
@@ -109,7 +109,7 @@ put-number-requires c κs =
     let at_test = after-width.before.before in
     let at-start = at_test.before.before.before.before.before in
     let args = at-start.args in
-    let size = piece-size args.case args.m args.piece at-start.requires.1 at-start.requires.0 at_test.before.if-piece-eq-MONTH_NAME.false in
+    let size = piece-size args.case args.m args.piece at-start.requires.1 at-start.requires.0 at_test.if-piece-eq-MONTH_NAME.false in
     omega (arith, after-width.width_of_lem.ensures, size, at-start.requires.2)
 
 returns-5 : tie.Need-returns
@@ -118,7 +118,7 @@ returns-5 c =
     let after-width = after-put.before.before in
     let after-number = after-width.before in
     let at_test = after-number.before in
-    let args = at_test.before.before.before.before.before.args in
+    let args = at_test.args in
     put_same
     (number_put args.case args.m args.piece (number at_test) _ _ after-width.width_of_lem.ensures after-number.number_of_lem.ensures)
     after-put.put_number.ensures

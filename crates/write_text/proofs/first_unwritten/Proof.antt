@@ -26,11 +26,11 @@ returns c =
     let after-is-written = at_test.before in
     let after-node = after-is-written.before in
     let at-loop = after-node.before.before in
-    let ns = nodes_in at-loop.before.before.args.c.now in
-    let unwritten = rw after-node.Node-at.ensures at (sym after-is-written.is_written.ensures ∙ not-true _ at_test.if-not-is_written.true) in
+    let ns = nodes_in at-loop.args.c.now in
+    let unwritten = rw after-node.node_at-n.ensures at (sym after-is-written.is_written.ensures ∙ not-true _ at_test.if-not-is_written.true) in
     c.named.ensures
-    ∙ ap (λ (x : Node). named x.pattern) after-node.Node-at.ensures
-    ∙ sym (unwritten-here ns at-loop.loop-i.i (node-left _ _ after-node.before.loop-i-test.true) unwritten)
+    ∙ ap (λ (x : Node). named x.pattern) after-node.node_at-n.ensures
+    ∙ sym (unwritten-here ns at-loop.loop-i.i (node-left _ _ after-node.loop-i-test.true) unwritten)
     ∙ at-loop.loop-i.invariant.1
 
 -- the node here is written
@@ -39,10 +39,10 @@ loop-again c =
     let after-is-written = c.before in
     let after-node = after-is-written.before in
     let at-loop = after-node.before.before in
-    let ns = nodes_in at-loop.before.before.args.c.now in
-    let written = rw after-node.Node-at.ensures at (sym after-is-written.is_written.ensures ∙ not-false _ c.if-not-is_written.false) in (
-      omega (arith, after-node.before.loop-i-test.true),
-      sym (unwritten-next ns at-loop.loop-i.i (node-left _ _ after-node.before.loop-i-test.true) written)
+    let ns = nodes_in at-loop.args.c.now in
+    let written = rw after-node.node_at-n.ensures at (sym after-is-written.is_written.ensures ∙ not-false _ c.if-not-is_written.false) in (
+      omega (arith, after-node.loop-i-test.true),
+      sym (unwritten-next ns at-loop.loop-i.i (node-left _ _ after-node.loop-i-test.true) written)
           ∙ at-loop.loop-i.invariant.1,
     )
 
@@ -50,7 +50,7 @@ loop-again c =
 returns-2 : tie.Need-returns invariant-loop decreases-loop
 returns-2 c =
     let at-loop = c.before in
-    let args = at-loop.before.before.args in
+    let args = at-loop.args in
     sym (unwritten-end (nodes_in args.c.now) at-loop.loop-i.i (none_left _ _ c.loop-i-test.false)) ∙ at-loop.loop-i.invariant.1
 
 pub first_unwritten_spec : {M : Type 1} → statement M

@@ -29,7 +29,7 @@ returns-2 : tie.Need-returns-then-piece-eq-NONE
 returns-2 c =
     let after-piece = c.before in
     let at_test = after-piece.before in
-    unknown at_test.before.before.args.n at_test.if-n-ne-FN_ACTION.false _ after-piece.piece_of-piece.ensures c.if-piece-eq-NONE.true
+    unknown at_test.args.n at_test.if-n-ne-FN_ACTION.false _ after-piece.piece_of-piece.ensures c.if-piece-eq-NONE.true
 
 -- a pattern that it knows: written with its piece's prefix
 returns-3 : tie.Need-returns
@@ -38,7 +38,7 @@ returns-3 c =
     let at-known = after-prefix.before in
     let after-piece = at-known.before in
     let at_test = after-piece.before in
-    known at_test.before.before.args.n at_test.if-n-ne-FN_ACTION.false _ after-piece.piece_of-piece.ensures at-known.if-piece-eq-NONE.false _ after-prefix.prefix_of.ensures
+    known at_test.args.n at_test.if-n-ne-FN_ACTION.false _ after-piece.piece_of-piece.ensures at-known.if-piece-eq-NONE.false _ after-prefix.prefix_of.ensures
 
 pub is_written_spec : {M : Type 1} → statement M
 is_written_spec =

@@ -9,21 +9,21 @@ use Rattle.write_text.proofs.literal_length.Tie as tie
 -- the literal begins past the template's end
 returns : tie.Need-returns-then-t-start
 returns c =
-    let args = c.before.before.before.args in
+    let args = c.args in
     let size = literal-size args.t.now args.n in
     (omega (arith, size), omega arith)
 
 -- the template ends within the literal
 returns-2 : tie.Need-returns-then-t-start-2
 returns-2 c =
-    let args = c.before.before.before.before.args in
+    let args = c.args in
     let size = literal-size args.t.now args.n in
     (omega (arith, size), omega arith)
 
 -- the template has all of the literal
 returns-3 : tie.Need-returns
 returns-3 c =
-    let args = c.before.before.before.before.args in
+    let args = c.args in
     let size = literal-size args.t.now args.n in
     (omega (arith, size), omega arith)
 

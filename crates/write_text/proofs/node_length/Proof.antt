@@ -21,7 +21,7 @@ returns : tie.Need-returns-then-n-eq-FN_ACTION
 returns c =
     let after-piece = c.before in
     let at_test = after-piece.before in
-    let args = at_test.before.before.before.args in
+    let args = at_test.args in
     let measured = c.piece_length.ensures in (
       action-size args.t.now args.m args.n at_test.if-n-eq-FN_ACTION.true _ after-piece.piece_of.ensures _ (measured.0 (case_of args.n.pattern)),
       omega (arith, measured.1),
@@ -31,7 +31,7 @@ returns c =
 returns-2 : tie.Need-returns
 returns-2 c =
     let at_test = c.before in
-    let args = at_test.before.before.before.args in
+    let args = at_test.args in
     let text = literal-text args.t.now args.m args.n at_test.if-n-eq-FN_ACTION.false in
     (c.literal_length.ensures.0 ∙ sym (ap length text), c.literal_length.ensures.1)
 

@@ -15,9 +15,9 @@ use Rattle.write_text.proofs.put_node.Statement.{statement}
 use Rattle.write_text.proofs.put_node.Tie as tie
 
 -- the text of a pattern is its piece's, in its case
-piece : (c : tie.Then-n-eq-FN_ACTION) → let args = c.before.before.before.before.args in
+piece : (c : tie.Then-n-eq-FN_ACTION) → let args = c.args in
     node_text args.t.now args.m args.n ≡ piece_text (piece_of args.n.pattern) (case_of args.n.pattern) args.m
-piece c = let args = c.before.before.before.before.args in action-text args.t.now args.m args.n c.if-n-eq-FN_ACTION.true
+piece c = let args = c.args in action-text args.t.now args.m args.n c.if-n-eq-FN_ACTION.true
 
 -- there is room for the piece
 put-piece-requires : tie.Need-put_piece-requires
@@ -37,21 +37,21 @@ returns c =
     rw (piece after-piece.before, ← after-piece.piece_of-piece.ensures, ← after-case.case_of.ensures) after-put.put_piece.ensures
 
 -- the text of a literal that the template has nothing of
-nothing : (c : tie.Then-len-eq0) → let args = c.before.before.before.before.before.before.args in
+nothing : (c : tie.Then-len-eq0) → let args = c.args in
     node_text args.t.now args.m args.n ≡ []
 nothing c =
     let after-length = c.before in
-    let args = after-length.before.before.before.before.before.args in
-    literal-text args.t.now args.m args.n after-length.before.if-n-eq-FN_ACTION.false
+    let args = after-length.args in
+    literal-text args.t.now args.m args.n after-length.if-n-eq-FN_ACTION.false
     ∙ no-literal args.t.now args.n _ after-length.literal_length-len.ensures.0 c.if-len-eq0.true
 
 -- the text of any other is a part of the template
-part : (c : tie.Else-len-eq0) → let after-length = c.before in let args = after-length.before.before.before.before.before.args in
+part : (c : tie.Else-len-eq0) → let after-length = c.before in let args = after-length.args in
     node_text args.t.now args.m args.n ≡ take (args.n.start + after-length.literal_length-len.result - args.n.start) (drop args.n.start args.t.now)
 part c =
     let after-length = c.before in
-    let args = after-length.before.before.before.before.before.args in
-    literal-text args.t.now args.m args.n after-length.before.if-n-eq-FN_ACTION.false
+    let args = after-length.args in
+    literal-text args.t.now args.m args.n after-length.if-n-eq-FN_ACTION.false
     ∙ sym (literal-part args.t.now args.n _ after-length.literal_length-len.ensures.0)
 
 -- a literal that the template has nothing of
@@ -59,18 +59,18 @@ returns-2 : tie.Need-returns-then-len-eq0
 returns-2 c = rw (nothing c) (put-nothing _ _)
 
 -- the part ends within the template
-part-put-bytes-end : tie.Need-slice-bounds-put-bytes-end
+part-put-bytes-end : tie.Need-slice_bounds-put_bytes-end
 part-put-bytes-end c =
     let at_test = c.before in
     let after-length = at_test.before in
-    let args = after-length.before.before.before.before.before.args in
+    let args = after-length.args in
     literal-end args.t.now args.n _ after-length.literal_length-len.ensures.0 at_test.if-len-eq0.false
 
 -- there is room for the literal
 put-bytes-requires : tie.Need-put_bytes-requires
 put-bytes-requires c κs =
     let at_test = c.before.before.before in
-    rw (part at_test) at at_test.before.before.before.before.before.before.requires.2
+    rw (part at_test) at at_test.requires.2
 
 -- a literal
 returns-3 : tie.Need-returns

@@ -29,9 +29,9 @@ put-node-requires c κs =
     let at-loop = after-node.before.before in
     let at-start = at-loop.before.before.before.before in
     let args = at-start.args in
-    let left = node-left _ _ after-node.before.loop-i-test.true in
+    let left = node-left _ _ after-node.loop-i-test.true in
     let room = room-here (nodes_in args.c.now) at-loop.loop-i.i left args.t.now args.m _ _ at-loop.loop-i.invariant.2 in
-    (at-start.requires.0, at-start.requires.1, rw after-node.Node-at.ensures (omega (arith, room, at-loop.loop-i.invariant.1)))
+    (at-start.requires.0, at-start.requires.1, rw after-node.node_at-n.ensures (omega (arith, room, at-loop.loop-i.invariant.1)))
 
 -- the node is put
 loop-again : tie.Need-loop-i-preserved invariant-loop decreases-loop
@@ -42,8 +42,8 @@ loop-again c =
     let at-start = at-loop.before.before.before.before in
     let args = at-start.args in
     let put = after-put.put_node-at.ensures in
-    let left = node-left _ _ after-node.before.loop-i-test.true in
-    let here = rw after-node.Node-at.ensures at put in
+    let left = node-left _ _ after-node.loop-i-test.true in
+    let here = rw after-node.node_at-n.ensures at put in
     let turn = put_next (nodes_in args.c.now) at-loop.loop-i.i left args.t.now args.m _ at-loop.loop-i.invariant.2 here in
     (omega arith, put-length put ∙ at-loop.loop-i.invariant.1, turn.0, turn.1 ∙ at-loop.loop-i.invariant.3)
 
@@ -51,7 +51,7 @@ loop-again c =
 returns : tie.Need-returns invariant-loop decreases-loop
 returns c =
     let at-loop = c.before in
-    let args = at-loop.before.before.before.before.args in
+    let args = at-loop.args in
     rw (text-end (nodes_in args.c.now) at-loop.loop-i.i (none_left _ _ c.loop-i-test.false) args.t.now args.m) at at-loop.loop-i.invariant.3
 
 pub put_nodes_spec : {M : Type 1} → statement M
@@ -66,5 +66,5 @@ put_nodes_spec =
     (λ c. search rules)
     (λ c. search rules)
     loop-again
-    (λ c. c.before.loop-i.invariant.1)
+    (λ c. c.loop-i.invariant.1)
     returns)

@@ -9,7 +9,7 @@ use Rattle.write_text.proofs.report_of.Statement.{statement}
 use Rattle.write_text.proofs.report_of.Tie as tie
 
 -- the figure is a number of 32 bits
-small : (c : tie.In-NoRoom) → Fits w32 c.before.why-in-NoRoom-1.given.0.0
+small : (c : tie.In-NoRoom) → Fits w32 c.in-NoRoom.needed
 small c = search rules
 
 pub report_of_spec : {M : Type 1} → statement M
@@ -28,8 +28,8 @@ report_of_spec =
     (λ c. search rules)
     (λ c. search rules)
     -- TooLong, NotUtf8, NotWritten, NoMoment, NoRoom
-    (λ c. rw c.before.enum_told-1.given.1 c.alone.ensures)
-    (λ c. rw c.before.enum_told-in-NotUtf8-1.given.1 c.alone-in-NotUtf8.ensures)
-    (λ c. rw c.before.before.why-1.given.1 c.at.ensures)
-    (λ c. rw c.before.enum_told-in-NoMoment-1.given.1 c.alone-in-NoMoment.ensures)
-    (λ c. rw (c.before.why-in-NoRoom-1.given.1, to_z_pos w64 {n = c.before.why-in-NoRoom-1.given.0.0} (omega (arith, small c)))))
+    (λ c. rw c.in-TooLong.is c.alone.ensures)
+    (λ c. rw c.in-NotUtf8.is c.alone-in-NotUtf8.ensures)
+    (λ c. rw c.in-NotWritten.is c.at.ensures)
+    (λ c. rw c.in-NoMoment.is c.alone-in-NoMoment.ensures)
+    (λ c. rw (c.in-NoRoom.is, to_z_pos w64 {n = c.in-NoRoom.needed} (omega (arith, small c)))))

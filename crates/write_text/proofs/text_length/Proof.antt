@@ -24,10 +24,10 @@ loop-again : tie.Need-loop-i-preserved invariant-loop decreases-loop
 loop-again c =
     let after-node = c.before in
     let at-loop = after-node.before.before in
-    let args = at-loop.before.before.before.args in
-    let taken = after-node.before.loop-i-test.true in
+    let args = at-loop.args in
+    let taken = after-node.loop-i-test.true in
     let left_is = size-next (nodes_in args.c.now) at-loop.loop-i.i (node-left _ _ taken) args.t.now args.m in
-    let here-is = rw after-node.Node-at.ensures at c.node_length-total.ensures.0 in
+    let here-is = rw after-node.node_at.ensures at c.node_length-total.ensures.0 in
     (omega (arith, taken), omega (arith, c.node_length-total.ensures.1), omega (arith, left_is, here-is, at-loop.loop-i.invariant.2))
 
 -- all nodes are measured; 256 nodes of 65,535 bytes at most are 16,776,960

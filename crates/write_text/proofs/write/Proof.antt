@@ -40,7 +40,7 @@ returns c = too_long _ _ _ _ (omega arith)
 -- the template is not UTF-8
 returns-2 : tie.Need-returns-then-not-is_utf8
 returns-2 c =
-    not-utf8 _ _ _ _ (short c.before.before) (sym c.before.is_utf8.ensures ∙ not-true _ c.if-not-is_utf8.true)
+    not-utf8 _ _ _ _ (short c.before.before) (sym c.is_utf8.ensures ∙ not-true _ c.if-not-is_utf8.true)
 
 -- within its limit a template has at most 256 bytes
 parse-format-requires : tie.Need-parse_format-end-requires
@@ -50,7 +50,7 @@ parse-format-requires c κs =
 
 -- the slice of the buffer is as long as the bytes of the nodes
 slice-aggregate-write-by : tie.Need-slice_bounds-write_by-end
-slice-aggregate-write-by c = sym (length-take-le _ _ (parsed-room c.before.before.parse_format-end.ensures))
+slice-aggregate-write-by c = sym (length-take-le _ _ (parsed-room c.parse_format-end.ensures))
 
 -- the answer by the template's nodes
 returns-3 : tie.Need-returns
@@ -60,8 +60,8 @@ returns-3 c =
     let after-utf8-test = after-parse.before.before in
     let within-limit = after-utf8-test.before.before in
     let args = (start within-limit).args in
-    by-nodes args.set args.t.now args.m args.out-1.now (short within-limit)
-    (sym after-utf8-test.before.is_utf8.ensures ∙ not-false _ after-utf8-test.if-not-is_utf8.false)
+    by-nodes args.set args.t.now args.m args.out.now (short within-limit)
+    (sym after-utf8-test.is_utf8.ensures ∙ not-false _ after-utf8-test.if-not-is_utf8.false)
     _ (few_bytes args.t.now (short within-limit) after-parse.parse_format-end.ensures) (parsed-nodes after-parse.parse_format-end.ensures (small-nodes false args.t.now))
     after_write.write_by.ensures
 

@@ -22,7 +22,7 @@ abbrev start : tie.After-first_unwritten-unwritten → tie.Start
 start after-search = (within-limit after-search).before.before.before.before.before
 
 -- the nodes are no more than a template has
-few : (c : tie.Else-nodes_limit-c) → length c.before.before.before.before.before.args.c.now ≤ nodes_limit c.before.before.before.before.before.args.set
+few : (c : tie.Else-nodes_limit-c) → length c.args.c.now ≤ nodes_limit c.args.set
 few c = omega arith
 
 abbrev all-written : tie.After-text_length-needed → tie.Else-unwritten-lt-ALL_WRITTEN
@@ -30,20 +30,20 @@ all-written after-length = after-length.before.before.before.before
 
 -- the numbers are a moment
 moment : (c : tie.Else-not-is_moment) → is_moment (start c.before.before.before).args.m ≡ true
-moment c = sym c.before.is_moment.ensures ∙ not-false _ c.if-not-is_moment.false
+moment c = sym c.is_moment.ensures ∙ not-false _ c.if-not-is_moment.false
 
 -- there are too many nodes
 returns : tie.Need-returns-then-nodes_limit-c
 returns c =
-    let args = c.before.before.before.before.before.args in
-    many args.set args.c.now args.t.now args.m args.out-1.now (omega arith)
+    let args = c.args in
+    many args.set args.c.now args.t.now args.m args.out.now (omega arith)
 
 -- a pattern is not written
 returns-2 : tie.Need-returns-then-unwritten-lt-ALL_WRITTEN
 returns-2 c =
     let after-search = c.before in
     let args = (start after-search).args in
-    not_written args.set args.c.now args.t.now args.m args.out-1.now (few (within-limit after-search))
+    not_written args.set args.c.now args.t.now args.m args.out.now (few (within-limit after-search))
     _ after-search.first_unwritten-unwritten.ensures c.if-unwritten-lt-ALL_WRITTEN.true
 
 -- the numbers are no moment
@@ -52,15 +52,15 @@ returns-3 c =
     let at-patterns = c.before.before in
     let after-search = at-patterns.before in
     let args = (start after-search).args in
-    no-moment args.set args.c.now args.t.now args.m args.out-1.now (few (within-limit after-search))
+    no-moment args.set args.c.now args.t.now args.m args.out.now (few (within-limit after-search))
     _ after-search.first_unwritten-unwritten.ensures at-patterns.if-unwritten-lt-ALL_WRITTEN.false
-    (sym c.before.is_moment.ensures ∙ not-true _ c.if-not-is_moment.true)
+    (sym c.is_moment.ensures ∙ not-true _ c.if-not-is_moment.true)
 
 -- the table is the definition's, the numbers are a moment, and the nodes are few
 text-length-requires : tie.Need-text_length-needed-requires
 text-length-requires c κs =
     let after-search = c.before.before.before.before in
-    (after-search.before.before.table-table.ensures, moment c.before, omega (arith, few (within-limit after-search), template-most (start after-search).args.set))
+    (after-search.table-table.ensures, moment c.before, omega (arith, few (within-limit after-search), template-most (start after-search).args.set))
 
 -- the buffer is shorter than the text
 returns-4 : tie.Need-returns-then-out-needed
@@ -69,7 +69,7 @@ returns-4 c =
     let at-patterns = all-written after-length in
     let after-search = at-patterns.before in
     let args = (start after-search).args in
-    no_room args.set args.c.now args.t.now args.m args.out-1.now (few (within-limit after-search))
+    no_room args.set args.c.now args.t.now args.m args.out.now (few (within-limit after-search))
     _ after-search.first_unwritten-unwritten.ensures at-patterns.if-unwritten-lt-ALL_WRITTEN.left
     (moment after-length.before.before) _ after-length.text_length-needed.ensures.0 c.if-out-needed.true
 
@@ -79,7 +79,7 @@ put-nodes-requires c κs =
     let at_room = c.before.before in
     let after-length = at_room.before in
     let after-search = (all-written after-length).before in
-    (after-search.before.before.table-table.ensures, moment after-length.before.before, omega (arith, after-length.text_length-needed.ensures.0, at_room.if-out-needed.false))
+    (after-search.table-table.ensures, moment after-length.before.before, omega (arith, after-length.text_length-needed.ensures.0, at_room.if-out-needed.false))
 
 -- the text is written
 returns-5 : tie.Need-returns
@@ -90,7 +90,7 @@ returns-5 c =
     let at-patterns = all-written after-length in
     let after-search = at-patterns.before in
     let args = (start after-search).args in
-    wrote args.set args.c.now args.t.now args.m args.out-1.now (few (within-limit after-search))
+    wrote args.set args.c.now args.t.now args.m args.out.now (few (within-limit after-search))
     _ after-search.first_unwritten-unwritten.ensures at-patterns.if-unwritten-lt-ALL_WRITTEN.left
     (moment after-length.before.before) _ after-length.text_length-needed.ensures.0 _ at_room.if-out-needed.false after-put.put_nodes.ensures
 

@@ -13,10 +13,10 @@ use Rattle.line_answers.proofs.answers.day.Statement.{statement}
 use Rattle.line_answers.proofs.answers.day.Tie as tie
 
 -- the answer is that of the exercise pages
-answer-is : (c : tie.After-to_date_text) → c.to_date_text.result ≡ date_of pages c.before.before.before.before.before.args.t.now c.before.before.before.before.before.args.s.now
-answer-is c = rw c.before.pages.ensures at c.to_date_text.ensures
+answer-is : (c : tie.After-to_date_text) → c.to_date_text.result ≡ date_of pages c.args.t.now c.args.s.now
+answer-is c = rw c.pages.ensures at c.to_date_text.ensures
 
-days-fit : (c : tie.In-Number) → SFits w32 c.before.days-1.given.0.0
+days-fit : (c : tie.In-Number) → SFits w32 c.in-Number.days
 days-fit c = search rules
 
 -- a day, an i32 that keeps its value as an i64
@@ -25,8 +25,8 @@ unfolding day_answer
 returns c =
     let after-put = c.before.before in
     let at-known = after-put.before.before in
-    let at-days = at-known.before in
-    answered-as (ap day_answer (sym at-days.days-1.given.1 ∙ answer-is at-days.before.before))
+    let at-days = at-known in
+    answered-as (ap day_answer (sym at-days.in-Number.is ∙ answer-is at-days.before))
     (simp (wide (days-fit at-known)) at after-put.put_value.ensures)
 
 -- a refusal
@@ -35,8 +35,8 @@ unfolding day_answer
 returns-2 c =
     let after-put = c.before.before in
     let after-report = after-put.before.before in
-    let at-refusal = after-report.before.before in
-    answered-as (ap report_text after-report.report_of.ensures ∙ ap day_answer (sym at-refusal.why-1.given.1 ∙ answer-is at-refusal.before.before))
+    let at-refusal = after-report.before in
+    answered-as (ap report_text after-report.report_of.ensures ∙ ap day_answer (sym at-refusal.in-Refused.is ∙ answer-is at-refusal.before))
     after-put.put_report.ensures
 
 pub day_spec : {M : Type 1} → statement M

@@ -13,17 +13,17 @@ use Rattle.line_answers.proofs.answers.instant.Statement.{statement}
 use Rattle.line_answers.proofs.answers.instant.Tie as tie
 
 -- the answer is that of the exercise pages
-answer-is : (c : tie.After-to_timestamp_text) → c.to_timestamp_text.result ≡ timestamp_of pages c.before.before.before.before.before.args.t.now c.before.before.before.before.before.args.s.now
-answer-is c = rw c.before.pages.ensures at c.to_timestamp_text.ensures
+answer-is : (c : tie.After-to_timestamp_text) → c.to_timestamp_text.result ≡ timestamp_of pages c.args.t.now c.args.s.now
+answer-is c = rw c.pages.ensures at c.to_timestamp_text.ensures
 
 -- an instant
 returns : tie.Need-returns-in-Micros
 unfolding instant_answer
 returns c =
     let after-put = c.before.before in
-    let at-micros = after-put.before.before.before in
-    let fits : SFits w64 at-micros.micros-1.given.0.0 = search rules in
-    answered-as (ap instant_answer (sym at-micros.micros-1.given.1 ∙ answer-is at-micros.before.before))
+    let at-micros = after-put.before.before in
+    let fits : SFits w64 at-micros.in-Micros.micros = search rules in
+    answered-as (ap instant_answer (sym at-micros.in-Micros.is ∙ answer-is at-micros.before))
     (simp (to_z-of_z fits) at after-put.put_value.ensures)
 
 -- a refusal
@@ -32,8 +32,8 @@ unfolding instant_answer
 returns-2 c =
     let after-put = c.before.before in
     let after-report = after-put.before.before in
-    let at-refusal = after-report.before.before in
-    answered-as (ap report_text after-report.report_of.ensures ∙ ap instant_answer (sym at-refusal.why-1.given.1 ∙ answer-is at-refusal.before.before))
+    let at-refusal = after-report.before in
+    answered-as (ap report_text after-report.report_of.ensures ∙ ap instant_answer (sym at-refusal.in-Refused.is ∙ answer-is at-refusal.before))
     after-put.put_report.ensures
 
 pub instant_spec : {M : Type 1} → statement M

@@ -10,16 +10,16 @@ use Rattle.line_answers.proofs.answers.parts.Statement.{statement}
 use Rattle.line_answers.proofs.answers.parts.Tie as tie
 
 -- the answer is that of the exercise pages
-answer-is : (c : tie.After-to_timestamp_parts) → c.to_timestamp_parts.result ≡ parts_of pages c.before.before.before.before.before.args.t.now c.before.before.before.before.before.args.s.now
-answer-is c = rw c.before.pages.ensures at c.to_timestamp_parts.ensures
+answer-is : (c : tie.After-to_timestamp_parts) → c.to_timestamp_parts.result ≡ parts_of pages c.args.t.now c.args.s.now
+answer-is c = rw c.pages.ensures at c.to_timestamp_parts.ensures
 
 -- a moment
 returns : tie.Need-returns-in-Moment
 unfolding parts_answer
 returns c =
     let after-put = c.before.before in
-    let at-moment = after-put.before.before.before in
-    answered-as (ap parts_answer (sym at-moment.p-1.given.1 ∙ answer-is at-moment.before.before)) after-put.put_moment.ensures
+    let at-moment = after-put.before.before in
+    answered-as (ap parts_answer (sym at-moment.in-Moment.is ∙ answer-is at-moment.before)) after-put.put_moment.ensures
 
 -- a refusal
 returns-2 : tie.Need-returns-in-Refused
@@ -27,8 +27,8 @@ unfolding parts_answer
 returns-2 c =
     let after-put = c.before.before in
     let after-report = after-put.before.before in
-    let at-refusal = after-report.before.before in
-    answered-as (ap report_text after-report.report_of.ensures ∙ ap parts_answer (sym at-refusal.why-1.given.1 ∙ answer-is at-refusal.before.before))
+    let at-refusal = after-report.before in
+    answered-as (ap report_text after-report.report_of.ensures ∙ ap parts_answer (sym at-refusal.in-Refused.is ∙ answer-is at-refusal.before))
     after-put.put_report.ensures
 
 pub parts_spec : {M : Type 1} → statement M

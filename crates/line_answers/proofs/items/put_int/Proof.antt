@@ -14,4 +14,4 @@ returns c =
 pub put_int_spec : {M : Type 1} → statement M
 put_int_spec =
     tie.close
-    (tie.spec (λ c. wide_fits c.before.ranges.value) (λ c κs. search rules) (λ c. search rules) returns)
+    (tie.spec (λ c. wide_fits c.ranges.value) (λ c κs. search rules) (λ c. search rules) returns)

@@ -12,10 +12,10 @@ use Rattle.line_answers.proofs.items.put_moment.Statement.{statement}
 use Rattle.line_answers.proofs.items.put_moment.Tie as tie
 
 -- the numbers of the parts fit 32 bits
-ranged : (c : tie.After-struct_told-1) → Ranged c.before.before.before.before.before.before.before.args.p
+ranged : (c : tie.After-struct_told-1) → Ranged c.args.p
 ranged c = search rules
 
-marks-range : (c : tie.After-struct_told-1) → Fits w8 c.before.before.before.before.before.before.before.args.p.marks
+marks-range : (c : tie.After-struct_told-1) → Fits w8 c.args.p.marks
 marks-range c = search rules
 
 -- all ten
@@ -34,10 +34,10 @@ returns c =
     simp (to_z-of_z fits.hour, to_z-of_z fits.minute, to_z-of_z fits.second, to_z-of_z fits.micros) at after-time.put_time-time.ensures in
     let precision = simp (to_z-of_z fits.precision) at after-precision.put_int-precision.ensures in
     let offset = after-offset.put_offset-offset.ensures in
-    let marks = simp (to_z_pos w64 {n = start.before.before.before.args.p.marks} (omega (arith, marks-range at-year))) at after-marks.put_number.ensures in
+    let marks = simp (to_z_pos w64 {n = start.args.p.marks} (omega (arith, marks-range at-year))) at after-marks.put_number.ensures in
     record {
       put =
-          rw (moment-is start.before.before.before.args.p)
+          rw (moment-is start.args.p)
           (put_then _ _ start.put_accepted-number.ensures (put_then _ _ date (put_then _ _ time (put_then _ _ precision (put_then _ _ offset.0 marks)))));
       short = moment-short _ fits (marks-range at-year) offset.1;
     }

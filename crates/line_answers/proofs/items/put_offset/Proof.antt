@@ -13,15 +13,15 @@ returns : tie.Need-returns-in-Absent
 returns c =
     let after-item = c.before.before in
     let at-absent = after-item.before.before.before in
-    rw at-absent.enum_told-1.given.1 (after-item.put_item.ensures, omega arith)
+    rw at-absent.in-Absent.is (after-item.put_item.ensures, omega arith)
 
 -- its seconds
 returns-2 : tie.Need-returns-in-East
 returns-2 c =
     let after-int = c.before.before in
-    let at-east = after-int.before.before.before in
-    let fits : SFits w32 at-east.offset-1.given.0.0 = search rules in
-    rw at-east.offset-1.given.1 (rw (to_z-of_z fits) at after-int.put_int.ensures, int-length _ fits)
+    let at-east = after-int.before.before in
+    let fits : SFits w32 at-east.in-East.seconds = search rules in
+    rw at-east.in-East.is (rw (to_z-of_z fits) at after-int.put_int.ensures, int-length _ fits)
 
 pub put_offset_spec : {M : Type 1} → statement M
 put_offset_spec =

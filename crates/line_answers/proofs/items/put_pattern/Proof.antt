@@ -22,7 +22,7 @@ returns-2 c =
     let after-find = after-item.before.before.before in
     let after-names = after-find.before.before.before in
     let at_test = after-names.before in
-    let k = at_test.before.before.args.pattern in
+    let k = at_test.args.pattern in
     let five : 5 * k + 5 - 5 * k ≡ 5 = omega arith in
     let below = at_test.if-pattern-ge-NO_PATTERN.false in
     rw (some-named k below)

@@ -11,7 +11,7 @@ returns : tie.Need-returns
 returns c =
     let after-number = c.before.before in
     let after-accepted = after-number.before.before.before.before in
-    let fits = after-accepted.before.before.before.ranges.value in
+    let fits = after-accepted.ranges.value in
     record {
       put = put_then _ _ after-accepted.put_accepted-next.ensures (rw (to_z-of_z fits) at after-number.put_number.ensures);
       short = value-short _ fits;

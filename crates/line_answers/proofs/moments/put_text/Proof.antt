@@ -12,7 +12,7 @@ returns c =
     let after-accepted = after-item.before.before.before.before in
     record {
       put = put_then _ _ after-accepted.put_accepted-next.ensures after-item.put_item.ensures;
-      short = omega (arith, after-accepted.before.before.before.before.requires);
+      short = omega (arith, after-accepted.requires);
     }
 
 pub put_text_spec : {M : Type 1} → statement M

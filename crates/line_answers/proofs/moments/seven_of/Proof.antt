@@ -19,37 +19,37 @@ decreases-loop s values₀ at₀ i₀ values at i = 7 - i
 
 -- the items end before the seventh
 returns : tie.Need-returns-then-s-at invariant-loop decreases-loop
-returns c = sym (too_few _ _ _ _ c.before.before.loop-i.invariant c.before.loop-i-test.true c.if-s-at.true)
+returns c = sym (too_few _ _ _ _ c.loop-i.invariant c.loop-i-test.true c.if-s-at.true)
 
 -- an item is no number
 returns-2 : tie.Need-returns-in_default invariant-loop decreases-loop
 returns-2 c =
-    let after_read = c.before.before in
+    let after_read = c.before in
     let after-find = after_read.before.before in
     let at_item = after-find.before in
     let in-loop = at_item.before in
-    let item-is = sym after_read.read_int.ensures ∙ c.enum_told-1.given.1 in
-    sym (no_number _ _ _ _ in-loop.before.loop-i.invariant _ in-loop.loop-i-test.true at_item.if-s-at.false after-find.find-end.ensures.is item-is)
+    let item-is = sym after_read.read_int.ensures ∙ c.in_default.is in
+    sym (no_number _ _ _ _ in-loop.loop-i.invariant _ in-loop.loop-i-test.true at_item.if-s-at.false after-find.find-end.ensures.is item-is)
 
 loop-again : tie.Need-loop-i-preserved invariant-loop decreases-loop
 loop-again c =
-    let at-number = c.before in
-    let after_read = at-number.before.before in
+    let at-number = c in
+    let after_read = at-number.before in
     let after-find = after_read.before.before in
     let at_item = after-find.before in
     let in-loop = at_item.before in
-    let fits : SFits w32 at-number.n-1.given.0.0 = search rules in
-    let item-is = sym after_read.read_int.ensures ∙ at-number.n-1.given.1 in
+    let fits : SFits w32 at-number.in-Value.n = search rules in
+    let item-is = sym after_read.read_int.ensures ∙ at-number.in-Value.is in
     rw (to_z-of_z fits)
-    (more _ _ _ _ in-loop.before.loop-i.invariant _ in-loop.loop-i-test.true at_item.if-s-at.false after-find.find-end.ensures.is _ item-is)
+    (more _ _ _ _ in-loop.loop-i.invariant _ in-loop.loop-i-test.true at_item.if-s-at.false after-find.find-end.ensures.is _ item-is)
 
 -- an item is left after the seventh
 returns-3 : tie.Need-returns-then-at-s invariant-loop decreases-loop
-returns-3 c = sym (too_many _ _ _ _ c.before.before.loop-i.invariant c.before.loop-i-test.false c.if-at-s.true)
+returns-3 c = sym (too_many _ _ _ _ c.loop-i.invariant c.loop-i-test.false c.if-at-s.true)
 
 -- seven numbers
 returns-4 : tie.Need-returns invariant-loop decreases-loop
-returns-4 c = sym (ended _ _ _ _ c.before.before.loop-i.invariant c.before.loop-i-test.false c.if-at-s.false)
+returns-4 c = sym (ended _ _ _ _ c.loop-i.invariant c.loop-i-test.false c.if-at-s.false)
 
 pub seven_of_spec : {M : Type 1} → statement M
 seven_of_spec =

@@ -10,43 +10,43 @@ use Rattle.line_answers.proofs.moments.text.Statement.{statement}
 use Rattle.line_answers.proofs.moments.text.Tie as tie
 
 -- the settings are those of the exercise pages
-settings-are : (c : tie.After-write) → c.before.before.before.pages.result ≡ pages
-settings-are c = c.before.before.before.pages.ensures
+settings-are : (c : tie.After-write) → c.pages.result ≡ pages
+settings-are c = c.pages.ensures
 
 -- the text is no longer than its buffer
-part-put-text-end : tie.Need-slice-bounds-put-text-end
+part-put-text-end : tie.Need-slice_bounds-put_text-end
 part-put-text-end c =
-    let at_length = c.before.before in
+    let at_length = c in
     let after_write = at_length.before.before.before in
     let size : length after_write.write.new.1.1.1.0 ≡ 512 = search rules in
-    omega (arith, text-within (settings-are after_write) refl after_write.write.ensures _ at_length.len-1.given.1, size)
+    omega (arith, text-within (settings-are after_write) refl after_write.write.ensures _ at_length.in-Length.is, size)
 
 put-text-requires : tie.Need-put_text-requires
 put-text-requires c κs =
-    let at_length = c.before.before.before.before in
+    let at_length = c.before.before in
     let after_write = at_length.before.before.before in
     let buffer = after_write.write.new.1.1.1.0 in
     let size : length buffer ≡ 512 = search rules in
-    omega (arith, length-take (at_length.len-1.given.0.0 - 0) buffer, size)
+    omega (arith, length-take (at_length.in-Length.len - 0) buffer, size)
 
 -- a text
 returns : tie.Need-returns-in-Length
 returns c =
     let after-put = c.before.before in
-    let at_length = after-put.before.before.before.before.before in
+    let at_length = after-put.before.before.before in
     let after_write = at_length.before.before.before in
-    let moment-is = after_write.before.before.moment_of.ensures in
-    rw (text-written (settings-are after_write) refl after_write.write.ensures _ moment-is _ at_length.len-1.given.1) after-put.put_text.ensures
+    let moment-is = after_write.moment_of.ensures in
+    rw (text-written (settings-are after_write) refl after_write.write.ensures _ moment-is _ at_length.in-Length.is) after-put.put_text.ensures
 
 -- a refusal
 returns-2 : tie.Need-returns-in-Refused
 returns-2 c =
     let after-put = c.before.before in
     let after-report = after-put.before.before in
-    let at-refusal = after-report.before.before in
-    let after_write = at-refusal.before.before.before in
-    let moment-is = after_write.before.before.moment_of.ensures in
-    rw (text-unwritten (settings-are after_write) refl after_write.write.ensures _ moment-is _ at-refusal.why-1.given.1)
+    let at-refusal = after-report.before in
+    let after_write = at-refusal.before.before in
+    let moment-is = after_write.moment_of.ensures in
+    rw (text-unwritten (settings-are after_write) refl after_write.write.ensures _ moment-is _ at-refusal.in-Refused.is)
     (rw after-report.report_of.ensures at after-put.put_report.ensures)
 
 pub text_spec : {M : Type 1} → statement M

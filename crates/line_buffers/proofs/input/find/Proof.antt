@@ -22,7 +22,7 @@ decreases-loop s from b i₀ i = length s - i
 returns : tie.Need-returns-then-s-i invariant-loop decreases-loop
 returns c =
     let at-loop = c.before.before.before in
-    let args = at-loop.before.args in
+    let args = at-loop.args in
     let s = args.s.now in
     let none_passed = here s args.b at-loop.loop-i.i (omega arith) c.if-s-i.true in
     found s _ _ _ (omega arith)
@@ -30,14 +30,14 @@ returns c =
 loop-again : tie.Need-loop-i-preserved invariant-loop decreases-loop
 loop-again c =
     let at-loop = c.before.before.before in
-    let args = at-loop.before.args in
+    let args = at-loop.args in
     omega (arith, passed args.s.now args.b at-loop.loop-i.i (omega arith) c.if-s-i.false)
 
 -- the text ends
 returns-2 : tie.Need-returns invariant-loop decreases-loop
 returns-2 c =
     let at-loop = c.before in
-    let args = at-loop.before.args in
+    let args = at-loop.args in
     let s = args.s.now in
     let none_passed = nowhere s args.b at-loop.loop-i.i (omega arith) in
     found s _ _ _ (omega arith)

@@ -8,14 +8,14 @@ use Rattle.line_buffers.proofs.input.keep.Tie as tie
 
 -- too long
 returns : tie.Need-returns-then-too_long
-returns c = left-off _ _ _ _ (sym c.before.too_long.ensures ∙ c.if-too_long.true)
+returns c = left-off _ _ _ _ (sym c.too_long.ensures ∙ c.if-too_long.true)
 
 -- moved to the front
 returns-2 : tie.Need-returns
 returns-2 c =
     let after-move = c.before.before in
     let at_test = after-move.before.before in
-    kept_whole _ _ _ _ _ _ (sym at_test.before.too_long.ensures ∙ at_test.if-too_long.false) after-move.move_down-count.ensures
+    kept_whole _ _ _ _ _ _ (sym at_test.too_long.ensures ∙ at_test.if-too_long.false) after-move.move_down-count.ensures
 
 pub keep_spec : {M : Type 1} → statement M
 keep_spec =

@@ -7,11 +7,11 @@ use Rattle.line_buffers.proofs.input.too_long.Tie as tie
 
 -- a line from the front on: whether it fills the buffer
 returns-2 : tie.Need-returns-then-from-eq0
-returns-2 c = rw (c.before.if-long.false, eq-eqb _ _ c.if-from-eq0.true)
+returns-2 c = rw (c.if-long.false, eq-eqb _ _ c.if-from-eq0.true)
 
 -- a line that begins later
 returns-3 : tie.Need-returns
-returns-3 c = rw (c.before.if-long.false, ne_eqb _ _ c.if-from-eq0.false)
+returns-3 c = rw (c.if-long.false, ne_eqb _ _ c.if-from-eq0.false)
 
 pub too_long_spec : {M : Type 1} → statement M
 too_long_spec = tie.close (tie.spec (λ c. search rules) returns-2 returns-3)

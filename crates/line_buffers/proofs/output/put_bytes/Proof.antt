@@ -21,7 +21,7 @@ loop-holds c = (omega arith, refl, refl)
 loop-again : tie.Need-loop-i-preserved invariant-loop decreases-loop
 loop-again c =
     let at-loop = c.before.before in
-    let args = at-loop.before.before.before.before.args in
+    let args = at-loop.args in
     let one_more = sets-suc args.out.now args.at args.text.now at-loop.loop-i.i (omega arith) in
     (omega arith, rw at-loop.loop-i.invariant.1 one_more, search rules)
 
@@ -29,7 +29,7 @@ returns : tie.Need-returns invariant-loop decreases-loop
 returns c =
     let at-loop = c.before in
     let after-fitting = at-loop.before in
-    let args = after-fitting.before.before.before.args in
+    let args = after-fitting.args in
     let done : at-loop.loop-i.i ≡ after-fitting.fitting-n.result = omega arith in
     rw (at-loop.loop-i.invariant.1, done) (put-fitting args.out.now args.at args.text.now _ after-fitting.fitting-n.ensures)
 

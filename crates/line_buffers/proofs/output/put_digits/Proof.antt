@@ -11,13 +11,13 @@ use Rattle.line_buffers.proofs.output.put_digits.Tie as tie
 
 returns : tie.Need-returns
 returns c =
-    let found = c.before.before.before.before.before.before.before.digits_of-first in
+    let found = c.digits_of-first in
     let text = found.new.1.0 in
     let size : length text ≡ 20 = search rules in
     rw (
       take_all (20 - found.result) (drop found.result text) (omega (arith, length-drop found.result text)),
       found.ensures.1,
-    ) at c.before.before.put_bytes.ensures
+    ) at c.put_bytes.ensures
 
 pub put_digits_spec : {M : Type 1} → statement M
 put_digits_spec =

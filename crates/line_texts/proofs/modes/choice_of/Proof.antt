@@ -12,19 +12,19 @@ use Rattle.line_texts.proofs.modes.choice_of.Tie as tie
 
 -- parts
 returns : tie.Need-returns-then-same
-returns c = chosen Parts (c.before.same.ensures.0 c.if-same.true)
+returns c = chosen Parts (c.same.ensures.0 c.if-same.true)
 
 -- instant
 returns-2 : tie.Need-returns-then-same-2
-returns-2 c = chosen Instant (c.before.same-2.ensures.0 c.if-same-2.true)
+returns-2 c = chosen Instant (c.same-2.ensures.0 c.if-same-2.true)
 
 -- date
 returns-3 : tie.Need-returns-then-same-3
-returns-3 c = chosen Date (c.before.same-3.ensures.0 c.if-same-3.true)
+returns-3 c = chosen Date (c.same-3.ensures.0 c.if-same-3.true)
 
 -- write
 returns-4 : tie.Need-returns-then-same-4
-returns-4 c = chosen Write (c.before.same-4.ensures.0 c.if-same-4.true)
+returns-4 c = chosen Write (c.same-4.ensures.0 c.if-same-4.true)
 
 -- none of them
 returns-5 : tie.Need-returns
@@ -34,9 +34,9 @@ returns-5 c =
     let at-instant = at-date.before.before.before in
     let at-parts = at-instant.before.before.before in
     unknown
-    (another Parts c.before.before.before.before.before.before.before.before.before.if-same.false at-parts.same.ensures.1)
-    (another Instant c.before.before.before.before.before.before.if-same-2.false at-instant.same-2.ensures.1)
-    (another Date c.before.before.before.if-same-3.false at-date.same-3.ensures.1)
+    (another Parts c.if-same.false at-parts.same.ensures.1)
+    (another Instant c.if-same-2.false at-instant.same-2.ensures.1)
+    (another Date c.if-same-3.false at-date.same-3.ensures.1)
     (another Write c.if-same-4.false at-write.same-4.ensures.1)
 
 pub choice_of_spec : {M : Type 1} → statement M

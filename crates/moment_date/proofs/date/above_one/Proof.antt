@@ -6,13 +6,13 @@ use Rattle.moment_date.proofs.date.above_one.Tie as tie
 -- not above 1: replaced
 returns : tie.Need-returns-then-value-le1
 returns c =
-    let fits = c.before.ranges in
+    let fits = c.ranges in
     simp (simp (to_z-of_z fits.value) at c.if-value-le1.true, to_z-of_z fits.other)
 
 -- above 1: it stays
 returns-2 : tie.Need-returns
 returns-2 c =
-    let value-back = to_z-of_z c.before.ranges.value in
+    let value-back = to_z-of_z c.ranges.value in
     simp (simp value-back at c.if-value-le1.false, value-back)
 
 pub above_one_spec : {M : Type 1} → statement M

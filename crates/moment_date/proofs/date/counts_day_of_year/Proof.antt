@@ -6,7 +6,7 @@ use Rattle.moment_date.proofs.date.counts_day_of_year.Statement.{statement}
 use Rattle.moment_date.proofs.date.counts_day_of_year.Tie as tie
 
 has : (c : tie.Start) → Fitting c.args.r
-has c = fitting c.args.r _ c.well-formed.0
+has c = fitting c.args.r _ c.well_formed.0
 
 -- there is no day of the year
 returns : tie.Need-returns-then-r-eq0

@@ -11,18 +11,18 @@ use Rattle.moment_date.proofs.date.date_in_range.Statement.{statement}
 use Rattle.moment_date.proofs.date.date_in_range.Tie as tie
 
 has : (c : tie.Start) → Fitting c.args.r
-has c = fitting c.args.r _ c.well-formed.0
+has c = fitting c.args.r _ c.well_formed.0
 
 -- the month passed its test
-month : (c : tie.Else-not-part_in_range) → let r = c.before.before.before.args.r in part_in_range r.set month_bit r.month (pos 12) ≡ true
+month : (c : tie.Else-not-part_in_range) → let r = c.args.r in part_in_range r.set month_bit r.month (pos 12) ≡ true
 month c =
-    simp (to_z-of_z (has c.before.before.before).month) at (sym c.before.part_in_range.ensures ∙ passed _ c.if-not-part_in_range.false)
+    simp (to_z-of_z (has c.before.before.before).month) at (sym c.part_in_range.ensures ∙ passed _ c.if-not-part_in_range.false)
 
 -- the month is out of range
 returns : tie.Need-returns-then-not-part_in_range
 unfolding date_in_range
 returns c =
-    rw (simp (to_z-of_z (has c.before.before.before).month) at (sym c.before.part_in_range.ensures ∙ failed _ c.if-not-part_in_range.true))
+    rw (simp (to_z-of_z (has c.before.before.before).month) at (sym c.part_in_range.ensures ∙ failed _ c.if-not-part_in_range.true))
 
 -- the day is
 returns-2 : tie.Need-returns-then-not-part_in_range-2
@@ -32,7 +32,7 @@ returns-2 c =
     let fits = has after-month.before.before.before in
     rw (
       month after-month,
-      simp (to_z-of_z fits.day) at (sym c.before.part_in_range-2.ensures ∙ failed _ c.if-not-part_in_range-2.true),
+      simp (to_z-of_z fits.day) at (sym c.part_in_range-2.ensures ∙ failed _ c.if-not-part_in_range-2.true),
     )
 
 -- both are in range: the test whether the month has the day
@@ -44,7 +44,7 @@ returns-3 c =
     let fits = has after-month.before.before.before in
     rw (
       month after-month,
-      simp (to_z-of_z fits.day) at (sym after-day.before.part_in_range-2.ensures ∙ passed _ after-day.if-not-part_in_range-2.false),
+      simp (to_z-of_z fits.day) at (sym after-day.part_in_range-2.ensures ∙ passed _ after-day.if-not-part_in_range-2.false),
     )
     c.day_in_month.ensures
 

@@ -10,23 +10,23 @@ use Rattle.moment_date.proofs.date.dated_of.Statement.{statement}
 use Rattle.moment_date.proofs.date.dated_of.Tie as tie
 
 -- the year, the date after the week of the year, and the date after the week of the month, as the matches find them
-year : (c : tie.After-year_of) {v : Value} → c.year_of.result ≡ v → year_of c.before.args.f ≡ v
+year : (c : tie.After-year_of) {v : Value} → c.year_of.result ≡ v → year_of c.args.f ≡ v
 year c e = sym c.year_of.ensures ∙ e
 
 week : (c : tie.After-with_week) {v : Dated} → c.with_week.result ≡ v
-    → let at-year = c.before.before.before.before in
-    let f = at-year.before.before.before.args.f in with_week f (with_julian f (begun f at-year.year-1.given.0.0)) ≡ v
+    → let at-year = c.before.before.before in
+    let f = at-year.args.f in with_week f (with_julian f (begun f at-year.in-Is.year)) ≡ v
 week c e =
     let after-julian = c.before in
     let after-begun = after-julian.before in
     let year-known = after-begun.before in
-    let year-back = back year-known.before.year-1.given.0.0 year-known.known_told-1.given.0.1 in
+    let year-back = back year-known.in-Is.year year-known.known_told-1.given.0.1 in
     sym (simp (after-julian.with_julian.ensures, after-begun.begun.ensures, year-back) at c.with_week.ensures) ∙ e
 
 month-week : (c : tie.After-with_month_week) {v : Dated} → c.with_month_week.result ≡ v
-    → let at-date = c.before.before in
-    let at-start = at-date.before.before.before.before.before.before.before.before.before in
-    with_month_week at-start.args.f at-date.r-1.given.0.0 ≡ v
+    → let at-date = c.before in
+    let at-start = at-date.before.before.before.before.before.before in
+    with_month_week at-start.args.f at-date.in-Date.r ≡ v
 month-week c e = sym c.with_month_week.ensures ∙ e
 
 -- no step before the last was refused
@@ -35,15 +35,15 @@ unfolding dated_of
 returns c =
     let after-month = c.before in
     let after-day = after-month.before in
-    let at-month-week = after-day.before.before in
-    let after-month-week = at-month-week.before.before in
-    let at-week = after-month-week.before.before in
-    let after-week = at-week.before.before in
-    let at-year = after-week.before.before.before.before in
+    let at-month-week = after-day.before in
+    let after-month-week = at-month-week.before in
+    let at-week = after-month-week.before in
+    let after-week = at-week.before in
+    let at-year = after-week.before.before.before in
     simp (
-      year at-year.before.before at-year.year-1.given.1,
-      week after-week at-week.r-1.given.1,
-      month-week after-month-week at-month-week.r-in-Date-with_month_week-1.given.1,
+      year at-year.before at-year.in-Is.is,
+      week after-week at-week.in-Date.is,
+      month-week after-month-week at-month-week.in-Date-with_month_week.is,
       c.with_day_of_year.ensures,
       after-month.with_month.ensures,
       after-day.with_day.ensures,
@@ -53,30 +53,30 @@ returns c =
 returns-2 : tie.Need-returns-in-Refused-with_month_week
 unfolding dated_of
 returns-2 c =
-    let refused = c.before in
-    let after-month-week = refused.before.before in
-    let at-week = after-month-week.before.before in
-    let after-week = at-week.before.before in
-    let at-year = after-week.before.before.before.before in
+    let refused = c in
+    let after-month-week = refused.before in
+    let at-week = after-month-week.before in
+    let after-week = at-week.before in
+    let at-year = after-week.before.before.before in
     simp (
-      year at-year.before.before at-year.year-1.given.1,
-      week after-week at-week.r-1.given.1,
-      month-week after-month-week refused.why-1.given.1,
+      year at-year.before at-year.in-Is.is,
+      week after-week at-week.in-Date.is,
+      month-week after-month-week refused.in-Refused-with_month_week.is,
     )
 
 -- the week of the year was refused
 returns-3 : tie.Need-returns-in-Refused
 unfolding dated_of
 returns-3 c =
-    let refused = c.before in
-    let after-week = refused.before.before in
-    let at-year = after-week.before.before.before.before in
-    simp (year at-year.before.before at-year.year-1.given.1, week after-week refused.why-in-Refused-with_week-1.given.1)
+    let refused = c in
+    let after-week = refused.before in
+    let at-year = after-week.before.before.before in
+    simp (year at-year.before at-year.in-Is.is, week after-week refused.in-Refused.is)
 
 -- the year was refused
 returns-4 : tie.Need-returns-in-Not
 unfolding dated_of
-returns-4 c = let refused = c.before in simp (year refused.before.before refused.why-in-Not-1.given.1)
+returns-4 c = let refused = c in simp (year refused.before refused.in-Not.is)
 
 pub dated_of_spec : {M : Type 1} → statement M
 dated_of_spec =

@@ -16,7 +16,7 @@ use Rattle.moment_date.proofs.date.day_in_month.Tie as tie
 -- not all three are set
 returns : tie.Need-returns-then-r
 returns c =
-    let not-all : eqb c.before.before.args.r.set 7 ≡ false = ne_eqb _ _ c.if-r.true in
+    let not-all : eqb c.args.r.set 7 ≡ false = ne_eqb _ _ c.if-r.true in
     simp not-all
 
 -- they are: the test of the day
@@ -26,11 +26,11 @@ returns-2 c =
     let after-leap = after-length.before.before in
     let All-set = after-leap.before.before in
     let at-start = All-set.before.before in
-    let fits = fitting at-start.args.r _ at-start.well-formed.0 in
+    let fits = fitting at-start.args.r _ at-start.well_formed.0 in
     simp (
       eq-eqb _ _ All-set.if-r.false,
       to_z-of_z fits.day,
-      returned after-length.month_length.type-inv after-length.month_length.ensures,
+      returned after-length.month_length.type_inv after-length.month_length.ensures,
       to_z-of_z fits.month,
       after-leap.pg_is_leap.ensures,
       to_z-of_z fits.year,

@@ -9,7 +9,7 @@ use Rattle.moment_date.proofs.date.day_of_week.Tie as tie
 -- no weekday was read
 returns : tie.Need-returns-then-d-eq0
 returns c =
-    let fits = c.before.ranges in
+    let fits = c.ranges in
     simp (absent fits.d c.if-d-eq0.true, to_z-of_z fits.monday)
 
 -- Monday to Saturday
@@ -17,10 +17,10 @@ returns-2 : tie.Need-returns-then-d-gt1
 returns-2 c =
     let after-sub = c.before in
     let not-sunday = after-sub.before in
-    let fits = not-sunday.before.before.ranges in
+    let fits = not-sunday.ranges in
     let weekday-back = to_z-of_z fits.d in
     simp (
-      present fits.d not-sunday.before.if-d-eq0.false,
+      present fits.d not-sunday.if-d-eq0.false,
       simp weekday-back at not-sunday.if-d-gt1.true,
       c.wrapping_add.ensures,
       after-sub.wrapping_sub.ensures,
@@ -33,9 +33,9 @@ returns-2 c =
 returns-3 : tie.Need-returns
 returns-3 c =
     let sunday = c.before in
-    let fits = sunday.before.before.ranges in
+    let fits = sunday.ranges in
     simp (
-      present fits.d sunday.before.if-d-eq0.false,
+      present fits.d sunday.if-d-eq0.false,
       simp (to_z-of_z fits.d) at sunday.if-d-gt1.false,
       c.wrapping_add-2.ensures,
       wrap-back,

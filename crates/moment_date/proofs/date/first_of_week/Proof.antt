@@ -14,7 +14,7 @@ returns c =
       c.checked_add-2.ensures,
       after-mul.checked_mul.ensures,
       after-add.checked_add.ensures,
-      to_z-of_z after-add.before.ranges.week,
+      to_z-of_z after-add.ranges.week,
     )
 
 pub first_of_week_spec : {M : Type 1} → statement M

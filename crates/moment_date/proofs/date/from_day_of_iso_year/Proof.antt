@@ -12,13 +12,13 @@ returns c =
     let after-sub = after-add.before.before in
     let after-week = after-sub.before in
     let at-start = after-week.before.before in
-    let fits = fitting at-start.args.r _ at-start.well-formed.0 in
+    let fits = fitting at-start.args.r _ at-start.well_formed.0 in
     simp (
       c.whole.ensures,
       after-add.wrapping_add.ensures,
       after-sub.wrapping_sub-before.ensures,
       wrap-back,
-      returned after-week.pg_isoweek2j.type-inv after-week.pg_isoweek2j.ensures,
+      returned after-week.pg_isoweek2j.type_inv after-week.pg_isoweek2j.ensures,
       to_z-of_z fits.ddd,
       to_z-of_z fits.year,
     )

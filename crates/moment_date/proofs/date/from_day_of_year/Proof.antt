@@ -17,14 +17,14 @@ returns c =
     let after-month-of-day = after-days-before.before in
     let after-leap = after-month-of-day.before.before in
     let at-start = after-leap.before.before in
-    let fits = fitting at-start.args.r _ at-start.well-formed.0 in
+    let fits = fitting at-start.args.r _ at-start.well_formed.0 in
     simp (
-      returned after-day.above_one-2.type-inv after-day.above_one-2.ensures,
-      returned after-month.above_one.type-inv after-month.above_one.ensures,
+      returned after-day.above_one-2.type_inv after-day.above_one-2.ensures,
+      returned after-month.above_one.type_inv after-month.above_one.ensures,
       after-sub.wrapping_sub-day.ensures,
       wrap-back,
-      returned after-days-before.days_before.type-inv after-days-before.days_before.ensures,
-      returned after-month-of-day.month_of_day-month.type-inv after-month-of-day.month_of_day-month.ensures,
+      returned after-days-before.days_before.type_inv after-days-before.days_before.ensures,
+      returned after-month-of-day.month_of_day-month.type_inv after-month-of-day.month_of_day-month.ensures,
       after-leap.pg_is_leap-leap.ensures,
       to_z-of_z fits.year,
       to_z-of_z fits.month,

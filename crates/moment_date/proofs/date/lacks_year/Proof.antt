@@ -11,7 +11,7 @@ use Rattle.moment_date.proofs.date.lacks_year.Tie as tie
 returns : tie.Need-returns-then-r-ne0
 returns c =
     let at-start = c.before.before.before in
-    let fits = fitting at-start.args.r _ at-start.well-formed.1.0 in
+    let fits = fitting at-start.args.r _ at-start.well_formed.1.0 in
     simp (present fits.year c.if-r-ne0.true)
 
 -- it is: the test of BC
@@ -19,8 +19,8 @@ returns-2 : tie.Need-returns
 returns-2 c =
     let no-year = c.before in
     let at-start = no-year.before.before.before in
-    let fits = fitting at-start.args.r _ at-start.well-formed.1.0 in
-    let fields = known at-start.args.t1 _ at-start.well-formed.0 in
+    let fits = fitting at-start.args.r _ at-start.well_formed.1.0 in
+    let fields = known at-start.args.t1 _ at-start.well_formed.0 in
     simp (absent fits.year no-year.if-r-ne0.false, zero_bits (fields.fits bc))
 
 pub lacks_year_spec : {M : Type 1} → statement M

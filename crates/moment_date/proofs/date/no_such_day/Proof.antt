@@ -14,15 +14,15 @@ use Rattle.moment_date.proofs.date.no_such_day.Tie as tie
 
 -- the switch is off
 returns : tie.Need-returns-then-not-strict
-returns c = rw (failed c.before.args.strict c.if-not-strict.true)
+returns c = rw (failed c.args.strict c.if-not-strict.true)
 
 -- other marks than those of month and day
 returns-2 : tie.Need-returns-then-set
 unfolding no_such_day
 returns-2 c =
-    let at-start = c.before.before.args in
+    let at-start = c.args in
     let others : eqb at-start.set 6 ≡ false = ne_eqb _ _ c.if-set.true in
-    rw (passed at-start.strict c.before.if-not-strict.false, others)
+    rw (passed at-start.strict c.if-not-strict.false, others)
 
 -- these two: the test of the day
 returns-3 : tie.Need-returns
@@ -32,10 +32,10 @@ returns-3 c =
     let at-start = two-set.before.before in
     let fits = at-start.ranges in
     simp (
-      passed at-start.args.strict two-set.before.if-not-strict.false,
+      passed at-start.args.strict two-set.if-not-strict.false,
       eq-eqb _ _ two-set.if-set.false,
       to_z-of_z fits.day,
-      returned c.month_length.type-inv c.month_length.ensures,
+      returned c.month_length.type_inv c.month_length.ensures,
       to_z-of_z fits.month,
     )
 

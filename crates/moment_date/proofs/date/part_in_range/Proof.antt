@@ -12,8 +12,8 @@ returns c = simp (eq-eqb _ _ c.if-set-bit-eq0.true)
 -- it is below 1
 returns-2 : tie.Need-returns-then-value-lt1
 returns-2 c =
-    let fits = c.before.before.ranges in
-    simp (ne_eqb _ _ c.before.if-set-bit-eq0.false, simp (to_z-of_z fits.value) at c.if-value-lt1.true)
+    let fits = c.ranges in
+    simp (ne_eqb _ _ c.if-set-bit-eq0.false, simp (to_z-of_z fits.value) at c.if-value-lt1.true)
 
 -- it is not: the test of the limit
 returns-3 : tie.Need-returns
@@ -21,7 +21,7 @@ returns-3 c =
     let at-start = c.before.before in
     let value-back = to_z-of_z at-start.ranges.value in
     simp (
-      ne_eqb _ _ c.before.if-set-bit-eq0.false,
+      ne_eqb _ _ c.if-set-bit-eq0.false,
       simp value-back at c.if-value-lt1.false,
       value-back,
       to_z-of_z at-start.ranges.limit,

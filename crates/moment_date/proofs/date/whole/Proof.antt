@@ -10,8 +10,8 @@ returns : tie.Need-returns
 returns c =
     let after-date = c.before.before.before in
     let at-start = after-date.before in
-    let date = fitting-date after-date.pg_j2date-date.result _ after-date.pg_j2date-date.type-inv in
-    let kept = fitting at-start.args.r _ at-start.well-formed.1.0 in
+    let date = fitting-date after-date.pg_j2date-date.result _ after-date.pg_j2date-date.type_inv in
+    let kept = fitting at-start.args.r _ at-start.well_formed.1.0 in
     simp (to_z-of_z date.year, to_z-of_z date.month, to_z-of_z date.day, to_z-of_z kept.dd, to_z-of_z kept.ddd)
     (simp (after-date.pg_j2date-date.ensures, to_z-of_z at-start.ranges.jd))
 

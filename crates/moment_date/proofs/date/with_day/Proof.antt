@@ -7,7 +7,7 @@ use Rattle.moment_date.proofs.date.with_day.Statement.{statement}
 use Rattle.moment_date.proofs.date.with_day.Tie as tie
 
 has : (c : tie.Start) → Fitting c.args.r
-has c = fitting c.args.r _ c.well-formed.0
+has c = fitting c.args.r _ c.well_formed.0
 
 -- no day of the month was read
 returns : tie.Need-returns-then-r-eq0

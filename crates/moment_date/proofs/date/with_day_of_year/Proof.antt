@@ -11,24 +11,24 @@ use Rattle.moment_date.proofs.date.with_day_of_year.Statement.{statement}
 use Rattle.moment_date.proofs.date.with_day_of_year.Tie as tie
 
 has : (c : tie.Start) → Known c.args.t1
-has c = known c.args.t1 _ c.well-formed.0
+has c = known c.args.t1 _ c.well_formed.0
 
 -- past the first test the day of the year counts, past the second there is a year
-counts : (c : tie.Else-not-counts_day_of_year) → counts_day_of_year c.before.before.args.r ≡ true
-counts c = sym c.before.counts_day_of_year.ensures ∙ passed _ c.if-not-counts_day_of_year.false
+counts : (c : tie.Else-not-counts_day_of_year) → counts_day_of_year c.args.r ≡ true
+counts c = sym c.counts_day_of_year.ensures ∙ passed _ c.if-not-counts_day_of_year.false
 
-has-year : (c : tie.Else-lacks_year) → let args = c.before.before.before.before.args in lacks_year args.t1 args.r ≡ false
-has-year c = sym c.before.lacks_year.ensures ∙ c.if-lacks_year.false
+has-year : (c : tie.Else-lacks_year) → let args = c.args in lacks_year args.t1 args.r ≡ false
+has-year c = sym c.lacks_year.ensures ∙ c.if-lacks_year.false
 
 -- the day of the year does not count
 returns : tie.Need-returns-then-not-counts_day_of_year
 unfolding with_day_of_year
-returns c = simp (sym c.before.counts_day_of_year.ensures ∙ failed _ c.if-not-counts_day_of_year.true)
+returns c = simp (sym c.counts_day_of_year.ensures ∙ failed _ c.if-not-counts_day_of_year.true)
 
 -- there is no year
 returns-2 : tie.Need-returns-then-lacks_year
 unfolding with_day_of_year
-returns-2 c = simp (counts c.before.before, sym c.before.lacks_year.ensures ∙ c.if-lacks_year.true)
+returns-2 c = simp (counts c.before.before, sym c.lacks_year.ensures ∙ c.if-lacks_year.true)
 
 -- of an ISO year
 returns-3 : tie.Need-returns-then-f-eq-ISO_WEEKS

@@ -8,7 +8,7 @@ use Rattle.moment_date.proofs.date.with_julian.Statement.{statement}
 use Rattle.moment_date.proofs.date.with_julian.Tie as tie
 
 has : (c : tie.Start) → Known c.args.t1
-has c = known c.args.t1 _ c.well-formed.0
+has c = known c.args.t1 _ c.well_formed.0
 
 -- no Julian day was read
 returns : tie.Need-returns-then-j-eq0
@@ -20,7 +20,7 @@ returns-2 : tie.Need-returns
 unfolding with_julian
 returns-2 c =
     let fields = has c.before.before.before in
-    simp (present (fields.fits j) c.before.if-j-eq0.false, c.whole.ensures, fields.back)
+    simp (present (fields.fits j) c.if-j-eq0.false, c.whole.ensures, fields.back)
 
 pub with_julian_spec : {M : Type 1} → statement M
 with_julian_spec = tie.close (tie.spec (λ c. search rules) returns (λ c κs. search rules) returns-2)

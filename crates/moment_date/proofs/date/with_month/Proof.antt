@@ -10,7 +10,7 @@ use Rattle.moment_date.proofs.date.with_month.Statement.{statement}
 use Rattle.moment_date.proofs.date.with_month.Tie as tie
 
 has : (c : tie.Start) → Known c.args.t1
-has c = known c.args.t1 _ c.well-formed.0
+has c = known c.args.t1 _ c.well_formed.0
 
 -- no month was read
 returns : tie.Need-returns-then-month-eq0
@@ -22,7 +22,7 @@ returns-2 c =
     let has-month = c.before.before.before.before.before in
     let at-start = has-month.before.before in
     let fields = has at-start in
-    let fits = fitting at-start.args.r _ at-start.well-formed.1.0 in
+    let fits = fitting at-start.args.r _ at-start.well_formed.1.0 in
     simp (
       present (fields.fits mm) has-month.if-month-eq0.false,
       fields.back,

@@ -14,10 +14,10 @@ use Rattle.moment_date.proofs.date.with_month_week.Statement.{statement}
 use Rattle.moment_date.proofs.date.with_month_week.Tie as tie
 
 has : (c : tie.Start) → Known c.args.t1
-has c = known c.args.t1 _ c.well-formed.0
+has c = known c.args.t1 _ c.well_formed.0
 
 -- the first day of the week, as the match found it
-first : (c : tie.After-first_of_week) {v : Value} → c.first_of_week.result ≡ v → first_of_week (get c.before.before.before.args.t1 w) ≡ v
+first : (c : tie.After-first_of_week) {v : Value} → c.first_of_week.result ≡ v → first_of_week (get c.args.t1 w) ≡ v
 first c e = sym (simp (has c.before.before.before).back at c.first_of_week.ensures) ∙ e
 
 -- no week was read
@@ -30,15 +30,15 @@ returns-2 : tie.Need-returns-in-Is
 unfolding with_month_week
 returns-2 c =
     let day-known = c.before.before.before.before in
-    let at-day = day-known.before in
-    let after_first = at-day.before.before in
+    let at-day = day-known in
+    let after_first = at-day.before in
     let has-week = after_first.before in
     let at-start = has-week.before.before in
-    let fits = fitting at-start.args.r _ at-start.well-formed.1.0 in
+    let fits = fitting at-start.args.r _ at-start.well_formed.1.0 in
     simp (
       present ((has at-start).ranges w) has-week.if-week-eq0.false,
-      first after_first at-day.dd-1.given.1,
-      back at-day.dd-1.given.0.0 day-known.known_told-1.given.0.1,
+      first after_first at-day.in-Is.is,
+      back at-day.in-Is.dd day-known.known_told-1.given.0.1,
       to_z-of_z fits.year,
       to_z-of_z fits.month,
       to_z-of_z fits.day,
@@ -49,12 +49,12 @@ returns-2 c =
 returns-3 : tie.Need-returns-in-Not
 unfolding with_month_week
 returns-3 c =
-    let refused = c.before in
-    let after_first = refused.before.before in
+    let refused = c in
+    let after_first = refused.before in
     let has-week = after_first.before in
     simp (
       present ((has has-week.before.before).fits w) has-week.if-week-eq0.false,
-      first after_first refused.why-1.given.1,
+      first after_first refused.in-Not.is,
     )
 
 pub with_month_week_spec : {M : Type 1} → statement M

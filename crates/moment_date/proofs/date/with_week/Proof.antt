@@ -16,7 +16,7 @@ use Rattle.moment_date.proofs.date.with_week.Statement.{statement}
 use Rattle.moment_date.proofs.date.with_week.Tie as tie
 
 has : (c : tie.Start) → Known c.args.t1
-has c = known c.args.t1 _ c.well-formed.0
+has c = known c.args.t1 _ c.well_formed.0
 
 abbrev start : tie.After-first_of_week → tie.Start
 start c = c.before.before.before.before.before
@@ -44,10 +44,10 @@ returns-2 c =
       present (fields.fits ww) has-week.if-week-eq0.false,
       equal (lit< tt) (fields.fits mode) iso-weeks.if-f-eq-ISO_WEEKS.true,
       c.whole.ensures,
-      returned after-day.day_of_week.type-inv after-day.day_of_week.ensures,
-      returned after-monday.pg_isoweek2j-monday.type-inv after-monday.pg_isoweek2j-monday.ensures,
+      returned after-day.day_of_week.type_inv after-day.day_of_week.ensures,
+      returned after-monday.pg_isoweek2j-monday.type_inv after-monday.pg_isoweek2j-monday.ensures,
       fields.back,
-      to_z-of_z (fitting at-start.args.r _ at-start.well-formed.1.0).year,
+      to_z-of_z (fitting at-start.args.r _ at-start.well_formed.1.0).year,
     )
 
 -- the first day of another week
@@ -55,18 +55,18 @@ returns-3 : tie.Need-returns-in-Is
 unfolding with_week
 returns-3 c =
     let day-known = c.before.before.before.before in
-    let at-day = day-known.before in
-    let after_first = at-day.before.before in
+    let at-day = day-known in
+    let after_first = at-day.before in
     let other-weeks = after_first.before in
     let has-week = other-weeks.before.before in
     let at-start = start after_first in
     let fields = has at-start in
-    let fits = fitting at-start.args.r _ at-start.good.1.0 in
+    let fits = fitting at-start.args.r _ at-start.well_formed.1.0 in
     simp (
       present (fields.fits ww) has-week.if-week-eq0.false,
       unequal (fields.fits mode) other-weeks.if-f-eq-ISO_WEEKS.false,
-      first after_first at-day.ddd-1.given.1,
-      back at-day.ddd-1.given.0.0 day-known.known_told-1.given.0.1,
+      first after_first at-day.in-Is.is,
+      back at-day.in-Is.ddd day-known.known_told-1.given.0.1,
       to_z-of_z fits.year,
       to_z-of_z fits.month,
       to_z-of_z fits.day,
@@ -77,15 +77,15 @@ returns-3 c =
 returns-4 : tie.Need-returns-in-Not
 unfolding with_week
 returns-4 c =
-    let refused = c.before in
-    let after_first = refused.before.before in
+    let refused = c in
+    let after_first = refused.before in
     let other-weeks = after_first.before in
     let has-week = other-weeks.before.before in
     let fields = has (start after_first) in
     simp (
       present (fields.fits ww) has-week.if-week-eq0.false,
       unequal (fields.fits mode) other-weeks.if-f-eq-ISO_WEEKS.false,
-      first after_first refused.why-1.given.1,
+      first after_first refused.in-Not.is,
     )
 
 pub with_week_spec : {M : Type 1} → statement M

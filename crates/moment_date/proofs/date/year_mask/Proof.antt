@@ -7,7 +7,7 @@ use Rattle.moment_date.proofs.date.year_mask.Statement.{statement}
 use Rattle.moment_date.proofs.date.year_mask.Tie as tie
 
 has : (c : tie.Start) → Known c.args.t1
-has c = known c.args.t1 _ c.well-formed.0
+has c = known c.args.t1 _ c.well_formed.0
 
 -- a year was read
 returns : tie.Need-returns-then-f-ne0

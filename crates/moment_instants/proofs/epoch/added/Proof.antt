@@ -12,41 +12,41 @@ use Rattle.moment_instants.proofs.epoch.added.Tie as tie
 
 -- b is positive
 module _ (c : tie.Then-b-gt0) where
-  up : lt_z (pos 0) c.before.args.b ≡ true
-  up = rw (to_z-of_z c.before.ranges.b) at c.if-b-gt0.true
+  up : lt_z (pos 0) c.args.b ≡ true
+  up = rw (to_z-of_z c.ranges.b) at c.if-b-gt0.true
 
-  room-above : SFits w64 (last -ℤ c.before.args.b)
-  room-above = above-fits c.before.args.a c.before.args.b c.before.ranges.a c.before.ranges.b up
+  room-above : SFits w64 (last -ℤ c.args.b)
+  room-above = above-fits c.args.a c.args.b c.ranges.a c.ranges.b up
 
 -- the sum is not past the last number, and fits
-not-over : (c : tie.Else-b-a) → lt_z (last -ℤ c.before.before.args.b) c.before.before.args.a ≡ false
+not-over : (c : tie.Else-b-a) → lt_z (last -ℤ c.args.b) c.args.a ≡ false
 not-over c =
     let at-start = c.before.before in
     simp (to_z-of_z at-start.ranges.a, to_z-of_z at-start.ranges.b, to_z-of_z (room-above c.before)) at c.if-b-a.false
 
-sum-above : (c : tie.Else-b-a) → SFits w64 (c.before.before.args.a +ℤ c.before.before.args.b)
+sum-above : (c : tie.Else-b-a) → SFits w64 (c.args.a +ℤ c.args.b)
 sum-above c = let at-start = c.before.before in up_fits at-start.args.a at-start.args.b at-start.ranges.a at-start.ranges.b (up c.before) (not-over c)
 
 -- b is not positive
 module _ (c : tie.Else-b-gt0) where
-  down : lt_z (pos 0) c.before.args.b ≡ false
-  down = rw (to_z-of_z c.before.ranges.b) at c.if-b-gt0.false
+  down : lt_z (pos 0) c.args.b ≡ false
+  down = rw (to_z-of_z c.ranges.b) at c.if-b-gt0.false
 
-  room-below : SFits w64 (first -ℤ c.before.args.b)
-  room-below = below-fits c.before.args.a c.before.args.b c.before.ranges.a c.before.ranges.b down
+  room-below : SFits w64 (first -ℤ c.args.b)
+  room-below = below-fits c.args.a c.args.b c.ranges.a c.ranges.b down
 
 -- the sum is not before the first number, and fits
-not-under : (c : tie.Else-a-b) → lt_z c.before.before.args.a (first -ℤ c.before.before.args.b) ≡ false
+not-under : (c : tie.Else-a-b) → lt_z c.args.a (first -ℤ c.args.b) ≡ false
 not-under c =
     let at-start = c.before.before in
     simp (to_z-of_z at-start.ranges.a, to_z-of_z at-start.ranges.b, to_z-of_z (room-below c.before)) at c.if-a-b.false
 
-sum_below : (c : tie.Else-a-b) → SFits w64 (c.before.before.args.a +ℤ c.before.before.args.b)
+sum_below : (c : tie.Else-a-b) → SFits w64 (c.args.a +ℤ c.args.b)
 sum_below c = let at-start = c.before.before in down_fits at-start.args.a at-start.args.b at-start.ranges.a at-start.ranges.b (down c.before) (not-under c)
 
 -- the difference that is compared fits 64 bits
 sub-if2 : tie.Need-overflow_sub-b
-sub-if2 c = rw (to_z-of_z c.before.ranges.b) (room-above c)
+sub-if2 c = rw (to_z-of_z c.ranges.b) (room-above c)
 
 -- b is positive, and the sum is past the last number
 returns : tie.Need-returns-then-b-a
@@ -67,7 +67,7 @@ returns-2 c =
 
 -- the difference that is compared fits 64 bits
 sub-if3 : tie.Need-overflow_sub-b-2
-sub-if3 c = rw (to_z-of_z c.before.ranges.b) (room-below c)
+sub-if3 c = rw (to_z-of_z c.ranges.b) (room-below c)
 
 -- b is not positive, and the sum is before the first number
 returns-3 : tie.Need-returns-then-a-b

@@ -15,16 +15,16 @@ use Rattle.moment_instants.proofs.epoch.day_of.Statement.{statement}
 use Rattle.moment_instants.proofs.epoch.day_of.Tie as tie
 
 -- what the call gives is the days of the parts
-days-are : (c : tie.After-days_of-days) → to_z w64 (of_z w64 c.days_of-days.result) ≡ days c.before.args.p
-days-are c = returned c.days_of-days.type-inv c.days_of-days.ensures
+days-are : (c : tie.After-days_of-days) → to_z w64 (of_z w64 c.days_of-days.result) ≡ days c.args.p
+days-are c = returned c.days_of-days.type_inv c.days_of-days.ensures
 
 -- both tests passed
 module _ (c : tie.Then-days-lt2147483647) where
   abbrev n : ℤ
-  n = days c.before.before.before.args.p
+  n = days c.args.p
 
   low : lt_z (negsuc 2147483647) n ≡ true
-  low = rw (days-are c.before.before) at c.before.if-days-gtminus2147483648.true
+  low = rw (days-are c.before.before) at c.if-days-gtminus2147483648.true
 
   high : lt_z n (pos 2147483647) ≡ true
   high = rw (days-are c.before.before) at c.if-days-lt2147483647.true
@@ -42,7 +42,7 @@ returns-2 : tie.Need-returns-else-days-lt2147483647
 unfolding day_of
 returns-2 c =
     let days-known = days-are c.before.before in
-    rw (rw days-known at c.before.if-days-gtminus2147483648.true, rw days-known at c.if-days-lt2147483647.false)
+    rw (rw days-known at c.if-days-gtminus2147483648.true, rw days-known at c.if-days-lt2147483647.false)
 
 -- the day is too early
 returns-3 : tie.Need-returns-else-days-gtminus2147483648

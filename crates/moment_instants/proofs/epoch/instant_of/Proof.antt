@@ -14,34 +14,34 @@ use Rattle.moment_instants.proofs.epoch.instant_of.Tie as tie
 returns : tie.Need-returns-in_default
 unfolding instant_of
 returns c =
-    let after-wall = c.before.before in
-    let refused = c.enum_told-1.given.1 in
+    let after-wall = c.before in
+    let refused = c.in_default.is in
     rw (refused, sym after-wall.wall_from_tm-wall.ensures ∙ refused)
 
 -- the wall clock is in range
-wall-fits : (c : tie.In-Micros) → SFits w64 c.before.wall-1.given.0.0
+wall-fits : (c : tie.In-Micros) → SFits w64 c.in-Micros.micros
 wall-fits c = search rules
 
-wall : (c : tie.In-Micros) → wall_of c.before.before.before.before.args.p ≡ Micros c.before.wall-1.given.0.0
-wall c = sym c.before.before.before.wall_from_tm-wall.ensures ∙ c.before.wall-1.given.1
+wall : (c : tie.In-Micros) → wall_of c.args.p ≡ Micros c.in-Micros.micros
+wall c = sym c.wall_from_tm-wall.ensures ∙ c.in-Micros.is
 
 -- the instant less the offset
-less : (c : tie.After-less_offset-exact) → c.less_offset-exact.result ≡ less_offset c.before.before.before.before.before.args.p.offset c.before.before.wall-1.given.0.0
+less : (c : tie.After-less_offset-exact) → c.less_offset-exact.result ≡ less_offset c.args.p.offset c.in-Micros.micros
 less c = simp (to_z-of_z (wall-fits c.before)) at c.less_offset-exact.ensures
 
 -- out of range once the offset is subtracted
 returns-2 : tie.Need-returns-in_default-exact
 unfolding instant_of
 returns-2 c =
-    let after-less-offset = c.before.before in
-    let refused = c.enum_told-in_default-exact-1.given.1 in
+    let after-less-offset = c.before in
+    let refused = c.in_default-exact.is in
     rw (refused, wall after-less-offset.before, sym (less after-less-offset) ∙ refused)
 
 -- what is rounded, and the precision, fit their types
-exact-fits : (c : tie.After-struct_told-1) → SFits w64 c.before.before.exact-1.given.0.0
+exact-fits : (c : tie.After-struct_told-1) → SFits w64 c.in-Micros-exact.t
 exact-fits c = search rules
 
-precision-fits : (c : tie.After-struct_told-1) → SFits w32 c.before.before.before.before.before.before.before.before.before.args.p.precision
+precision-fits : (c : tie.After-struct_told-1) → SFits w32 c.args.p.precision
 precision-fits c = search rules
 
 -- rounded to the precision
@@ -49,9 +49,9 @@ returns-3 : tie.Need-returns
 unfolding instant_of
 returns-3 c =
     let at-precision = c.before in
-    let at_exact = at-precision.before.before in
-    let after-less-offset = at_exact.before.before in
-    rw (wall after-less-offset.before, sym (less after-less-offset) ∙ at_exact.exact-1.given.1)
+    let at_exact = at-precision.before in
+    let after-less-offset = at_exact.before in
+    rw (wall after-less-offset.before, sym (less after-less-offset) ∙ at_exact.in-Micros-exact.is)
     (simp (to_z-of_z (exact-fits at-precision), to_z-of_z (precision-fits at-precision)) at c.round_to_precision.ensures)
 
 pub instant_of_spec : {M : Type 1} → statement M

@@ -13,23 +13,23 @@ use Rattle.moment_instants.proofs.epoch.less_offset.Statement.{statement}
 use Rattle.moment_instants.proofs.epoch.less_offset.Tie as tie
 
 -- the offset fits 32 bits
-east : (c : tie.In-East) → SFits w32 c.before.offset-1.given.0.0
+east : (c : tie.In-East) → SFits w32 c.in-East.seconds
 east c = search rules
 
 -- no offset: nothing is added
 returns : tie.Need-returns-in-Absent
 unfolding less_offset
 returns c =
-    let at-start = c.before.before.before in
-    rw c.before.enum_told-1.given.1 (simp (to_z-of_z at-start.ranges.wall, +ℤ_idr) at c.added.ensures)
+    let at-start = c.before.before in
+    rw c.in-Absent.is (simp (to_z-of_z at-start.ranges.wall, +ℤ_idr) at c.added.ensures)
 
 -- an offset: its negative is added
 returns-2 : tie.Need-returns-in-East
 unfolding less_offset
 returns-2 c =
     let at_offset = c.before in
-    let at-start = at_offset.before.before.before in
-    rw at_offset.before.offset-1.given.1
+    let at-start = at_offset.before in
+    rw at_offset.in-East.is
     (simp (to_z-of_z at-start.ranges.wall, wide (east at_offset), to_z-of_z (offset-fits (east at_offset)), +ℤ_idl, to_z-of_z (less-fits (east at_offset))) at c.added-in-East.ensures)
 
 -- the product and the difference fit

@@ -8,15 +8,15 @@ use Rattle.moment_instants.proofs.epoch.report_of.Tie as tie
 -- the refusal of the input, an instant out of range, a day out of range
 unread : tie.Need-returns-in-Unread
 unfolding undated_report
-unread c = rw c.before.before.why-1.given.1 c.report_of.ensures
+unread c = rw c.in-Unread.is c.report_of.ensures
 
 instant : tie.Need-returns-in-InstantRange
 unfolding undated_report
-instant c = rw c.before.enum_told-1.given.1 c.alone.ensures
+instant c = rw c.in-InstantRange.is c.alone.ensures
 
 date : tie.Need-returns-in-DateRange
 unfolding undated_report
-date c = rw c.before.enum_told-in-DateRange-1.given.1 c.alone-in-DateRange.ensures
+date c = rw c.in-DateRange.is c.alone-in-DateRange.ensures
 
 pub report_of_spec : {M : Type 1} → statement M
 report_of_spec =

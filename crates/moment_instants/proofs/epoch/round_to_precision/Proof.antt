@@ -33,20 +33,20 @@ returns-2 c =
 
 -- one to five digits
 module _ (c : tie.Else-precision-gt5) where
-  few : Digits c.before.before.args.precision
+  few : Digits c.args.precision
   few =
-      let same = to_z-of_z c.before.before.ranges.precision in
-      digits c.before.before.args.precision (rw same at c.before.if-precision-lt1.false) (rw same at c.if-precision-gt5.false)
+      let same = to_z-of_z c.ranges.precision in
+      digits c.args.precision (rw same at c.if-precision-lt1.false) (rw same at c.if-precision-gt5.false)
 
   abbrev scale : ℕ
-  scale = 10 ^ (6 - nat_abs c.before.before.args.precision)
+  scale = 10 ^ (6 - nat_abs c.args.precision)
 
   small : (0 < scale) × (scale / 2 ≤ 50000)
-  small = half_le (nat_abs c.before.before.args.precision) few.from few.to
+  small = half_le (nat_abs c.args.precision) few.from few.to
 
 -- the scale, and the limit that the code compares with, as the definition has them
 scale-is : (c : tie.After-scale_of-scale) → c.scale_of-scale.result ≡ scale c.before
-scale-is c = rw (to_z-of_z c.before.before.before.ranges.precision) at c.scale_of-scale.ensures
+scale-is c = rw (to_z-of_z c.ranges.precision) at c.scale_of-scale.ensures
 
 limit_is : (c : tie.After-scale_of-scale) → negsuc 9222425352054775806 +ℤ to_z w64 (c.scale_of-scale.result / 2) ≡ negsuc 9222425352054775806 +ℤ pos (scale c.before / 2)
 limit_is c = rw (scale-is c, to_z_pos w64 {n = scale c.before / 2} (omega (arith, small c.before)))
@@ -67,7 +67,7 @@ returns-3 c =
 -- the count from 2000 fits, also with the half
 module _ (c : tie.Else-t-scale) where
   abbrev count : ℤ
-  count = c.before.before.before.before.args.t -ℤ epoch2000
+  count = c.args.t -ℤ epoch2000
 
   room : (mag count < 2 ^ 63) × (nat_abs count + scale c.before.before / 2 < 2 ^ 63)
   room =
@@ -84,8 +84,8 @@ module _ (c : tie.Else-t-scale) where
 rounded-is : (c : tie.After-rounded_count) → to_z w64 (of_z w64 c.rounded_count.result) ≡ away (scale c.before.before.before) (count c.before)
 rounded-is c =
     let after-limit = c.before in
-    returned c.rounded_count.type-inv
-    (simp (to_z-of_z after-limit.before.before.before.before.ranges.t, to_z-of_z (fits after-limit), scale-is after-limit.before) at c.rounded_count.ensures)
+    returned c.rounded_count.type_inv
+    (simp (to_z-of_z after-limit.ranges.t, to_z-of_z (fits after-limit), scale-is after-limit.before) at c.rounded_count.ensures)
 
 -- rounded, and counted from 1970 again
 returns-4 : tie.Need-returns
@@ -106,13 +106,13 @@ round_to_precision_spec =
     (tie.spec
     returns
     returns-2
-    (λ c. rw (to_z-of_z c.before.before.ranges.precision) ((few c).sign, omega (arith, (few c).to)))
-    (λ c κs. rw (to_z-of_z c.before.before.ranges.precision) ((few c).from, (few c).to))
+    (λ c. rw (to_z-of_z c.ranges.precision) ((few c).sign, omega (arith, (few c).to)))
+    (λ c κs. rw (to_z-of_z c.ranges.precision) ((few c).from, (few c).to))
     (λ c. search rules)
     (λ c. search rules)
     (λ c. rw (limit_is c) (limit c))
     returns-3
-    (λ c. rw (to_z-of_z c.before.before.before.before.ranges.t) (fits c))
-    (λ c κs. rw (to_z-of_z c.before.before.before.before.ranges.t, to_z-of_z (fits c), scale-is c.before) ((small c.before.before).0, (room c).1))
+    (λ c. rw (to_z-of_z c.ranges.t) (fits c))
+    (λ c κs. rw (to_z-of_z c.ranges.t, to_z-of_z (fits c), scale-is c.before) ((small c.before.before).0, (room c).1))
     (λ c κs. search rules)
     returns-4)

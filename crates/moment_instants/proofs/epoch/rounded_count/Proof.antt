@@ -28,12 +28,12 @@ module _ (c : tie.Start) where
   fits-turned = turned-fits c.args.scale (nat_abs c.args.count) c.requires.1
 
 -- a count before 2000 is turned positive
-before : (c : tie.Then-count-lt0) → pos 0 -ℤ to_z w64 (of_z w64 c.before.args.count) ≡ pos (nat_abs c.before.args.count)
-before c = rw (to_z-of_z c.before.ranges.count) (turned c.before.args.count (rw (to_z-of_z c.before.ranges.count) at c.if-count-lt0.true))
+before : (c : tie.Then-count-lt0) → pos 0 -ℤ to_z w64 (of_z w64 c.args.count) ≡ pos (nat_abs c.args.count)
+before c = rw (to_z-of_z c.ranges.count) (turned c.args.count (rw (to_z-of_z c.ranges.count) at c.if-count-lt0.true))
 
 -- a count from 2000 on is positive as it is
-after : (c : tie.Else-count-lt0) → to_z w64 (of_z w64 c.before.args.count) ≡ pos (nat_abs c.before.args.count)
-after c = to_z-of_z c.before.ranges.count ∙ kept c.before.args.count (rw (to_z-of_z c.before.ranges.count) at c.if-count-lt0.false)
+after : (c : tie.Else-count-lt0) → to_z w64 (of_z w64 c.args.count) ≡ pos (nat_abs c.args.count)
+after c = to_z-of_z c.ranges.count ∙ kept c.args.count (rw (to_z-of_z c.ranges.count) at c.if-count-lt0.false)
 
 -- what the call gives, for either
 result : (c : tie.After-rounded_magnitude) → c.rounded_magnitude.result ≡ answer c.before.before
@@ -47,13 +47,13 @@ returns : tie.Need-returns-then-count-lt0
 returns c =
     let at-start = c.before.before in
     rw (result c, to_z-of_z (fits at-start), +ℤ_idl, to_z-of_z (fits-turned at-start))
-    (away-before at-start.args.scale at-start.args.count (rw (to_z-of_z at-start.ranges.count) at c.before.if-count-lt0.true))
+    (away-before at-start.args.scale at-start.args.count (rw (to_z-of_z at-start.ranges.count) at c.if-count-lt0.true))
 
 -- from 2000 on
 returns-2 : tie.Need-returns-else-count-lt0
 returns-2 c =
     let at-start = c.before.before in
-    rw (result-2 c, to_z-of_z (fits at-start)) (away-after at-start.args.scale at-start.args.count (rw (to_z-of_z at-start.ranges.count) at c.before.if-count-lt0.false))
+    rw (result-2 c, to_z-of_z (fits at-start)) (away-after at-start.args.scale at-start.args.count (rw (to_z-of_z at-start.ranges.count) at c.if-count-lt0.false))
 
 pub rounded_count_spec : {M : Type 1} → statement M
 rounded_count_spec =
@@ -61,7 +61,7 @@ rounded_count_spec =
     (tie.spec
     (λ c. rw (before c) (magnitude c.before))
     (λ c. rw (before c, to_z-of_z (magnitude c.before)) (tt, omega (arith, magnitude c.before)))
-    (λ c κs. rw (before c, to_z-of_z (magnitude c.before)) c.before.requires)
+    (λ c κs. rw (before c, to_z-of_z (magnitude c.before)) c.requires)
     (λ c. rw (result c) (fits c.before.before))
     (λ c. rw (result c, to_z-of_z (fits c.before.before), +ℤ_idl) (fits-turned c.before.before))
     (λ c. rw (after c) (tt, omega (arith, magnitude c.before)))

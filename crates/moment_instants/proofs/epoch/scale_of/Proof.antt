@@ -14,11 +14,11 @@ scale_of_spec =
     tie.close
     (tie.spec
     -- one to four digits
-    (λ c. rw c.in-1.keys1)
-    (λ c. rw c.in-1.keys2)
-    (λ c. rw c.in-1.keys3)
-    (λ c. rw c.in-1.keys4)
+    (λ c. rw c.in-1.is)
+    (λ c. rw c.in-2.is)
+    (λ c. rw c.in-3.is)
+    (λ c. rw c.in-4.is)
     -- five digits
     (λ c.
-    let others = c.in-1.rest in
-    rw (five c.before.args.digits c.before.requires.0 c.before.requires.1 others.0.0.0.1 others.0.0.1 others.0.1 others.1)))
+    let others = c.in_default.rest in
+    rw (five c.args.digits c.requires.0 c.requires.1 others.0.0.0.1 others.0.0.1 others.0.1 others.1)))

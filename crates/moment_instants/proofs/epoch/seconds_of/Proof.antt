@@ -11,17 +11,17 @@ use Rattle.moment_instants.proofs.epoch.seconds_of.Statement.{statement}
 use Rattle.moment_instants.proofs.epoch.seconds_of.Tie as tie
 
 -- the numbers of the parts fit 32 bits
-ranged : (c : tie.After-struct_told-3-1) → Ranged c.before.before.before.args.p
+ranged : (c : tie.After-struct_told-3-1) → Ranged c.args.p
 ranged c = search rules
 
 -- what the calls give, as the definition has it
-clock-is : (c : tie.After-clock_seconds-clock) → to_z w64 (of_z w64 c.clock_seconds-clock.result) ≡ clock c.before.before.before.before.args.p
+clock-is : (c : tie.After-clock_seconds-clock) → to_z w64 (of_z w64 c.clock_seconds-clock.result) ≡ clock c.args.p
 clock-is c =
     let parts-fit = ranged c.before in
-    returned c.clock_seconds-clock.type-inv (simp (to_z-of_z parts-fit.hour, to_z-of_z parts-fit.minute, to_z-of_z parts-fit.second) at c.clock_seconds-clock.ensures)
+    returned c.clock_seconds-clock.type_inv (simp (to_z-of_z parts-fit.hour, to_z-of_z parts-fit.minute, to_z-of_z parts-fit.second) at c.clock_seconds-clock.ensures)
 
-days-are : (c : tie.After-days_of) → to_z w64 (of_z w64 c.days_of.result) ≡ days c.before.before.before.before.before.args.p
-days-are c = returned c.days_of.type-inv c.days_of.ensures
+days-are : (c : tie.After-days_of) → to_z w64 (of_z w64 c.days_of.result) ≡ days c.args.p
+days-are c = returned c.days_of.type_inv c.days_of.ensures
 
 mul-result : tie.Need-overflow_mul-result
 mul-result c = rw (days-are c) (days-fit (ranged c.before.before))

@@ -16,30 +16,30 @@ use Rattle.moment_instants.proofs.epoch.wall_from_tm.Statement.{statement}
 use Rattle.moment_instants.proofs.epoch.wall_from_tm.Tie as tie
 
 -- what the call gives is the seconds of the parts
-seconds : (c : tie.After-seconds_of-seconds) → to_z w64 (of_z w64 c.seconds_of-seconds.result) ≡ seconds_of c.before.args.p
-seconds c = returned c.seconds_of-seconds.type-inv c.seconds_of-seconds.ensures
+seconds : (c : tie.After-seconds_of-seconds) → to_z w64 (of_z w64 c.seconds_of-seconds.result) ≡ seconds_of c.args.p
+seconds c = returned c.seconds_of-seconds.type_inv c.seconds_of-seconds.ensures
 
 -- too early
 returns : tie.Need-returns-then-seconds
 unfolding wall_of
-returns c = rw (too_few (seconds_of c.before.before.args.p) (rw (seconds c.before) at c.if-seconds.true))
+returns c = rw (too_few (seconds_of c.args.p) (rw (seconds c.before) at c.if-seconds.true))
 
 -- too late
 returns-2 : tie.Need-returns-then-seconds-gt-MOST_SECONDS
 unfolding wall_of
-returns-2 c = rw (too_many (seconds_of c.before.before.before.args.p) (rw (seconds c.before.before) at c.if-seconds-gt-MOST_SECONDS.true))
+returns-2 c = rw (too_many (seconds_of c.args.p) (rw (seconds c.before.before) at c.if-seconds-gt-MOST_SECONDS.true))
 
 -- past both tests the microseconds of the seconds fit 64 bits
-whole : (c : tie.Else-seconds-gt-MOST_SECONDS) → SFits w64 (seconds_of c.before.before.before.args.p *ℤ pos 1000000)
+whole : (c : tie.Else-seconds-gt-MOST_SECONDS) → SFits w64 (seconds_of c.args.p *ℤ pos 1000000)
 whole c =
     let after-seconds = c.before.before in
-    micros-fit (seconds_of after-seconds.before.args.p) (rw (seconds after-seconds) at c.before.if-seconds.false) (rw (seconds after-seconds) at c.if-seconds-gt-MOST_SECONDS.false)
+    micros-fit (seconds_of after-seconds.args.p) (rw (seconds after-seconds) at c.if-seconds.false) (rw (seconds after-seconds) at c.if-seconds-gt-MOST_SECONDS.false)
 
 mul-added : tie.Need-overflow_mul-seconds
 mul-added c = rw (seconds c.before.before) (whole c)
 
 -- the fraction fits 32 bits
-micros : (c : tie.After-struct_told-1) → SFits w32 c.before.before.before.before.before.args.p.micros
+micros : (c : tie.After-struct_told-1) → SFits w32 c.args.p.micros
 micros c = search rules
 
 -- the fraction is added
@@ -47,7 +47,7 @@ returns-3 : tie.Need-returns
 unfolding wall_of
 returns-3 c =
     let after-tests = c.before.before.before in
-    rw (lt-ltb (mag (seconds_of after-tests.before.before.before.args.p *ℤ pos 1000000)) (2 ^ 63) (whole after-tests).sfits)
+    rw (lt-ltb (mag (seconds_of after-tests.args.p *ℤ pos 1000000)) (2 ^ 63) (whole after-tests).sfits)
     (simp (seconds after-tests.before.before, to_z-of_z (whole after-tests), wide (micros c.before)) at c.added.ensures)
 
 pub wall_from_tm_spec : {M : Type 1} → statement M

@@ -11,7 +11,7 @@ use Rattle.moment_parts.proofs.plain.has_day.Tie as tie
 -- below 1
 returns : tie.Need-returns-then-day-lt1
 unfolding has_day
-returns c = simp (rw (to_z-of_z c.before.ranges.day) at c.if-day-lt1.true)
+returns c = simp (rw (to_z-of_z c.ranges.day) at c.if-day-lt1.true)
 
 -- the test of the length
 returns-2 : tie.Need-returns
@@ -22,7 +22,7 @@ returns-2 c =
     let at-start = at-day.before in
     simp (
       rw (to_z-of_z at-start.ranges.day) at at-day.if-day-lt1.false,
-      returned c.month_length.type-inv c.month_length.ensures,
+      returned c.month_length.type_inv c.month_length.ensures,
       to_z-of_z at-start.ranges.day,
       to_z-of_z at-start.ranges.month,
       to_z-of_z at-start.ranges.year,

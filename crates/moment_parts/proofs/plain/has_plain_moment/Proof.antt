@@ -15,31 +15,31 @@ use Rattle.moment_parts.proofs.plain.has_plain_moment.Tie as tie
 -- the fields are not plain
 returns : tie.Need-returns-then-not-is_plain
 unfolding has_plain_moment
-returns c = simp (sym c.before.is_plain.ensures ∙ failed _ c.if-not-is_plain.true)
+returns c = simp (sym c.is_plain.ensures ∙ failed _ c.if-not-is_plain.true)
 
 -- they are
-plain : (c : tie.Else-not-is_plain) → is_plain (fields_of c.before.before.args.f.now) ≡ true
-plain c = sym c.before.is_plain.ensures ∙ passed _ c.if-not-is_plain.false
+plain : (c : tie.Else-not-is_plain) → is_plain (fields_of c.args.f.now) ≡ true
+plain c = sym c.is_plain.ensures ∙ passed _ c.if-not-is_plain.false
 
 -- the test of the year
 year-test : (c : tie.After-get-year) {b : Bool} → lt_z (read c.get-year.result) (pos 1) ≡ b
-    → lt_z (get (fields_of c.before.before.before.args.f.now) year) (pos 1) ≡ b
-year-test c e = rw (returned c.get-year.type-inv c.get-year.ensures) at e
+    → lt_z (get (fields_of c.args.f.now) year) (pos 1) ≡ b
+year-test c e = rw (returned c.get-year.type_inv c.get-year.ensures) at e
 
 -- that of the day
 day-test : (c : tie.After-has_day) {b : Bool} → c.has_day.result ≡ b
-    → let f = fields_of c.before.before.before.before.before.before.before.before.before.args.f.now in
+    → let f = fields_of c.args.f.now in
     has_day (get f year) (or_first (get f mm)) (or_first (get f dd)) ≡ b
 day-test c e =
     let after-day = c.before in
     let after-month = after-day.before.before in
-    let year-read = after-month.before.before.before.get-year in
+    let year-read = after-month.get-year in
     sym (simp (
-      returned after-day.or_first-day.type-inv after-day.or_first-day.ensures,
-      returned after-day.before.get-2.type-inv after-day.before.get-2.ensures,
-      returned after-month.or_first-month.type-inv after-month.or_first-month.ensures,
-      returned after-month.before.get.type-inv after-month.before.get.ensures,
-      returned year-read.type-inv year-read.ensures,
+      returned after-day.or_first-day.type_inv after-day.or_first-day.ensures,
+      returned after-day.get-2.type_inv after-day.get-2.ensures,
+      returned after-month.or_first-month.type_inv after-month.or_first-month.ensures,
+      returned after-month.get.type_inv after-month.get.ensures,
+      returned year-read.type_inv year-read.ensures,
     ) at c.has_day.ensures)
     ∙ e
 
@@ -59,10 +59,10 @@ returns-3 c =
 returns-4 : tie.Need-returns
 unfolding has_plain_moment
 returns-4 c =
-    let g7 = c.before.get-3 in
-    let g6 = c.before.before.get-second in
-    let g5 = c.before.before.before.get-minute in
-    let g4 = c.before.before.before.before.get-hour in
+    let g7 = c.get-3 in
+    let g6 = c.get-second in
+    let g5 = c.get-minute in
+    let g4 = c.get-hour in
     let dated = c.before.before.before.before.before in
     let above = dated.before.before.before.before.before.before in
     simp (
@@ -70,10 +70,10 @@ returns-4 c =
       year-test above.before above.if-year-lt1.false,
       day-test dated.before (passed _ dated.if-not-has_day.false),
       c.time_in_range.ensures,
-      returned g4.type-inv g4.ensures,
-      returned g5.type-inv g5.ensures,
-      returned g6.type-inv g6.ensures,
-      returned g7.type-inv g7.ensures,
+      returned g4.type_inv g4.ensures,
+      returned g5.type_inv g5.ensures,
+      returned g6.type_inv g6.ensures,
+      returned g7.type_inv g7.ensures,
     )
 
 pub has_plain_moment_spec : {M : Type 1} → statement M

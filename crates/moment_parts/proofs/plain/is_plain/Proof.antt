@@ -14,19 +14,19 @@ returns : tie.Need-returns
 unfolding is_plain
 returns c =
     let g10 = c.get-10 in
-    let g9 = c.before.get-9 in
-    let g8 = c.before.before.get-8 in
-    let g7 = c.before.before.before.get-7 in
-    let g6 = c.before.before.before.before.get-6 in
+    let g9 = c.get-9 in
+    let g8 = c.get-8 in
+    let g7 = c.get-7 in
+    let g6 = c.get-6 in
     let fifth = c.before.before.before.before.before in
     let g5 = fifth.get-5 in
-    let g4 = fifth.before.get-4 in
-    let g3 = fifth.before.before.get-3 in
-    let g2 = fifth.before.before.before.get-2 in
-    let g1 = fifth.before.before.before.before.get in
+    let g4 = fifth.get-4 in
+    let g3 = fifth.get-3 in
+    let g2 = fifth.get-2 in
+    let g1 = fifth.get in
     all-zero g1.result
     (g2.result ∷ g3.result ∷ g4.result ∷ g5.result ∷ g6.result ∷ g7.result ∷ g8.result ∷ g9.result ∷ g10.result ∷ [])
-    (g1.type-inv, (g2.type-inv, (g3.type-inv, (g4.type-inv, (g5.type-inv, (g6.type-inv, (g7.type-inv, (g8.type-inv, (g9.type-inv, (g10.type-inv, tt))))))))))
+    (g1.type_inv, (g2.type_inv, (g3.type_inv, (g4.type_inv, (g5.type_inv, (g6.type_inv, (g7.type_inv, (g8.type_inv, (g9.type_inv, (g10.type_inv, tt))))))))))
     ∙ λ i.
     is_zero (g1.ensures i)
     && (is_zero (g2.ensures i)

@@ -8,26 +8,26 @@ use Rattle.moment_parts.proofs.plain.plain_parts.Tie as tie
 returns : tie.Need-returns
 unfolding plain_parts
 returns c =
-    let precision = c.before.get-6 in
-    let micros = c.before.before.get-5 in
-    let second = c.before.before.before.get-4 in
-    let minute = c.before.before.before.before.get-3 in
+    let precision = c.get-6 in
+    let micros = c.get-5 in
+    let second = c.get-4 in
+    let minute = c.get-3 in
     let after-hour = c.before.before.before.before.before in
     let after-day = after-hour.before in
     let after-month = after-day.before in
     let after-year = after-month.before in
     simp (
-      returned precision.type-inv precision.ensures,
-      returned micros.type-inv micros.ensures,
-      returned second.type-inv second.ensures,
-      returned minute.type-inv minute.ensures,
-      returned after-hour.get-2.type-inv after-hour.get-2.ensures,
+      returned precision.type_inv precision.ensures,
+      returned micros.type_inv micros.ensures,
+      returned second.type_inv second.ensures,
+      returned minute.type_inv minute.ensures,
+      returned after-hour.get-2.type_inv after-hour.get-2.ensures,
       c.plain_marks.ensures,
-      returned after-day.or_first-2.type-inv after-day.or_first-2.ensures,
-      returned after-month.or_first.type-inv after-month.or_first.ensures,
-      returned after-year.get.type-inv after-year.get.ensures,
-      returned after-year.before.get-dd.type-inv after-year.before.get-dd.ensures,
-      returned after-year.before.before.get-mm.type-inv after-year.before.before.get-mm.ensures,
+      returned after-day.or_first-2.type_inv after-day.or_first-2.ensures,
+      returned after-month.or_first.type_inv after-month.or_first.ensures,
+      returned after-year.get.type_inv after-year.get.ensures,
+      returned after-year.get-dd.type_inv after-year.get-dd.ensures,
+      returned after-year.get-mm.type_inv after-year.get-mm.ensures,
     )
 
 pub plain_parts_spec : {M : Type 1} → statement M

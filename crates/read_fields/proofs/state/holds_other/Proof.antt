@@ -13,8 +13,8 @@ fits c = search rules
 
 returns : tie.Need-returns
 returns c =
-    let held = c.before.get in
-    simp (returned held.type-inv held.ensures, to_z-of_z (fits c.before.before)) at c.from_char_set_int.ensures
+    let held = c.get in
+    simp (returned held.type_inv held.ensures, to_z-of_z (fits c.before.before)) at c.from_char_set_int.ensures
 
 pub holds_other_spec : {M : Type 1} → statement M
 holds_other_spec = tie.close (tie.spec (λ c κs. search rules) (λ c κs. search rules) returns)

@@ -10,5 +10,5 @@ mode_at_spec =
     tie.close
     (tie.spec
     (λ c κs. search rules)
-    (λ c. let small : c.row_of.result / 65536 < 256 = rw c.row_of.ensures (mode_small c.before.args.pattern) in search rules)
-    (λ c. rw c.row_of.ensures (mode-is c.before.args.pattern)))
+    (λ c. let small : c.row_of.result / 65536 < 256 = rw c.row_of.ensures (mode_small c.args.pattern) in search rules)
+    (λ c. rw c.row_of.ensures (mode-is c.args.pattern)))

@@ -14,15 +14,15 @@ use Rattle.read_input.proofs.actions.action_read.Tie as tie
 
 -- the test of the date mode
 tested : (c : tie.After-mixes) →
-    let args = c.before.before.before.before.before.before.args in
+    let args = c.args in
     c.mixes.result ≡ mixes (pattern_of args.n.pattern).mode (get (fields_of args.f.now) mode)
 tested c =
-    let set_before = c.before.get in
-    simp (returned set_before.type-inv set_before.ensures, c.before.before.before.mode_at-mode.ensures) at c.mixes.ensures
+    let set_before = c.get in
+    simp (returned set_before.type_inv set_before.ensures, c.mode_at-mode.ensures) at c.mixes.ensures
 
 -- what was read
 is : (c : tie.After-performed-r) →
-    let args = c.before.before.before.before.before.before.before.before.before.before.before.before.args in
+    let args = c.args in
     read_into c.performed-r.result c.performed-r.new.1.1.1.1.0
     ≡ performed args.s.now args.n (is_free args.t.now args.n args.next) (task_of args.n.pattern)
     (with_mode (pattern_of args.n.pattern).mode (fields_of args.f.now)) args.p
@@ -30,7 +30,7 @@ is c =
     let after-mode = c.before.before in
     let after_free = after-mode.before.before in
     let at-mode = after_free.before.before.before.before.before in
-    let at-start = at-mode.before.before.before in
+    let at-start = at-mode.before.before in
     rw (← after_free.is_free-free.ensures, ← at-start.requires.0.is, ← at-mode.mode_at-mode.ensures, ← after-mode.with_mode.ensures) c.performed-r.ensures
 
 -- where the date mode was tested: it is not mixed with another
@@ -40,30 +40,30 @@ not-mixed c = c.before.before.before.before.before
 -- date modes are mixed
 returns : tie.Need-returns-then-mixes
 unfolding action_read
-returns c = verdict-refused c.refuse.ensures (rw (sym (tested c.before.before) ∙ c.before.if-mixes.true))
+returns c = verdict-refused c.refuse.ensures (rw (sym (tested c.before.before) ∙ c.if-mixes.true))
 
 -- what was read is refused
 returns-2 : tie.Need-returns-in-Refused
 returns-2 c =
-    let at-verdict = c.before.before in
-    let after_read = at-verdict.before.before in
+    let at-verdict = c.before in
+    let after_read = at-verdict.before in
     let at_test = not-mixed after_read in
-    let args = at_test.before.before.before.before.before.before.before.args in
+    let args = at_test.args in
     verdict-refused c.refuse-in-Refused.ensures
     (stopped args.t.now args.s.now args.n args.next (fields_of args.f.now) args.p (sym (tested at_test.before) ∙ at_test.if-mixes.left) _ (is after_read) _
-    at-verdict.verdict-1.given.1)
+    at-verdict.in-Refused.is)
 
 -- it is read: past the spaces after the field
 returns-3 : tie.Need-returns-in-Read
 returns-3 c =
     let at-verdict = c.before.before.before in
-    let after_read = at-verdict.before.before in
+    let after_read = at-verdict.before in
     let at_test = not-mixed after_read in
-    let args = at_test.before.before.before.before.before.before.before.args in
+    let args = at_test.args in
     verdict-read
-    (rw (c.read.ensures, c.before.past_field.ensures)
+    (rw (c.read.ensures, c.past_field.ensures)
     (passed args.t.now args.s.now args.n args.next (fields_of args.f.now) args.p (sym (tested at_test.before) ∙ at_test.if-mixes.left) _ (is after_read)
-    at-verdict.enum_told-1.given.1))
+    at-verdict.in-Read.is))
 
 pub action_read_spec : {M : Type 1} → statement M
 action_read_spec =

@@ -16,7 +16,7 @@ returns c = rw c.if-new-eq-MODE_NONE.true
 returns-2 : tie.Need-returns
 returns-2 c =
     let at-start = c.before.before in
-    rw (ne_eqb _ _ c.before.if-new-eq-MODE_NONE.false)
+    rw (ne_eqb _ _ c.if-new-eq-MODE_NONE.false)
     (simp (to_z-of_z at-start.ranges.old, to_z_pos w32 {n = at-start.args.new} (omega arith)) at c.from_char_set_int.ensures)
 
 pub mixes_spec : {M : Type 1} → statement M

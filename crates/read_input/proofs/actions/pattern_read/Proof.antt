@@ -20,7 +20,7 @@ action-read-requires c κs =
 returns : tie.Need-returns
 returns c =
     let after-spaces = c.before.before in
-    rw (← after-spaces.before.before.task_at-task.ensures.is, ← after-spaces.entered-q.ensures) c.action_read.ensures
+    rw (← after-spaces.task_at-task.ensures.is, ← after-spaces.entered-q.ensures) c.action_read.ensures
 
 pub pattern_read_spec : {M : Type 1} → statement M
 pattern_read_spec =

@@ -28,33 +28,33 @@ of_number c (inr e) = of-kind c 5 e
 
 -- a number, or a year with a comma
 returns : tie.Need-returns-in-2
-returns c = c.read_number.ensures ∙ of_number c.before.before.before.before c.before.before.in-2.keys1
+returns c = c.read_number.ensures ∙ of_number c.before.before.before.before c.in-2.is
 
 -- a word
 returns-2 : tie.Need-returns-in-3
-returns-2 c = c.read_word.ensures ∙ of-kind c.before.before.before.before 3 c.before.before.in-2.keys2
+returns-2 c = c.read_word.ensures ∙ of-kind c.before.before.before.before 3 c.in-3.is
 
 -- FX
 returns-3 : tie.Need-returns-in-1
-returns-3 c = rw (c.read.ensures, c.before.exact.ensures) (of-kind c.before.before.before.before 1 c.before.before.in-2.keys3)
+returns-3 c = rw (c.read.ensures, c.exact.ensures) (of-kind c.before.before.before.before 1 c.in-1.is)
 
 -- a number that is dropped
 returns-4 : tie.Need-returns-in-4
-returns-4 c = c.read_dropped.ensures _ ∙ of-kind c.before.before.before 4 c.before.in-2.keys4
+returns-4 c = c.read_dropped.ensures _ ∙ of-kind c.before.before.before 4 c.in-4.is
 
 -- an offset
 returns-5 : tie.Need-returns-in-6
-returns-5 c = c.read_offset.ensures ∙ of-kind c.before.before.before.before 6 c.before.before.in-2.keys5
+returns-5 c = c.read_offset.ensures ∙ of-kind c.before.before.before.before 6 c.in-6.is
 
 -- an offset's minutes
 returns-6 : tie.Need-returns-in-7
-returns-6 c = c.read_offset_minutes.ensures ∙ of-kind c.before.before.before.before 7 c.before.before.in-2.keys6
+returns-6 c = c.read_offset_minutes.ensures ∙ of-kind c.before.before.before.before 7 c.in-7.is
 
 -- any other kind: nothing is read
 returns-7 : tie.Need-returns-in_default
 unfolding performed
 returns-7 c =
-    let no-minutes = c.before.in-2.rest in
+    let no-minutes = c.in_default.rest in
     let no-offset = no-minutes.0 in
     let no-dropped = no-offset.0 in
     let no-exact = no-dropped.0 in

@@ -30,11 +30,11 @@ abbrev decreases-loop : tie.decreases-loop-i
 decreases-loop c s from count at₀ i₀ at i = count - i
 
 loop-holds : tie.Need-loop-i-init invariant-loop decreases-loop
-loop-holds c = (omega arith, c.before.before.requires.0, λ t f whole turned. turned)
+loop-holds c = (omega arith, c.requires.0, λ t f whole turned. turned)
 
 -- what the loop has read so far
 ends : (c : tie.At-loop-i invariant-loop decreases-loop) {r : Passed} → r ≡ passed_at c.loop-i.i c.loop-i.at
-    → let args = c.before.before.before.args in CharsRead args.s.now (nodes_in args.c.now) args.from args.place r
+    → let args = c.args in CharsRead args.s.now (nodes_in args.c.now) args.from args.place r
 ends c e =
     let at-start = c.before.before.before in
     let inv = c.loop-i.invariant in
@@ -49,14 +49,14 @@ loop-again c =
     let at-loop = here.before.before in
     let at-start = at-loop.before.before.before in
     let nodes = nodes_in at-start.args.c.now in
-    let one_left : at-loop.loop-i.i < length nodes = omega (arith, here.before.loop-i-test.true, nodes-length at-start.args.c.now) in
+    let one_left : at-loop.loop-i.i < length nodes = omega (arith, here.loop-i-test.true, nodes-length at-start.args.c.now) in
     let later : at-loop.loop-i.i ≡ 0 → ⊥ = λ z. at-start.requires.1 (omega (arith, at-loop.loop-i.invariant.0, z)) in (
       omega (arith, at-loop.loop-i.invariant.0),
       omega arith,
       λ t f whole turned.
           rw c.measure_usual-at.ensures.is
           (of-character t at-start.args.s.now nodes whole at-loop.loop-i.i f _ (at-loop.loop-i.invariant.2 t f whole turned) one_left (omega (arith, here.if-s-at.false))
-          _ at-node.Node-at.ensures at-loop.loop-i.at refl a-character.if-n-ne-FN_CHAR.false later),
+          _ at-node.node_at-n.ensures at-loop.loop-i.at refl a-character.if-n-ne-FN_CHAR.false later),
     )
 
 pub chars_passed_spec : {M : Type 1} → statement M

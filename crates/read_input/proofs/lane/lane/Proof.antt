@@ -23,13 +23,13 @@ decreases-loop c t s f₀ from count p₀ i₀ f p i = count - i
 
 loop-holds : tie.Need-loop-i-init invariant-loop decreases-loop
 loop-holds c =
-    let pre = c.before.before.before.requires in
+    let pre = c.requires in
     (omega arith, record { within = pre.0; none = pre.1; payable = pre.2; left = refl })
 
 -- the input ended
 returns : tie.Need-returns-then-s-at invariant-loop decreases-loop
 returns c =
-    let inv = c.before.before.loop-i.invariant in
+    let inv = c.loop-i.invariant in
     record { on = inv.0; turned = inv.1; stops = λ h l. absurd (omega (arith, c.if-s-at.true, l)) }
 
 -- one node is left, and some input
@@ -37,35 +37,35 @@ module _ (c : tie.Else-s-at invariant-loop decreases-loop) where
   abbrev at-loop : tie.At-loop-i invariant-loop decreases-loop
   at-loop = c.before.before
 
-  one_left : at-loop.loop-i.i < length (nodes_in at-loop.before.before.before.before.args.c.now)
-  one_left = omega (arith, c.before.loop-i-test.true, nodes-length at-loop.before.before.before.before.args.c.now)
+  one_left : at-loop.loop.i < length (nodes_in at-loop.before.before.before.before.args.c.now)
+  one_left = omega (arith, c.loop-i-test.true, nodes-length at-loop.before.before.before.before.args.c.now)
 
 node-taken-requires : tie.Need-node_taken-r-requires invariant-loop decreases-loop
 node-taken-requires c κs =
     let here = c.before in
-    let inv = (at-loop here).loop-i.invariant in
+    let inv = (at-loop here).loop.invariant in
     (one_left here, inv.1.none, inv.1.payable, omega (arith, here.if-s-at.false), search rules)
 
 -- a pattern that is left
 returns-2 : tie.Need-returns-then-r-i invariant-loop decreases-loop
 returns-2 c =
     let after-node = c.before.before in
-    let inv = (at-loop after-node.before.before).loop-i.inv in
+    let inv = (at-loop after-node.before.before).loop.inv in
     let took = after-node.node_taken-r.ensures in
     record { on = omega (arith, inv.0, took.on); turned = took.turned _ inv.1; stops = λ h l. rw c.if-r-i.true (took.left c.if-r-i.true) }
 
 loop-again : tie.Need-loop-i-preserved invariant-loop decreases-loop
 loop-again c =
     let after-node = c.before.before.before in
-    let inv = (at-loop after-node.before.before).loop-i.inv in
+    let inv = (at-loop after-node.before.before).loop.inv in
     let took = after-node.node_taken-r.ensures in
     (omega (arith, inv.0, took.on), took.turned _ inv.1)
 
 -- the template ended
 returns-3 : tie.Need-returns invariant-loop decreases-loop
 returns-3 c =
-    let inv = c.before.loop-i.invariant in
-    let args = c.before.before.before.before.before.args in
+    let inv = c.loop-i.invariant in
+    let args = c.args in
     record {
       on = inv.0;
       turned = inv.1;

@@ -18,8 +18,8 @@ literal_taken_spec =
     tie.close
     (tie.spec
     (λ c κs. search rules)
-    (λ c. let count-is = nodes-length c.before.before.before.before.before.before.before.before.before.args.c.now in search rules)
+    (λ c. let count-is = nodes-length c.args.c.now in search rules)
     chars-passed-requires
-    (λ c. rw (← c.before.before.before.before.before.before.before.literal_read-q.ensures) c.chars_passed.ensures)
-    (λ c. let count-is = nodes-length c.before.before.before.before.before.args.c.now in search rules)
-    (λ c. rw (← c.before.before.literal_read-q.ensures) (record { on = omega arith; turned = λ t f whole turned. turned })))
+    (λ c. rw (← c.literal_read-q.ensures) c.chars_passed.ensures)
+    (λ c. let count-is = nodes-length c.args.c.now in search rules)
+    (λ c. rw (← c.literal_read-q.ensures) (record { on = omega arith; turned = λ t f whole turned. turned })))

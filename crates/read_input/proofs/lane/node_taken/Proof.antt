@@ -16,12 +16,12 @@ returns c =
     let after-pattern = taken.before in
     let pattern = after-pattern.before.before in
     let at-node = pattern.before.before in
-    let pre = at-node.before.before.before.before.requires in
+    let pre = at-node.requires in
     record {
       on = omega arith;
       left = λ z. absurd (omega (arith, z));
       turned = λ whole turned.
-          of-pattern _ _ _ whole _ _ _ turned pre.0 pre.3 _ at-node.Node-at.ensures pattern.if-n-eq-FN_ACTION.true
+          of-pattern _ _ _ whole _ _ _ turned pre.0 pre.3 _ at-node.node_at-n.ensures pattern.if-n-eq-FN_ACTION.true
           (after-pattern.pattern_taken-r.ensures.taken taken.if-r.true);
     }
 
@@ -33,7 +33,7 @@ returns-2 c =
     let same = after-pattern.pattern_taken-r.ensures.left c.if-r.false in
     record {
       on = omega arith;
-      left = λ z. ap (λ (n : Node). n.kind) (sym pattern.before.before.Node-at.ensures) ∙ pattern.if-n-eq-FN_ACTION.true;
+      left = λ z. ap (λ (n : Node). n.kind) (sym pattern.node_at-n.ensures) ∙ pattern.if-n-eq-FN_ACTION.true;
       turned = λ whole turned. rw same turned;
     }
 
@@ -42,12 +42,12 @@ returns-3 : tie.Need-returns
 returns-3 c =
     let literal = c.before in
     let at-node = literal.before.before in
-    let pre = at-node.before.before.before.before.requires in
+    let pre = at-node.requires in
     let chars = c.literal_taken.ensures in
     record {
       on = omega (arith, chars.on);
       left = λ z. absurd (omega (arith, chars.on, z));
-      turned = λ whole turned. chars.turned _ _ whole (of-literal _ _ _ whole _ _ _ turned pre.0 pre.3 _ at-node.Node-at.ensures literal.if-n-eq-FN_ACTION.false);
+      turned = λ whole turned. chars.turned _ _ whole (of-literal _ _ _ whole _ _ _ turned pre.0 pre.3 _ at-node.node_at-n.ensures literal.if-n-eq-FN_ACTION.false);
     }
 
 pub node_taken_spec : {M : Type 1} → statement M
@@ -56,7 +56,7 @@ node_taken_spec =
     (tie.spec
     (λ c κs. search rules)
     (λ c κs. search rules)
-    (λ c. let count-is = nodes-length c.before.before.before.before.before.before.before.before.before.before.args.c.now in search rules)
+    (λ c. let count-is = nodes-length c.args.c.now in search rules)
     returns
     returns-2
     (λ c κs. search rules)

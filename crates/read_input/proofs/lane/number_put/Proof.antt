@@ -19,9 +19,9 @@ use Rattle.read_input.proofs.lane.number_put.Tie as tie
 
 -- the test of the date mode
 tested : (c : tie.After-mixes) →
-    let args = c.before.before.before.args in
+    let args = c.args in
     c.mixes.result ≡ mixes args.mode (get (fields_of args.f.now) mode)
-tested c = let set_before = c.before.get in simp (returned set_before.type-inv set_before.ensures) at c.mixes.ensures
+tested c = let set_before = c.get in simp (returned set_before.type_inv set_before.ensures) at c.mixes.ensures
 
 -- what a plain task puts
 plain : (task : Task) (z : ℤ) (n : ℕ) (f : Fields) → task.rule ≡ 0 → put f task.field z ≡ with_number task z n f
@@ -44,8 +44,8 @@ module _ (c : tie.After-with_mode) where
   then-number is =
       record {
         left = λ e. absurd (true≢false e);
-        unmixed = λ e. sym (tested not-mixed.before) ∙ not-mixed.if-mixes.left;
-        alone = λ e. answered at-start.args.f.now at-start.args.task.field at-start.fits.z not-other.before.holds_other.ensures not-other.if-holds_other.left;
+        unmixed = λ e. sym (tested not-mixed.before) ∙ not-mixed.if1.left;
+        alone = λ e. answered at-start.args.f.now at-start.args.task.field at-start.fits.z not-other.before.holds-other.ensures not-other.if2.left;
         put = λ e. is ∙ ap (with_number at-start.args.task at-start.args.z at-start.args.n) c.with_mode.ensures;
       }
 

@@ -18,7 +18,7 @@ use Rattle.read_input.proofs.lane.number_taken.Statement.{statement}
 use Rattle.read_input.proofs.lane.number_taken.Tie as tie
 
 -- the digits end at the place or after it, and their number is small
-onward : (c : tie.After-short_number-digits) → c.before.before.before.before.args.p.at ≤ c.short_number-digits.result.end
+onward : (c : tie.After-short_number-digits) → c.args.p.at ≤ c.short_number-digits.result.end
 onward c = rw c.short_number-digits.ensures (short-from _ _)
 
 small : (c : tie.After-short_number-digits) → c.short_number-digits.result.value < 1000000000
@@ -32,7 +32,7 @@ as_is c = to_z_pos w32 (omega (arith, small c))
 returns-3 : tie.Need-returns-then-not-number_put
 returns-3 c =
     let refused = c.before in
-    is-left c.left-then-not-number_put.ensures (refused.before.number_put.ensures.left (not-true _ refused.if-not-number_put.true))
+    is-left c.left-then-not-number_put.ensures (refused.number_put.ensures.left (not-true _ refused.if-not-number_put.true))
 
 -- read
 returns-4 : tie.Need-returns

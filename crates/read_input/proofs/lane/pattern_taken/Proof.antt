@@ -11,7 +11,7 @@ number-taken-requires c κs =
     let after-task = a-number.before.before in
     let inexact = after-task.before in
     let bare = inexact.before.before in
-    let pre = bare.before.before.before.before.before.requires in
+    let pre = bare.requires in
     (pre.0, pre.1, after-task.task_at-task.ensures, a-number.if-task-ne-NUMBER.false, rw bare.if-n-ne0.false refl, inexact.if-p-ne0.false)
 
 pub pattern_taken_spec : {M : Type 1} → statement M

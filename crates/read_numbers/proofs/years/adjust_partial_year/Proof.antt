@@ -33,7 +33,7 @@ unfolding near2020
 returns-2 c =
     let at-start = c.before.before in
     let fits = at-start.ranges.year in
-    rw (raised_is at-start.args.year 100 1900 fits c.if-year-lt100.true (omega arith), test 70 fits c.before.if-year-lt70.false, test 100 fits c.if-year-lt100.true)
+    rw (raised_is at-start.args.year 100 1900 fits c.if-year-lt100.true (omega arith), test 70 fits c.if-year-lt70.false, test 100 fits c.if-year-lt100.true)
 
 -- below 520: by 2000
 returns-3 : tie.Need-returns-then-year-lt520
@@ -43,8 +43,8 @@ returns-3 c =
     let fits = at-start.ranges.year in
     rw (
       raised_is at-start.args.year 520 2000 fits c.if-year-lt520.true (omega arith),
-      test 70 fits c.before.before.if-year-lt70.false,
-      test 100 fits c.before.if-year-lt100.false,
+      test 70 fits c.if-year-lt70.false,
+      test 100 fits c.if-year-lt100.false,
       test 520 fits c.if-year-lt520.true,
     )
 
@@ -56,9 +56,9 @@ returns-4 c =
     let fits = at-start.ranges.year in
     rw (
       raised_is at-start.args.year 1000 1000 fits c.if-year-lt1000.true (omega arith),
-      test 70 fits c.before.before.before.if-year-lt70.false,
-      test 100 fits c.before.before.if-year-lt100.false,
-      test 520 fits c.before.if-year-lt520.false,
+      test 70 fits c.if-year-lt70.false,
+      test 100 fits c.if-year-lt100.false,
+      test 520 fits c.if-year-lt520.false,
       test 1000 fits c.if-year-lt1000.true,
     )
 
@@ -70,9 +70,9 @@ returns-5 c =
     let fits = at-start.ranges.year in
     rw (
       to_z-of_z fits,
-      test 70 fits c.before.before.before.if-year-lt70.false,
-      test 100 fits c.before.before.if-year-lt100.false,
-      test 520 fits c.before.if-year-lt520.false,
+      test 70 fits c.if-year-lt70.false,
+      test 100 fits c.if-year-lt100.false,
+      test 520 fits c.if-year-lt520.false,
       test 1000 fits c.if-year-lt1000.false,
     )
 
@@ -80,12 +80,12 @@ pub adjust_partial_year_spec : {M : Type 1} → statement M
 adjust_partial_year_spec =
     tie.close
     (tie.spec
-    (λ c. raised _ 70 2000 c.before.ranges.year c.if-year-lt70.true (omega arith))
+    (λ c. raised _ 70 2000 c.ranges.year c.if-year-lt70.true (omega arith))
     returns
-    (λ c. raised _ 100 1900 c.before.before.ranges.year c.if-year-lt100.true (omega arith))
+    (λ c. raised _ 100 1900 c.ranges.year c.if-year-lt100.true (omega arith))
     returns-2
-    (λ c. raised _ 520 2000 c.before.before.before.ranges.year c.if-year-lt520.true (omega arith))
+    (λ c. raised _ 520 2000 c.ranges.year c.if-year-lt520.true (omega arith))
     returns-3
-    (λ c. raised _ 1000 1000 c.before.before.before.before.ranges.year c.if-year-lt1000.true (omega arith))
+    (λ c. raised _ 1000 1000 c.ranges.year c.if-year-lt1000.true (omega arith))
     returns-4
     returns-5)

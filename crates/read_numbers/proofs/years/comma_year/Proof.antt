@@ -15,40 +15,40 @@ use Rattle.read_numbers.proofs.years.comma_year.Statement.{statement}
 use Rattle.read_numbers.proofs.years.comma_year.Tie as tie
 
 -- what is scanned is all that is left
-rest : (c : tie.After-scan_yyyy) → let args = c.before.before.before.args in c.scan_yyyy.result ≡ scanned (drop args.at args.s.now)
+rest : (c : tie.After-scan_yyyy) → let args = c.args in c.scan_yyyy.result ≡ scanned (drop args.at args.s.now)
 rest c =
-    let args = c.before.before.before.args in
+    let args = c.args in
     let left = drop args.at args.s.now in
     c.scan_yyyy.ensures ∙ ap scanned (take_all (length args.s.now - args.at) left (omega (arith, length-drop args.at args.s.now)))
 
 -- the end of the year is a place in the input
 add-joined : tie.Need-overflow_add-at
 add-joined c =
-    let after-scan = c.before.before.before in
-    let args = after-scan.before.before.before.args in
-    let ends-within = subst (Ends (drop args.at args.s.now)) (sym (rest after-scan) ∙ c.before.thousands-1.given.1) (ends _) in
+    let after-scan = c.before in
+    let args = after-scan.args in
+    let ends-within = subst (Ends (drop args.at args.s.now)) (sym (rest after-scan) ∙ c.in-Both.is) (ends _) in
     omega (arith, ends-within, length-drop args.at args.s.now)
 
 -- both numbers have 32 bits
-thousands-fit : (c : tie.In-Both) → SFits w32 c.before.thousands-1.given.0.0
+thousands-fit : (c : tie.In-Both) → SFits w32 c.in-Both.thousands
 thousands-fit c = search rules
 
-years-fit : (c : tie.In-Both) → SFits w32 c.before.thousands-1.given.0.1.0
+years-fit : (c : tie.In-Both) → SFits w32 c.in-Both.years
 years-fit c = search rules
 
 -- both numbers, joined
 returns : tie.Need-returns-in-Both
 returns c =
     let at_both = c.before in
-    let after-scan = at_both.before.before.before in
-    found-year _ _ _ after-scan.before.before.before.requires _ _ (sym at_both.before.thousands-1.given.1 ∙ rest after-scan)
+    let after-scan = at_both.before in
+    found-year _ _ _ after-scan.requires _ _ (sym at_both.in-Both.is ∙ rest after-scan)
     (simp (to_z-of_z (thousands-fit at_both), to_z-of_z (years-fit at_both)) at c.joined.ensures)
 
 -- not two numbers
 returns-2 : tie.Need-returns-in-Missing
 returns-2 c =
-    let after-scan = c.before.before in
-    found-year _ _ _ after-scan.before.before.before.requires _ _ (sym c.enum_told-1.given.1 ∙ rest after-scan) refl
+    let after-scan = c.before in
+    found-year _ _ _ after-scan.requires _ _ (sym c.in-Missing.is ∙ rest after-scan) refl
 
 pub comma_year_spec : {M : Type 1} → statement M
 comma_year_spec =

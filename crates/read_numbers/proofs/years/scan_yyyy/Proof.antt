@@ -23,27 +23,27 @@ use Rattle.read_numbers.proofs.years.scan_yyyy.Tie as tie
 
 -- no first number
 returns : tie.Need-returns-then-end-eq0
-returns c = no-first _ _ c.before.c_strtol-a.ensures c.if-end-eq0.true
+returns c = no-first _ _ c.c_strtol-a.ensures c.if-end-eq0.true
 
 -- no comma after it
 returns-2 : tie.Need-returns-then-byte_at-ne44
 returns-2 c =
     let Some-number = c.before.before in
-    no-comma _ _ Some-number.before.c_strtol-a.ensures Some-number.if-end-eq0.false (λ q. c.if-byte_at-ne44.true (c.before.byte_at.ensures ∙ q))
+    no-comma _ _ Some-number.c_strtol-a.ensures Some-number.if-end-eq0.false (λ q. c.if-byte_at-ne44.true (c.byte_at.ensures ∙ q))
 
 -- a comma follows the first number
 module _ (c : tie.Else-byte_at-ne44) where
   abbrev a : Strtol
-  a = c.before.before.before.c_strtol-a.result
+  a = c.c_strtol-a.result
 
   abbrev t : List ℕ
-  t = c.before.before.before.before.before.args.t.now
+  t = c.args.t.now
 
   first : a ≡ strtol t 0
-  first = c.before.before.before.c_strtol-a.ensures
+  first = c.c_strtol-a.ensures
 
   comma : byte_at t a.end ≡ code ","
-  comma = sym c.before.byte_at.ensures ∙ c.if-byte_at-ne44.false
+  comma = sym c.byte_at.ensures ∙ c.if-byte_at-ne44.false
 
   within : a.end < length t
   within = comma-within t a first comma
@@ -62,7 +62,7 @@ returns-3 : tie.Need-returns-then-b-from
 returns-3 c =
     let after-second = c.before.before in
     let at-comma = after-second.before.before in
-    no_second _ _ (first at-comma) at-comma.before.before.if-end-eq0.false (comma at-comma) _ after-second.before.past_spaces-from.ensures _ after-second.within_three-b.ensures
+    no_second _ _ (first at-comma) at-comma.if-end-eq0.false (comma at-comma) _ after-second.past_spaces-from.ensures _ after-second.within_three-b.ensures
     c.if-b-from.true
 
 -- both numbers have 64 bits
@@ -78,13 +78,13 @@ returns-4 c =
     let both-there = c.before.before.before.before in
     let after-second = both-there.before.before in
     let at-comma = after-second.before.before in
-    let cut-first = c.before.before.wrapping_cut in
+    let cut-first = c.wrapping_cut in
     let cut-second = c.wrapping_cut-2 in
-    both_read _ _ (first at-comma) at-comma.before.before.if-end-eq0.false (comma at-comma) _ after-second.before.past_spaces-from.ensures _ after-second.within_three-b.ensures
+    both_read _ _ (first at-comma) at-comma.if-end-eq0.false (comma at-comma) _ after-second.past_spaces-from.ensures _ after-second.within_three-b.ensures
     both-there.if-b-from.false
     _ _
-    (returned cut-first.type-inv (cut-first.ensures ∙ ap wrap32 (to_z-of_z (first_fits at-comma.before.before.before))))
-    (returned cut-second.type-inv (cut-second.ensures ∙ ap wrap32 (to_z-of_z (second_fits after-second))))
+    (returned cut-first.type_inv (cut-first.ensures ∙ ap wrap32 (to_z-of_z (first_fits at-comma.before.before.before))))
+    (returned cut-second.type_inv (cut-second.ensures ∙ ap wrap32 (to_z-of_z (second_fits after-second))))
 
 pub scan_yyyy_spec : {M : Type 1} → statement M
 scan_yyyy_spec =

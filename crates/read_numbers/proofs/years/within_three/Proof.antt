@@ -10,7 +10,7 @@ use Rattle.read_numbers.proofs.years.within_three.Tie as tie
 
 -- three bytes or fewer are left
 returns : tie.Need-returns-then-t-from-le3
-returns c = let args = c.before.before.before.args in rw (take_all (args.from + 3) args.t.now (omega arith)) c.c_strtol.ensures
+returns c = let args = c.args in rw (take_all (args.from + 3) args.t.now (omega arith)) c.c_strtol.ensures
 
 -- the slice up to three bytes on is as long as its end says
 slice-aggregate : tie.Need-slice_bounds-c_strtol-end

@@ -32,14 +32,14 @@ loop-holds c = (search rules, λ list e. refl)
 returns-2 : tie.Need-returns-then-n-gt0 invariant-loop decreases-loop
 returns-2 c list e =
     let in-loop = c.before.before.before.before in
-    found _ list _ _ in-loop.loop-k-test.true (rw e at c.before.spelled-n.ensures) c.if-n-gt0.true (in-loop.before.loop-k.invariant.1 list e)
+    found _ list _ _ in-loop.loop-k-test.true (rw e at c.spelled-n.ensures) c.if-n-gt0.true (in-loop.loop-k.invariant.1 list e)
 
 -- the word is not there, or its first byte is another: on to the next row
 loop-again : tie.Need-loop-k-preserved invariant-loop decreases-loop
 loop-again c =
     let in-loop = c.before.before in
     let at-loop = in-loop.before in
-    let args = at-loop.before.before.before.args in
+    let args = at-loop.args in
     let in_table : 9 * at-loop.loop-k.k < length args.table.now = omega arith in
     let other = other-first args.table.now at-loop.loop-k.k args.start.now in_table in (
       search rules,
@@ -67,7 +67,7 @@ first_word_spec =
     loop-holds
     (λ c. search rules)
     (λ c. search rules)
-    (λ c κs. (search rules, search rules, c.if-table-k.true, c.before.before.before.before.if-first-eq32.false))
+    (λ c κs. (search rules, search rules, c.if-table-k.true, c.if-first-eq32.false))
     returns-2
     (λ c. search rules)
     (λ c. search rules)

@@ -19,11 +19,11 @@ loop-holds : tie.Need-loop-j-init invariant-loop decreases-loop
 loop-holds c = (search rules, refl)
 
 -- as many bytes are folded as are wanted, or as there are
-ended : (c : tie.At-loop-j invariant-loop decreases-loop) → c.loop-j.j ≡ c.before.fitting-n.result
-    → let args = c.before.before.before.args in c.loop-j.start ≡ in_nine (beginning args.most args.s.now args.at)
+ended : (c : tie.At-loop-j invariant-loop decreases-loop) → c.loop-j.j ≡ c.fitting-n.result
+    → let args = c.args in c.loop-j.start ≡ in_nine (beginning args.most args.s.now args.at)
 ended c e =
-    let args = c.before.before.before.args in
-    c.loop-j.invariant.1 ∙ all-put args.s.now args.at _ _ c.loop-j.j c.before.fitting-n.ensures e
+    let args = c.args in
+    c.loop-j.invariant.1 ∙ all-put args.s.now args.at _ _ c.loop-j.j c.fitting-n.ensures e
 
 -- the input ends, or no word of the list is longer
 returns : tie.Need-returns-then-n-j invariant-loop decreases-loop
@@ -33,7 +33,7 @@ returns c = ended c.before.before (omega arith)
 loop-again : tie.Need-loop-j-preserved invariant-loop decreases-loop
 loop-again c =
     let at-loop = c.before.before.before.before in
-    let args = at-loop.before.before.before.args in (
+    let args = at-loop.args in (
       search rules,
       put_next args.s.now args.at at-loop.loop-j.j (omega arith) at-loop.loop-j.start c.folded.result (omega arith)
           at-loop.loop-j.invariant.1 c.folded.ensures,

@@ -12,16 +12,16 @@ returns : tie.Need-returns-in-MonthsFull
 returns c =
     let after-months = c.before.before.before in
     let is-months = after-months.before in
-    let after-fold = is-months.before.before in
-    searched _ _ _ _ _ _ after-fold.before.longest.ensures after-fold.folded_beginning-start.ensures
-    (rw is-months.enum_told-1.given.1 (c.first_word.ensures _ after-months.months_full-months.ensures))
+    let after-fold = is-months.before in
+    searched _ _ _ _ _ _ after-fold.longest.ensures after-fold.folded_beginning-start.ensures
+    (rw is-months.in-MonthsFull.is (c.first_word.ensures _ after-months.months_full-months.ensures))
 
 -- any other list
 returns-2 : tie.Need-returns
 returns-2 c =
     let after-words = c.before.before.before in
     let after-fold = after-words.before.before in
-    searched _ _ _ _ _ _ after-fold.before.longest.ensures after-fold.folded_beginning-start.ensures
+    searched _ _ _ _ _ _ after-fold.longest.ensures after-fold.folded_beginning-start.ensures
     (c.first_word-2.ensures _ after-words.words-table.ensures)
 
 pub seq_search_ascii_spec : {M : Type 1} → statement M
@@ -29,11 +29,11 @@ seq_search_ascii_spec =
     tie.close
     (tie.spec
     (λ c κs. search rules)
-    (λ c κs. rw c.longest.ensures (laid c.before.before.args.list).short)
+    (λ c κs. rw c.longest.ensures (laid c.args.list).short)
     (λ c. search rules)
     (λ c κs. search rules)
-    (λ c κs. ap length c.before.before.months_full-months.ensures ∙ (laid _).long)
+    (λ c κs. ap length c.months_full-months.ensures ∙ (laid _).long)
     returns
     (λ c κs. search rules)
-    (λ c κs. ap length c.before.before.words-table.ensures ∙ (laid _).long)
+    (λ c κs. ap length c.words-table.ensures ∙ (laid _).long)
     returns-2)

@@ -23,21 +23,21 @@ loop-holds c = (search rules, begun _ _ _ (omega arith) c.requires.2 c.requires.
 
 -- the byte is in the table
 inside : (c : tie.In-loop-j invariant-loop decreases-loop)
-    → let at-loop = c.before in let args = at-loop.before.args in 9 * args.k + at-loop.loop-j.j < length args.table.now
+    → let at-loop = c.before in let args = at-loop.args in 9 * args.k + at-loop.loop-j.j < length args.table.now
 inside c = omega arith
 
 -- the word ends at a space
 returns : tie.Need-returns-then-c-eq32 invariant-loop decreases-loop
 returns c =
     let in-loop = c.before.before.before in
-    at-space _ _ _ _ in-loop.loop-j-test.true (inside in-loop) c.if-c-eq32.true ∙ sym in-loop.before.loop-j.invariant.1
+    at-space _ _ _ _ in-loop.loop-j-test.true (inside in-loop) c.if-c-eq32.true ∙ sym in-loop.loop-j.invariant.1
 
 -- another byte is there
 returns-2 : tie.Need-returns-then-b-c invariant-loop decreases-loop
 returns-2 c =
     let no-space = c.before in
     let in-loop = no-space.before.before.before in
-    other_byte _ _ _ _ in-loop.loop-j-test.true (inside in-loop) no-space.if-c-eq32.false c.if-b-c.true ∙ sym in-loop.before.loop-j.invariant.1
+    other_byte _ _ _ _ in-loop.loop-j-test.true (inside in-loop) no-space.if-c-eq32.false c.if-b-c.true ∙ sym in-loop.loop-j.invariant.1
 
 -- the same byte is there: on to the next
 loop-again : tie.Need-loop-j-preserved invariant-loop decreases-loop
@@ -45,7 +45,7 @@ loop-again c =
     let no-space = c.before in
     let in-loop = no-space.before.before.before in (
       search rules,
-      in-loop.before.loop-j.invariant.1 ∙ same_byte _ _ _ _ in-loop.loop-j-test.true (inside in-loop) no-space.if-c-eq32.false c.if-b-c.false,
+      in-loop.loop-j.invariant.1 ∙ same_byte _ _ _ _ in-loop.loop-j-test.true (inside in-loop) no-space.if-c-eq32.false c.if-b-c.false,
     )
 
 -- the word fills its row

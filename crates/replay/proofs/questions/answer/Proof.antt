@@ -9,7 +9,7 @@ returns : tie.Need-returns
 unfolding answer_to
 returns c =
     let after-named = c.before.before in
-    let end_is = name-end after-named.before.before.before.find-end.ensures in
+    let end_is = name-end after-named.find-end.ensures in
     rw (← end_is) (rw whole at after-named.put_named.ensures)
 
 pub answer_spec : {M : Type 1} → statement M

@@ -10,14 +10,14 @@ use Rattle.replay.proofs.questions.of_date.Tie as tie
 -- its three numbers
 returns : tie.Need-returns
 returns c =
-    let d = c.before.before.before.before.before.before.args.d in
+    let d = c.args.d in
     let year : SFits w32 d.year = search rules in
     let month : SFits w32 d.month = search rules in
     let day : SFits w32 d.day = search rules in
     simp (
-      back w64 c.before.before.before.before.wide.ensures c.before.before.before.before.wide.type-inv,
-      back w64 c.before.before.wide-2.ensures c.before.before.wide-2.type-inv,
-      back w64 c.wide-3.ensures c.wide-3.type-inv,
+      back w64 c.wide.ensures c.wide.type_inv,
+      back w64 c.wide-2.ensures c.wide-2.type_inv,
+      back w64 c.wide-3.ensures c.wide-3.type_inv,
       to_z-of_z year,
       to_z-of_z month,
       to_z-of_z day,

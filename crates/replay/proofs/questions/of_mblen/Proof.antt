@@ -14,26 +14,26 @@ use Rattle.replay.proofs.questions.of_mblen.Tie as tie
 -- no place
 returns : tie.Need-returns-then-place
 unfolding of_mblen
-returns c = rw (← c.before.read_place-place.ensures, c.if-place.true)
+returns c = rw (← c.read_place-place.ensures, c.if-place.true)
 
 -- no text
 returns-2 : tie.Need-returns-then-bytes
 unfolding of_mblen
-returns-2 c = rw (← c.before.before.before.before.before.read_place-place.ensures, c.before.before.before.before.if-place.false, read_as c.before.before.read_bytes-bytes.ensures c.if-bytes.true)
+returns-2 c = rw (← c.read_place-place.ensures, c.if-place.false, read_as c.read_bytes-bytes.ensures c.if-bytes.true)
 
 -- the text is within the buffer
-part-pg-mblen-end : tie.Need-slice-bounds-pg-mblen-end
-part-pg-mblen-end c = part-fits c.before.before.before.read_bytes-bytes.ensures c.before.if-bytes.false
+part-pg-mblen-end : tie.Need-slice_bounds-pg_mblen-end
+part-pg-mblen-end c = part-fits c.read_bytes-bytes.ensures c.if-bytes.false
 
 -- a length, of at most 4
 returns-3 : tie.Need-returns
 unfolding of_mblen
 returns-3 c =
-    let read = c.before.before.before.before.before.read_bytes-bytes.ensures in
-    let ok = c.before.before.before.if-bytes.false in
+    let read = c.read_bytes-bytes.ensures in
+    let ok = c.if-bytes.false in
     let measured = c.pg_mblen.ensures in
     let small : to_z w64 c.pg_mblen.result ≡ pos c.pg_mblen.result = to_z_pos w64 (omega (arith, measured.most)) in
-    rw (← c.before.before.before.before.before.before.before.before.read_place-place.ensures, c.before.before.before.before.before.before.before.if-place.false, read_as read ok, small, measured.is, part-is read ok)
+    rw (← c.read_place-place.ensures, c.if-place.false, read_as read ok, small, measured.is, part-is read ok)
 
 pub of_mblen_spec : {M : Type 1} → statement M
 of_mblen_spec =

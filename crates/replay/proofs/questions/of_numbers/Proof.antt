@@ -15,33 +15,33 @@ use Rattle.replay.proofs.questions.of_numbers.Tie as tie
 returns : tie.Need-returns-in-1
 unfolding of_numbers
 returns c =
-    let first : SFits w32 (get_or c.before.before.before.before.before.args.n.values 0 (pos 0)) = search rules in
-    rw (c.before.before.in-1.keys1, c.of_one.ensures, to_z-of_z first)
+    let first : SFits w32 (get_or c.args.n.values 0 (pos 0)) = search rules in
+    rw (c.in-1.is, c.of_one.ensures, to_z-of_z first)
 
 -- two
 returns-2 : tie.Need-returns-in-2
 unfolding of_numbers
 returns-2 c =
-    let values = c.before.before.before.before.before.before.args.n.values in
+    let values = c.args.n.values in
     let first : SFits w32 (get_or values 0 (pos 0)) = search rules in
     let second : SFits w32 (get_or values 1 (pos 0)) = search rules in
-    rw (c.before.before.before.in-1.keys2, c.of_two.ensures, to_z-of_z first, to_z-of_z second)
+    rw (c.in-2.is, c.of_two.ensures, to_z-of_z first, to_z-of_z second)
 
 -- three
 returns-3 : tie.Need-returns-in-3
 unfolding of_numbers
 returns-3 c =
-    let values = c.before.before.before.before.before.before.before.args.n.values in
+    let values = c.args.n.values in
     let first : SFits w32 (get_or values 0 (pos 0)) = search rules in
     let second : SFits w32 (get_or values 1 (pos 0)) = search rules in
     let third : SFits w32 (get_or values 2 (pos 0)) = search rules in
-    rw (c.before.before.before.before.in-1.keys3, c.of_three.ensures, to_z-of_z first, to_z-of_z second, to_z-of_z third)
+    rw (c.in-3.is, c.of_three.ensures, to_z-of_z first, to_z-of_z second, to_z-of_z third)
 
 -- any other count
 returns-4 : tie.Need-returns-in_default
 unfolding of_numbers
 returns-4 c =
-    let count = c.before.before.before.args.n.count in
+    let count = c.args.n.count in
     rw (ne_eqb count 1 (λ e. omega arith), ne_eqb count 2 (λ e. omega arith), ne_eqb count 3 (λ e. omega arith))
 
 pub of_numbers_spec : {M : Type 1} → statement M

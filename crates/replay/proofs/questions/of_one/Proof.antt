@@ -13,9 +13,9 @@ returns : tie.Need-returns-then-same
 unfolding of_one
 returns c =
     let first = c.before.before in
-    let fits = first.before.before.before.before.ranges in
-    rw (same_by first.before.same.ensures first.if-same.true)
-    (simp (c.of_date.ensures, c.before.pg_j2date.ensures, to_z-of_z fits.n))
+    let fits = first.ranges in
+    rw (same_by first.same.ensures first.if-same.true)
+    (simp (c.of_date.ensures, c.pg_j2date.ensures, to_z-of_z fits.n))
 
 -- its weekday
 returns-2 : tie.Need-returns-then-same-2
@@ -23,12 +23,12 @@ unfolding of_one
 returns-2 c =
     let second = c.before.before in
     let first = second.before.before.before in
-    let fits = first.before.before.before.before.ranges in
+    let fits = first.ranges in
     rw (
-      same_by first.before.same.ensures first.if-same.false,
-      same_by second.before.same-2.ensures second.if-same-2.true,
+      same_by first.same.ensures first.if-same.false,
+      same_by second.same-2.ensures second.if-same-2.true,
     )
-    (simp (c.one.ensures, back w32 c.before.pg_j2day.ensures c.before.pg_j2day.type-inv, to_z-of_z fits.n))
+    (simp (c.one.ensures, back w32 c.pg_j2day.ensures c.pg_j2day.type_inv, to_z-of_z fits.n))
 
 -- a leap year
 returns-3 : tie.Need-returns-then-same-3
@@ -37,13 +37,13 @@ returns-3 c =
     let third = c.before.before in
     let second = third.before.before.before in
     let first = second.before.before.before in
-    let fits = first.before.before.before.before.ranges in
+    let fits = first.ranges in
     rw (
-      same_by first.before.same.ensures first.if-same.false,
-      same_by second.before.same-2.ensures second.if-same-2.false,
-      same_by third.before.same-3.ensures third.if-same-3.true,
+      same_by first.same.ensures first.if-same.false,
+      same_by second.same-2.ensures second.if-same-2.false,
+      same_by third.same-3.ensures third.if-same-3.true,
     )
-    (simp (back w64 c.flag_of.ensures c.flag_of.type-inv, c.before.pg_is_leap.ensures, to_z-of_z fits.n))
+    (simp (back w64 c.flag_of.ensures c.flag_of.type_inv, c.pg_is_leap.ensures, to_z-of_z fits.n))
 
 -- no such name
 returns-4 : tie.Need-returns
@@ -52,9 +52,9 @@ returns-4 c =
     let second = c.before.before.before in
     let first = second.before.before.before in
     rw (
-      same_by first.before.same.ensures first.if-same.false,
-      same_by second.before.same-2.ensures second.if-same-2.false,
-      same_by c.before.same-3.ensures c.if-same-3.false,
+      same_by first.same.ensures first.if-same.false,
+      same_by second.same-2.ensures second.if-same-2.false,
+      same_by c.same-3.ensures c.if-same-3.false,
     )
 
 pub of_one_spec : {M : Type 1} → statement M

@@ -16,25 +16,25 @@ use Rattle.replay.proofs.questions.of_strtol.Tie as tie
 -- no place
 returns : tie.Need-returns-then-start
 unfolding of_strtol
-returns c = rw (← c.before.read_place-start.ensures, c.if-start.true)
+returns c = rw (← c.read_place-start.ensures, c.if-start.true)
 
 -- no text
 returns-2 : tie.Need-returns-then-bytes
 unfolding of_strtol
-returns-2 c = rw (← c.before.before.before.before.before.read_place-start.ensures, c.before.before.before.before.if-start.false, read_as c.before.before.read_bytes-bytes.ensures c.if-bytes.true)
+returns-2 c = rw (← c.read_place-start.ensures, c.if-start.false, read_as c.read_bytes-bytes.ensures c.if-bytes.true)
 
 -- the text is within the buffer
-part-c-strtol-end : tie.Need-slice-bounds-c-strtol-end
-part-c-strtol-end c = part-fits c.before.before.before.read_bytes-bytes.ensures c.before.if-bytes.false
+part-c-strtol-end : tie.Need-slice_bounds-c_strtol-end
+part-c-strtol-end c = part-fits c.read_bytes-bytes.ensures c.if-bytes.false
 
 -- the number ends where it was sought, at a place, or within the text
-end-is-small : (c : tie.After-struct_known-1) → c.before.c_strtol-n.result.end < 2 ^ 63
+end-is-small : (c : tie.After-struct_known-1) → c.c_strtol-n.result.end < 2 ^ 63
 end-is-small c =
-    let read = c.before.before.before.before.before.before.read_bytes-bytes in
-    let args = c.before.before.before.before.before.before.before.before.before.before.before.args in
+    let read = c.read_bytes-bytes in
+    let args = c.args in
     let text = read.new.1.1.0 in
     let size : length text ≡ 512 = search rules in
-    end-small text (read.result.count - 0) _ _ c.before.c_strtol-n.ensures (at_small args.line.now args.from _ c.before.before.before.before.before.before.before.before.before.read_place-start.ensures) size
+    end-small text (read.result.count - 0) _ _ c.c_strtol-n.ensures (at_small args.line.now args.from _ c.read_place-start.ensures) size
 
 -- its end can be cast
 cast-t16 : tie.Need-overflow_cast-result
@@ -44,17 +44,17 @@ cast-t16 c = record { sfits = end-is-small c }
 returns-3 : tie.Need-returns
 unfolding of_strtol
 returns-3 c =
-    let read = c.before.before.before.before.before.before.before.before.read_bytes-bytes.ensures in
-    let ok = c.before.before.before.before.before.before.if-bytes.false in
-    let found = c.before.before.before.c_strtol-n in
+    let read = c.read_bytes-bytes.ensures in
+    let ok = c.if-bytes.false in
+    let found = c.c_strtol-n in
     let value-fits : SFits w64 found.result.value = search rules in
     rw (
-      ← c.before.before.before.before.before.before.before.before.before.before.before.read_place-start.ensures,
-      c.before.before.before.before.before.before.before.before.before.before.if-start.false,
+      ← c.read_place-start.ensures,
+      c.if-start.false,
       read_as read ok,
       to_z-of_z value-fits,
       to_z_pos w64 (end-is-small c.before.before),
-      back w64 c.before.flag_of.ensures c.before.flag_of.type-inv,
+      back w64 c.flag_of.ensures c.flag_of.type_inv,
       found.ensures,
       part-is read ok,
     )

@@ -13,9 +13,9 @@ returns : tie.Need-returns-then-same
 unfolding of_three
 returns c =
     let first = c.before.before in
-    let fits = first.before.before.before.before.ranges in
-    rw (same_by first.before.same.ensures first.if-same.true)
-    (simp (c.one.ensures, back w32 c.before.pg_date2j.ensures c.before.pg_date2j.type-inv, to_z-of_z fits.y, to_z-of_z fits.m, to_z-of_z fits.d))
+    let fits = first.ranges in
+    rw (same_by first.same.ensures first.if-same.true)
+    (simp (c.one.ensures, back w32 c.pg_date2j.ensures c.pg_date2j.type_inv, to_z-of_z fits.y, to_z-of_z fits.m, to_z-of_z fits.d))
 
 -- the ISO week
 returns-2 : tie.Need-returns-then-same-2
@@ -23,12 +23,12 @@ unfolding of_three
 returns-2 c =
     let second = c.before.before in
     let first = second.before.before.before in
-    let fits = first.before.before.before.before.ranges in
+    let fits = first.ranges in
     rw (
-      same_by first.before.same.ensures first.if-same.false,
-      same_by second.before.same-2.ensures second.if-same-2.true,
+      same_by first.same.ensures first.if-same.false,
+      same_by second.same-2.ensures second.if-same-2.true,
     )
-    (simp (c.one-then-same-2.ensures, back w32 c.before.pg_date2isoweek.ensures c.before.pg_date2isoweek.type-inv, to_z-of_z fits.y, to_z-of_z fits.m, to_z-of_z fits.d))
+    (simp (c.one-then-same-2.ensures, back w32 c.pg_date2isoweek.ensures c.pg_date2isoweek.type_inv, to_z-of_z fits.y, to_z-of_z fits.m, to_z-of_z fits.d))
 
 -- its year
 returns-3 : tie.Need-returns-then-same-3
@@ -37,13 +37,13 @@ returns-3 c =
     let third = c.before.before in
     let second = third.before.before.before in
     let first = second.before.before.before in
-    let fits = first.before.before.before.before.ranges in
+    let fits = first.ranges in
     rw (
-      same_by first.before.same.ensures first.if-same.false,
-      same_by second.before.same-2.ensures second.if-same-2.false,
-      same_by third.before.same-3.ensures third.if-same-3.true,
+      same_by first.same.ensures first.if-same.false,
+      same_by second.same-2.ensures second.if-same-2.false,
+      same_by third.same-3.ensures third.if-same-3.true,
     )
-    (simp (c.one-then-same-3.ensures, back w32 c.before.pg_date2isoyear.ensures c.before.pg_date2isoyear.type-inv, to_z-of_z fits.y, to_z-of_z fits.m, to_z-of_z fits.d))
+    (simp (c.one-then-same-3.ensures, back w32 c.pg_date2isoyear.ensures c.pg_date2isoyear.type_inv, to_z-of_z fits.y, to_z-of_z fits.m, to_z-of_z fits.d))
 
 -- the days since 1970
 returns-4 : tie.Need-returns-then-same-4
@@ -53,14 +53,14 @@ returns-4 c =
     let third = fourth.before.before.before in
     let second = third.before.before.before in
     let first = second.before.before.before in
-    let fits = first.before.before.before.before.ranges in
+    let fits = first.ranges in
     rw (
-      same_by first.before.same.ensures first.if-same.false,
-      same_by second.before.same-2.ensures second.if-same-2.false,
-      same_by third.before.same-3.ensures third.if-same-3.false,
-      same_by fourth.before.same-4.ensures fourth.if-same-4.true,
+      same_by first.same.ensures first.if-same.false,
+      same_by second.same-2.ensures second.if-same-2.false,
+      same_by third.same-3.ensures third.if-same-3.false,
+      same_by fourth.same-4.ensures fourth.if-same-4.true,
     )
-    (simp (back w64 c.days_from_civil.ensures c.days_from_civil.type-inv, to_z-of_z fits.y, to_z-of_z fits.m, to_z-of_z fits.d))
+    (simp (back w64 c.days_from_civil.ensures c.days_from_civil.type_inv, to_z-of_z fits.y, to_z-of_z fits.m, to_z-of_z fits.d))
 
 -- no such name
 returns-5 : tie.Need-returns
@@ -70,10 +70,10 @@ returns-5 c =
     let second = third.before.before.before in
     let first = second.before.before.before in
     rw (
-      same_by first.before.same.ensures first.if-same.false,
-      same_by second.before.same-2.ensures second.if-same-2.false,
-      same_by third.before.same-3.ensures third.if-same-3.false,
-      same_by c.before.same-4.ensures c.if-same-4.false,
+      same_by first.same.ensures first.if-same.false,
+      same_by second.same-2.ensures second.if-same-2.false,
+      same_by third.same-3.ensures third.if-same-3.false,
+      same_by c.same-4.ensures c.if-same-4.false,
     )
 
 pub of_three_spec : {M : Type 1} → statement M

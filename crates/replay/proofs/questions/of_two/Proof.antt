@@ -13,15 +13,15 @@ returns : tie.Need-returns-then-same
 unfolding of_two
 returns c =
     let first = c.before.before in
-    let fits = first.before.before.before.before.ranges in
-    rw (same_by first.before.same.ensures first.if-same.true)
-    (simp (c.one.ensures, back w32 c.before.pg_isoweek2j.ensures c.before.pg_isoweek2j.type-inv, to_z-of_z fits.year, to_z-of_z fits.week))
+    let fits = first.ranges in
+    rw (same_by first.same.ensures first.if-same.true)
+    (simp (c.one.ensures, back w32 c.pg_isoweek2j.ensures c.pg_isoweek2j.type_inv, to_z-of_z fits.year, to_z-of_z fits.week))
 
 -- no such name
 returns-2 : tie.Need-returns
 unfolding of_two
 returns-2 c =
-    rw (same_by c.before.same.ensures c.if-same.false)
+    rw (same_by c.same.ensures c.if-same.false)
 
 pub of_two_spec : {M : Type 1} → statement M
 of_two_spec =

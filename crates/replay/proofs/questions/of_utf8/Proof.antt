@@ -10,19 +10,19 @@ use Rattle.replay.proofs.questions.of_utf8.Tie as tie
 -- no text
 returns : tie.Need-returns-then-bytes
 unfolding of_utf8
-returns c = rw (read_as c.before.before.read_bytes-bytes.ensures c.if-bytes.true)
+returns c = rw (read_as c.read_bytes-bytes.ensures c.if-bytes.true)
 
 -- the text is within the buffer
-part-is-utf8-end : tie.Need-slice-bounds-is-utf8-end
-part-is-utf8-end c = part-fits c.before.before.before.read_bytes-bytes.ensures c.before.if-bytes.false
+part-is-utf8-end : tie.Need-slice_bounds-is_utf8-end
+part-is-utf8-end c = part-fits c.read_bytes-bytes.ensures c.if-bytes.false
 
 -- a text
 returns-2 : tie.Need-returns
 unfolding of_utf8
 returns-2 c =
-    let read = c.before.before.before.before.before.before.read_bytes-bytes.ensures in
-    let ok = c.before.before.before.before.if-bytes.false in
-    rw (read_as read ok, back w64 c.flag_of.ensures c.flag_of.type-inv, c.before.is_utf8.ensures, part-is read ok)
+    let read = c.read_bytes-bytes.ensures in
+    let ok = c.if-bytes.false in
+    rw (read_as read ok, back w64 c.flag_of.ensures c.flag_of.type_inv, c.is_utf8.ensures, part-is read ok)
 
 pub of_utf8_spec : {M : Type 1} → statement M
 of_utf8_spec =

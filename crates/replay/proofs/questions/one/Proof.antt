@@ -12,7 +12,7 @@ wide-requires c κs = search rules
 
 -- src/questions.rt:40:1
 returns : tie.Need-returns
-returns c = simp (back w64 c.wide.ensures c.wide.type-inv, to_z-of_z c.before.ranges.n)
+returns c = simp (back w64 c.wide.ensures c.wide.type_inv, to_z-of_z c.ranges.n)
 
 pub one_spec : {M : Type 1} → statement M
 one_spec = tie.close (tie.spec wide-requires returns)

@@ -7,7 +7,7 @@ use Rattle.replay.proofs.questions.put_after.Tie as tie
 
 -- the two as one text
 returns : tie.Need-returns
-returns c = put_then _ _ c.before.before.before.before.before.before.put_byte-next.ensures (simp (to_z-of_z c.before.before.before.before.before.before.before.before.before.ranges.value) at c.before.before.put_decimal.ensures)
+returns c = put_then _ _ c.put_byte-next.ensures (simp (to_z-of_z c.ranges.value) at c.put_decimal.ensures)
 
 pub put_after_spec : {M : Type 1} → statement M
 put_after_spec = tie.close (tie.spec (λ c κs. search rules) (λ c κs. search rules) (λ c. search rules) returns)

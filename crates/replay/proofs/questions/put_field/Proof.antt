@@ -14,7 +14,7 @@ returns : tie.Need-returns
 returns c =
     let at-start = c.before.before.before.before.before in
     let n-is : to_z w64 at-start.args.n ≡ pos at-start.args.n = to_z_pos w64 (omega (arith, at-start.ranges.n)) in
-    simp n-is at c.before.before.put_after.ensures
+    simp n-is at c.put_after.ensures
 
 pub put_field_spec : {M : Type 1} → statement M
 put_field_spec = tie.close (tie.spec (λ c. search rules) (λ c κs. search rules) (λ c. search rules) returns)

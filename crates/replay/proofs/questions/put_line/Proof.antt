@@ -8,19 +8,19 @@ use Rattle.replay.proofs.questions.put_line.Tie as tie
 -- no text
 returns : tie.Need-returns-then-bytes
 unfolding line_text
-returns c = rw (read_as c.before.before.before.before.before.before.read_bytes-bytes.ensures c.before.before.before.before.if-bytes.true) c.before.before.unknown.ensures
+returns c = rw (read_as c.read_bytes-bytes.ensures c.if-bytes.true) c.unknown.ensures
 
 -- the text is within the buffer
-part-answer-end : tie.Need-slice-bounds-answer-end
-part-answer-end c = part-fits c.before.before.before.read_bytes-bytes.ensures c.before.if-bytes.false
+part-answer-end : tie.Need-slice_bounds-answer-end
+part-answer-end c = part-fits c.read_bytes-bytes.ensures c.if-bytes.false
 
 -- a line
 returns-2 : tie.Need-returns
 unfolding line_text
 returns-2 c =
-    let read = c.before.before.before.before.before.before.before.before.read_bytes-bytes.ensures in
-    let ok = c.before.before.before.before.before.before.if-bytes.false in
-    rw (read_as read ok) (rw (part-is read ok) at c.before.before.answer.ensures.put)
+    let read = c.read_bytes-bytes.ensures in
+    let ok = c.if-bytes.false in
+    rw (read_as read ok) (rw (part-is read ok) at c.answer.ensures.put)
 
 pub put_line_spec : {M : Type 1} → statement M
 put_line_spec =

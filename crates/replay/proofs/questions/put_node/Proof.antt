@@ -11,9 +11,9 @@ use Rattle.replay.proofs.questions.put_node.Statement.{statement}
 use Rattle.replay.proofs.questions.put_node.Tie as tie
 
 -- the kind, cast
-kind-is : (c : tie.After-struct_known-1) → let kind = c.before.before.args.node.kind in to_z w64 kind ≡ pos kind
+kind-is : (c : tie.After-struct_known-1) → let kind = c.args.node.kind in to_z w64 kind ≡ pos kind
 kind-is c =
-    let fits : Fits w8 c.before.before.args.node.kind = search rules in
+    let fits : Fits w8 c.args.node.kind = search rules in
     to_z_pos w64 (omega arith)
 
 -- the first node
@@ -21,14 +21,14 @@ returns : tie.Need-returns-then-first
 returns c =
     let at_test = c.before.before.before.before.before.before.before.before in
     rw at_test.if-first.true
-    (put_then _ _ (simp (kind-is at_test.before) at c.before.before.before.before.before.before.put_decimal-next.ensures) c.before.before.put_fields.ensures)
+    (put_then _ _ (simp (kind-is at_test.before) at c.put_decimal-next.ensures) c.put_fields.ensures)
 
 -- a node after a space
 returns-2 : tie.Need-returns
 returns-2 c =
     let at_test = c.before.before.before.before.before.before.before.before in
     rw at_test.if-first.false
-    (put_then _ _ (simp (kind-is at_test.before) at c.before.before.before.before.before.before.put_after-next.ensures) c.before.before.put_fields-2.ensures)
+    (put_then _ _ (simp (kind-is at_test.before) at c.put_after-next.ensures) c.put_fields-2.ensures)
 
 pub put_node_spec : {M : Type 1} → statement M
 put_node_spec =

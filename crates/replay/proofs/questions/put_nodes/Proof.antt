@@ -22,14 +22,14 @@ loop-again : tie.Need-loop-i-preserved invariant-loop decreases-loop
 loop-again c =
     let after-node = c.before.before.before.before in
     let at-loop = after-node.before.before.before in
-    let parsed = at-loop.before.before.parse_format-count.ensures in
-    more at-loop.loop-i.invariant _ (omega (arith, parsed.count)) (after-node.Node-at.ensures ∙ node-is (small-nodes false _) parsed _ (omega arith)) c.before.before.put_node-next.ensures
+    let parsed = at-loop.parse_format-count.ensures in
+    more at-loop.loop-i.invariant _ (omega (arith, parsed.count)) (after-node.node_at.ensures ∙ node-is (small-nodes false _) parsed _ (omega arith)) c.put_node-next.ensures
 
 -- no node is left
 returns : tie.Need-returns invariant-loop decreases-loop
 returns c =
-    let parsed = c.before.before.before.parse_format-count.ensures in
-    ended c.before.loop-i.invariant (omega (arith, parsed.count))
+    let parsed = c.parse_format-count.ensures in
+    ended c.loop-i.invariant (omega (arith, parsed.count))
 
 pub put_nodes_spec : {M : Type 1} → statement M
 put_nodes_spec =
@@ -43,8 +43,8 @@ put_nodes_spec =
     (λ c. search rules)
     (λ c κs. search rules)
     (λ c κs. search rules)
-    (λ c. omega (arith, c.before.before.before.before.before.before.before.before.before.parse_format-count.ensures.few))
+    (λ c. omega (arith, c.parse_format-count.ensures.few))
     (λ c. omega arith)
     loop-again
-    (λ c. put-size _ _ c.before.loop-i.invariant.put)
+    (λ c. put-size _ _ c.loop-i.invariant.put)
     returns)

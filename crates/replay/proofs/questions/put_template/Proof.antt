@@ -11,25 +11,25 @@ use Rattle.replay.proofs.questions.put_template.Tie as tie
 -- no text
 returns : tie.Need-returns-then-bytes
 unfolding template_text
-returns c = rw (read_as c.before.before.before.before.before.before.read_bytes-bytes.ensures c.before.before.before.before.if-bytes.true) c.before.before.unknown.ensures
+returns c = rw (read_as c.read_bytes-bytes.ensures c.if-bytes.true) c.unknown.ensures
 
 -- the text is within the buffer
-part-put-nodes-end : tie.Need-slice-bounds-put-nodes-end
-part-put-nodes-end c = part-fits c.before.before.before.read_bytes-bytes.ensures c.before.if-bytes.false
+part-put-nodes-end : tie.Need-slice_bounds-put_nodes-end
+part-put-nodes-end c = part-fits c.read_bytes-bytes.ensures c.if-bytes.false
 
 -- it is as long as the buffer at most
 put-nodes-requires : tie.Need-put_nodes-requires
 put-nodes-requires c κs =
-    let size : length c.before.before.before.before.before.read_bytes-bytes.new.1.1.0 ≡ 256 = search rules in
+    let size : length c.read_bytes-bytes.new.1.1.0 ≡ 256 = search rules in
     rw length-take (omega arith)
 
 -- a template
 returns-2 : tie.Need-returns
 unfolding template_text
 returns-2 c =
-    let read = c.before.before.before.before.before.before.before.before.read_bytes-bytes.ensures in
-    let ok = c.before.before.before.before.before.before.if-bytes.false in
-    rw (read_as read ok) (rw (part-is read ok) at c.before.before.put_nodes.ensures)
+    let read = c.read_bytes-bytes.ensures in
+    let ok = c.if-bytes.false in
+    rw (read_as read ok) (rw (part-is read ok) at c.put_nodes.ensures)
 
 pub put_template_spec : {M : Type 1} → statement M
 put_template_spec =

@@ -11,26 +11,26 @@ use Rattle.replay.proofs.questions.put_values.Tie as tie
 -- one number
 returns : tie.Need-returns-in-One
 returns c =
-    let at_one = c.before.before.before.before.before in
-    let a : SFits w64 at_one.values-1.given.0.0 = search rules in
-    rw at_one.values-1.given.1 (simp (to_z-of_z a) at c.before.before.put_decimal.ensures)
+    let at_one = c.before.before.before.before in
+    let a : SFits w64 at_one.in-One.a = search rules in
+    rw at_one.in-One.is (simp (to_z-of_z a) at c.put_decimal.ensures)
 
 -- three
 returns-2 : tie.Need-returns-in-Three
 returns-2 c =
     let second = c.before.before.before.before.before.before in
     let first = second.before.before.before.before in
-    let at-three = first.before.before.before in
+    let at-three = first.before.before in
     let given = at-three.values-in-Three-1.given.0 in
     let a : SFits w64 given.0 = search rules in
     let b : SFits w64 given.1.0 = search rules in
     let d : SFits w64 given.1.1.0 = search rules in
     let two = put_then _ _ (simp (to_z-of_z a) at first.put_decimal-first.ensures) (simp (to_z-of_z b) at second.put_after-second.ensures) in
-    rw at-three.values-in-Three-1.given.1 (put_then _ _ two (simp (to_z-of_z d) at c.before.before.put_after.ensures))
+    rw at-three.in-Three.is (put_then _ _ two (simp (to_z-of_z d) at c.put_after.ensures))
 
 -- none
 returns-3 : tie.Need-returns-in-None
-returns-3 c = rw c.before.before.before.before.enum_told-1.given.1 c.before.before.unknown.ensures
+returns-3 c = rw c.in-None.is c.unknown.ensures
 
 pub put_values_spec : {M : Type 1} → statement M
 put_values_spec =

@@ -10,7 +10,7 @@ returns : tie.Need-returns-then-same
 unfolding values_of
 returns c =
     let first = c.before in
-    rw (same_by first.before.same.ensures first.if-same.true)
+    rw (same_by first.same.ensures first.if-same.true)
     c.of_strtol.ensures
 
 -- the length of a character
@@ -20,8 +20,8 @@ returns-2 c =
     let second = c.before in
     let first = second.before.before.before in
     rw (
-      same_by first.before.same.ensures first.if-same.false,
-      same_by second.before.same-2.ensures second.if-same-2.true,
+      same_by first.same.ensures first.if-same.false,
+      same_by second.same-2.ensures second.if-same-2.true,
     )
     c.of_mblen.ensures
 
@@ -33,9 +33,9 @@ returns-3 c =
     let second = third.before.before.before in
     let first = second.before.before.before in
     rw (
-      same_by first.before.same.ensures first.if-same.false,
-      same_by second.before.same-2.ensures second.if-same-2.false,
-      same_by third.before.same-3.ensures third.if-same-3.true,
+      same_by first.same.ensures first.if-same.false,
+      same_by second.same-2.ensures second.if-same-2.false,
+      same_by third.same-3.ensures third.if-same-3.true,
     )
     c.of_utf8.ensures
 
@@ -47,11 +47,11 @@ returns-4 c =
     let second = third.before.before.before in
     let first = second.before.before.before in
     rw (
-      same_by first.before.same.ensures first.if-same.false,
-      same_by second.before.same-2.ensures second.if-same-2.false,
-      same_by third.before.same-3.ensures third.if-same-3.false,
+      same_by first.same.ensures first.if-same.false,
+      same_by second.same-2.ensures second.if-same-2.false,
+      same_by third.same-3.ensures third.if-same-3.false,
     )
-    (simp (c.of_numbers.ensures, c.before.read_numbers.ensures))
+    (simp (c.of_numbers.ensures, c.read_numbers.ensures))
 
 pub values_of_spec : {M : Type 1} → statement M
 values_of_spec =

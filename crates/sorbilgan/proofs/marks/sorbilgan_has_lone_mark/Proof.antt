@@ -5,11 +5,11 @@ use Rattle.sorbilgan.proofs.marks.sorbilgan_has_lone_mark.Tie as tie
 
 -- yes
 returns : tie.Need-returns-then-has_lone_mark
-returns c = rw (← c.before.has_lone_mark.ensures, c.if-has_lone_mark.true)
+returns c = rw (← c.has_lone_mark.ensures, c.if-has_lone_mark.true)
 
 -- no
 returns-2 : tie.Need-returns-else-has_lone_mark
-returns-2 c = rw (← c.before.has_lone_mark.ensures, c.if-has_lone_mark.false)
+returns-2 c = rw (← c.has_lone_mark.ensures, c.if-has_lone_mark.false)
 
 pub sorbilgan_has_lone_mark_spec : {M : Type 1} → statement M
 sorbilgan_has_lone_mark_spec = tie.close (tie.spec (λ c κs. search rules) returns returns-2)

@@ -11,12 +11,12 @@ use Rattle.sorbilgan.proofs.names.sorbilgan_pattern.Tie as tie
 
 -- past the table there is no name
 none-past : (k : ℕ) → 112 ≤ k → name_of k ≡ []
-none-past k h = ap (λ (p : Pattern). p.name-1) (get_or-eq_default patterns _ h)
+none-past k h = ap (λ (p : Pattern). p.name) (get_or-eq_default patterns _ h)
 
 -- past the table
 returns : tie.Need-returns-then-number-ge-NO_PATTERN
 returns c =
-    let no_name = none-past c.before.before.args.number c.before.if-number-ge-NO_PATTERN.true in
+    let no_name = none-past c.args.number c.if-number-ge-NO_PATTERN.true in
     record { is = rw no_name; name = rw no_name }
 
 -- a pattern of the table

@@ -5,7 +5,7 @@ use Rattle.sorbilgan.proofs.with_settings.record_of.Statement.{statement}
 use Rattle.sorbilgan.proofs.with_settings.record_of.Tie as tie
 
 returns : tie.Need-returns
-returns c = rw c.before.before.before.fields_of-verdict.ensures at c.put_read.ensures
+returns c = rw c.fields_of-verdict.ensures at c.put_read.ensures
 
 pub record_of_spec : {M : Type 1} → statement M
 record_of_spec = tie.close (tie.spec (λ c κs. search rules) (λ c κs. search rules) returns)

@@ -14,11 +14,11 @@ use Rattle.sorbilgan.proofs.with_settings.sorbilgan_compile_with.Statement.{stat
 use Rattle.sorbilgan.proofs.with_settings.sorbilgan_compile_with.Tie as tie
 
 -- the limit is that of the settings
-limit : (c : tie.After-template_limit) → c.template_limit.result ≡ template_limit (settings_of c.before.before.before.args.settings)
-limit c = c.template_limit.ensures ∙ ap template_limit c.before.settings_of-set.ensures
+limit : (c : tie.After-template_limit) → c.template_limit.result ≡ template_limit (settings_of c.args.settings)
+limit c = c.template_limit.ensures ∙ ap template_limit c.settings_of-set.ensures
 
 -- the template is within it
-short : (c : tie.Else-template_limit-t) → length c.before.before.before.before.args.t.now ≤ template_limit (settings_of c.before.before.before.before.args.settings)
+short : (c : tie.Else-template_limit-t) → length c.args.t.now ≤ template_limit (settings_of c.args.settings)
 short c = omega (arith, limit c.before)
 
 -- over the limit: -1
@@ -35,14 +35,14 @@ returns-2 c =
 parse-format-requires : tie.Need-parse_format-requires
 parse-format-requires c κs =
     let within-limit = c.before.before.before in
-    (omega (arith, short within-limit, template-most (settings_of within-limit.before.before.before.before.args.settings)), omega arith)
+    (omega (arith, short within-limit, template-most (settings_of within-limit.args.settings)), omega arith)
 
 -- the bytes of the nodes
 returns-3 : tie.Need-returns
 returns-3 c =
     let at_test = c.before.before in
     let after-utf8 = at_test.before in
-    let set_is = after-utf8.before.before.before.settings_of-set.ensures in
+    let set_is = after-utf8.settings_of-set.ensures in
     parsed _ _ _ (short after-utf8.before) (sym after-utf8.is_utf8.ensures ∙ not-false _ at_test.if-not-is_utf8.false)
     (rw set_is at c.parse_format.ensures)
 

@@ -7,7 +7,7 @@ use Rattle.sorbilgan.proofs.with_settings.sorbilgan_instant_by_with.Tie as tie
 returns : tie.Need-returns
 returns c =
     let after-reading = c.before.before in
-    rw (after-reading.instant_by.ensures, after-reading.before.settings_of.ensures) at c.put_instant.ensures
+    rw (after-reading.instant_by.ensures, after-reading.settings_of.ensures) at c.put_instant.ensures
 
 pub sorbilgan_instant_by_with_spec : {M : Type 1} → statement M
 sorbilgan_instant_by_with_spec = tie.close (tie.spec (λ c κs. search rules) (λ c κs. search rules) (λ c κs. search rules) returns)

@@ -11,23 +11,23 @@ use Rattle.sorbilgan.specs.Writing.{written_record}
 use Rattle.sorbilgan.proofs.writing.put_written.Statement.{statement}
 use Rattle.sorbilgan.proofs.writing.put_written.Tie as tie
 
-length-fits : (c : tie.In-Length-2) → c.w-1.given.0.0 < 2 ^ 63
-length-fits c = c.before.before.requires _ c.w-1.given.1
+length-fits : (c : tie.In-Length-2) → c.in-Length.len < 2 ^ 63
+length-fits c = c.requires _ c.in-Length.is
 
 -- a text was written
 returns : tie.Need-returns-in-Length
 unfolding written_record
 returns c =
     let after-alone = c.before.before in
-    let at_length = after-alone.before.before in
-    value-recorded after-alone.alone.ensures (to_z_pos w64 (length-fits at_length)) (ap written_record at_length.w-1.given.1) c.put_value.ensures
+    let at_length = after-alone.before in
+    value-recorded after-alone.alone.ensures (to_z_pos w64 (length-fits at_length)) (ap written_record at_length.in-Length.is) c.put_value.ensures
 
 -- a refusal
 returns-2 : tie.Need-returns-in-Refused
 unfolding written_record
 returns-2 c =
     let after-report = c.before.before in
-    value-recorded after-report.report_of.ensures refl (ap written_record after-report.before.before.w-in-Refused-1.given.1) c.put_value-in-Refused.ensures
+    value-recorded after-report.report_of.ensures refl (ap written_record after-report.in-Refused.is) c.put_value-in-Refused.ensures
 
 pub put_written_spec : {M : Type 1} → statement M
 put_written_spec =
@@ -35,7 +35,7 @@ put_written_spec =
     (tie.spec
     (λ c. search rules)
     (λ c κs. search rules)
-    (λ c. omega (arith, length-fits c.before.before))
+    (λ c. omega (arith, length-fits c.before))
     (λ c κs. search rules)
     (λ c. search rules)
     (λ c κs. search rules)

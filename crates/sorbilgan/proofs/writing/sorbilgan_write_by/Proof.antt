@@ -8,7 +8,7 @@ use Rattle.sorbilgan.proofs.writing.sorbilgan_write_by.Tie as tie
 returns : tie.Need-returns
 returns c =
     let after_write = c.before.before in
-    let fits = after_write.before.before.before.before.before.before.ranges in
+    let fits = after_write.ranges in
     rw (moment-passed fits.year fits.month fits.day fits.hour fits.minute fits.second fits.micros) at after_write.sorbilgan_write_by_with.ensures
 
 pub sorbilgan_write_by_spec : {M : Type 1} → statement M

@@ -11,7 +11,7 @@ use Rattle.sorbilgan.proofs.writing.sorbilgan_write_by_with.Statement.{statement
 use Rattle.sorbilgan.proofs.writing.sorbilgan_write_by_with.Tie as tie
 
 -- a buffer's length is within 63 bits
-room : (c : tie.Start) → length c.args.text-1.now < 2 ^ 63
+room : (c : tie.Start) → length c.args.text.now < 2 ^ 63
 room c = omega arith
 
 -- so is the length of a text that has room in it
@@ -24,12 +24,12 @@ put-written-requires c κs n e =
 returns : tie.Need-returns
 returns c =
     let after_write = c.before.before.before.before in
-    let fits = after_write.before.before.before.before.before.before.before.ranges in
+    let fits = after_write.ranges in
     let moment-is =
-    after_write.before.before.before.seven_numbers-m.ensures
+    after_write.seven_numbers-m.ensures
     ∙ moment-passed fits.year fits.month fits.day fits.hour fits.minute fits.second fits.micros in
-    let wrote = rw (moment-is, after_write.before.before.settings_of.ensures) at after_write.write_by.ensures in
-    record { buffer = rw wrote.is at wrote.buffer; recorded = rw wrote.is at c.Put-written.ensures }
+    let wrote = rw (moment-is, after_write.settings_of.ensures) at after_write.write_by.ensures in
+    record { buffer = rw wrote.is at wrote.buffer; recorded = rw wrote.is at c.put_written.ensures }
 
 pub sorbilgan_write_by_with_spec : {M : Type 1} → statement M
 sorbilgan_write_by_with_spec =

@@ -11,7 +11,7 @@ returns c = rw c.if-quoted.true
 
 -- outside quotes
 returns-2 : tie.Need-returns
-returns-2 c = rw c.before.before.if-quoted.false (c.in_set.ensures ∙ singles _)
+returns-2 c = rw c.if-quoted.false (c.in_set.ensures ∙ singles _)
 
 pub is_single_spec : {M : Type 1} → statement M
 is_single_spec = tie.close (tie.spec returns (λ c. search rules) (λ c κs. search rules) returns-2)

@@ -8,21 +8,21 @@ use Rattle.template_nodes.proofs.kinds.kind_of.Tie as tie
 -- a separator
 returns : tie.Need-returns-then-is_separator_char
 unfolding kind_of
-returns c = simp (sym c.before.is_separator_char.ensures ∙ c.if-is_separator_char.true)
+returns c = simp (sym c.is_separator_char.ensures ∙ c.if-is_separator_char.true)
 
 -- a space
 returns-2 : tie.Need-returns-then-is_space_c
 unfolding kind_of
 returns-2 c =
     let no-separator = c.before.before in
-    simp (sym no-separator.before.is_separator_char.ensures ∙ no-separator.if-is_separator_char.false, sym c.before.is_space_c.ensures ∙ c.if-is_space_c.true)
+    simp (sym no-separator.is_separator_char.ensures ∙ no-separator.if-is_separator_char.false, sym c.is_space_c.ensures ∙ c.if-is_space_c.true)
 
 -- any other character
 returns-3 : tie.Need-returns
 unfolding kind_of
 returns-3 c =
     let no-separator = c.before.before in
-    simp (sym no-separator.before.is_separator_char.ensures ∙ no-separator.if-is_separator_char.false, sym c.before.is_space_c.ensures ∙ c.if-is_space_c.false)
+    simp (sym no-separator.is_separator_char.ensures ∙ no-separator.if-is_separator_char.false, sym c.is_space_c.ensures ∙ c.if-is_space_c.false)
 
 pub kind_of_spec : {M : Type 1} → statement M
 kind_of_spec = tie.close (tie.spec (λ c κs. search rules) returns (λ c κs. search rules) returns-2 returns-3)

@@ -9,7 +9,7 @@ returns c = rw c.if-quoted.true
 
 -- outside quotes
 returns-2 : tie.Need-returns
-returns-2 c = rw c.before.if-quoted.false c.kind_of.ensures
+returns-2 c = rw c.if-quoted.false c.kind_of.ensures
 
 pub literal_kind_spec : {M : Type 1} → statement M
 literal_kind_spec = tie.close (tie.spec returns (λ c κs. search rules) returns-2)

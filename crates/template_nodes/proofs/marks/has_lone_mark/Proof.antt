@@ -41,27 +41,27 @@ none_left t ns i h = rw (drop_of_length-le ns h)
 returns : tie.Need-returns-then-is_lone_mark invariant-loop decreases-loop
 returns c =
     let at-loop = c.before.before.before.before in
-    let args = at-loop.before.before.before.args in
+    let args = at-loop.args in
     let ns = nodes_in args.c.now in
     let i = at-loop.loop-i.i in
     let inside : i < length ns = omega (arith, nodes-length args.c.now) in
-    sym (sym at-loop.loop-i.invariant ∙ this-one args.t.now ns i inside (rw (← c.before.before.Node-at.ensures) (sym c.before.is_lone_mark.ensures ∙ c.if-is_lone_mark.true)))
+    sym (sym at-loop.loop-i.invariant ∙ this-one args.t.now ns i inside (rw (← c.node_at.ensures) (sym c.is_lone_mark.ensures ∙ c.if-is_lone_mark.true)))
 
 -- none yet
 loop-again : tie.Need-loop-i-preserved invariant-loop decreases-loop
 loop-again c =
     let at-loop = c.before.before.before.before in
-    let args = at-loop.before.before.before.args in
+    let args = at-loop.args in
     let ns = nodes_in args.c.now in
     let i = at-loop.loop-i.i in
     let inside : i < length ns = omega (arith, nodes-length args.c.now) in
-    rw add-one (sym (another args.t.now ns i inside (rw (← c.before.before.Node-at.ensures) (sym c.before.is_lone_mark.ensures ∙ c.if-is_lone_mark.false))) ∙ at-loop.loop-i.invariant)
+    rw add-one (sym (another args.t.now ns i inside (rw (← c.node_at.ensures) (sym c.is_lone_mark.ensures ∙ c.if-is_lone_mark.false))) ∙ at-loop.loop-i.invariant)
 
 -- none at all
 returns-2 : tie.Need-returns invariant-loop decreases-loop
 returns-2 c =
     let at-loop = c.before in
-    let args = at-loop.before.before.before.args in
+    let args = at-loop.args in
     let ns = nodes_in args.c.now in
     let i = at-loop.loop-i.i in
     sym (sym at-loop.loop-i.invariant ∙ none_left args.t.now ns i (omega (arith, nodes-length args.c.now)))

@@ -10,7 +10,7 @@ returns c = rw (eq-eqb _ _ c.if-n-eq-FN_ACTION.true)
 
 -- a literal
 returns-2 : tie.Need-returns
-returns-2 c = rw (ne_eqb _ _ c.before.before.if-n-eq-FN_ACTION.false) c.is_mark.ensures
+returns-2 c = rw (ne_eqb _ _ c.if-n-eq-FN_ACTION.false) c.is_mark.ensures
 
 pub is_lone_mark_spec : {M : Type 1} → statement M
 is_lone_mark_spec = tie.close (tie.spec returns (λ c. search rules) (λ c κs. search rules) returns-2)

@@ -53,9 +53,9 @@ day : (c : tie.After-in_range-2) → c.in_range-2.result ≡ within (pos 1) (pos
 day c =
     let m = (start2 c).args.m in
     let at_length = c.before.before in
-    let leap = at_length.before.before.pg_is_leap.ensures in
+    let leap = at_length.pg_is_leap.ensures in
     let length = simp (leap, back m.year (search rules), back m.month (search rules)) at at_length.month_length-days.ensures in
-    simp (back m.day (search rules), returned at_length.month_length-days.type-inv length) at c.in_range-2.ensures
+    simp (back m.day (search rules), returned at_length.month_length-days.type_inv length) at c.in_range-2.ensures
 
 hour : (c : tie.After-in_range-3) → c.in_range-3.result ≡ within (pos 0) (pos 23) (start3 c).args.m.hour
 hour c = simp (back (start3 c).args.m.hour (search rules)) at c.in_range-3.ensures

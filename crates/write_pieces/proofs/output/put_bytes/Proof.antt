@@ -21,21 +21,21 @@ decreases-loop text out₀ at i₀ out i = length text - i
 returns : tie.Need-returns-then-text-eq1 invariant-loop decreases-loop
 returns c =
     let at_test = c.before in
-    let args = at_test.before.args in
+    let args = at_test.args in
     record { is = one_byte args.out.now args.at args.text.now at_test.if-text-eq1.true; next = rw at_test.if-text-eq1.true }
 
 -- the next byte is put
 loop-again : tie.Need-loop-i-preserved invariant-loop decreases-loop
 loop-again c =
     let at-loop = c.before.before in
-    let args = at-loop.before.before.args in
+    let args = at-loop.args in
     (omega arith, search rules, next-byte at-loop.loop-i.out args.at args.text.now at-loop.loop-i.i (omega arith) ∙ at-loop.loop-i.invariant.2)
 
 -- all bytes are put
 returns-2 : tie.Need-returns invariant-loop decreases-loop
 returns-2 c =
     let at-loop = c.before in
-    let args = at-loop.before.before.args in
+    let args = at-loop.args in
     let done : at-loop.loop-i.i ≡ length args.text.now = omega arith in
     record {
       is = sym (no_byte at-loop.loop-i.out args.at args.text.now at-loop.loop-i.i done) ∙ at-loop.loop-i.invariant.2;

@@ -22,14 +22,14 @@ decreases-loop n width out₀ at rest₀ i₀ out rest i = i
 loop-again : tie.Need-loop-i-preserved invariant-loop decreases-loop
 loop-again c =
     let at-loop = c.before in
-    let args = at-loop.before.args in
+    let args = at-loop.args in
     (omega arith, search rules, last-digit at-loop.loop-i.out args.at at-loop.loop-i.i at-loop.loop-i.rest (omega arith) ∙ at-loop.loop-i.invariant.2)
 
 -- all digits are put
 returns : tie.Need-returns invariant-loop decreases-loop
 returns c =
     let at-loop = c.before in
-    let args = at-loop.before.args in
+    let args = at-loop.args in
     record {
       is = sym (no_digit at-loop.loop-i.out args.at at-loop.loop-i.i at-loop.loop-i.rest (omega arith)) ∙ at-loop.loop-i.invariant.2;
       next = ap (λ (k : ℕ). args.at + k) (sym (decimal-length args.width args.n));

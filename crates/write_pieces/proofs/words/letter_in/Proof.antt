@@ -23,23 +23,23 @@ module _ (case : Case) (title : case ≡ Title) (first : Bool) (b r : ℕ) where
 returns : tie.Need-returns-then-first
 returns c =
     let at-arm = c.before.before in
-    let args = at-arm.before.before.args in
-    first-letter args.case at-arm.enum_told-in-Title-1.given.1 args.first args.b _ c.before.if-first.true c.raised-then-first.ensures
+    let args = at-arm.args in
+    first-letter args.case at-arm.in-Title.is args.first args.b _ c.if-first.true c.raised-then-first.ensures
 
 -- capitals
 returns-2 : tie.Need-returns-in-Capitals
-returns-2 c = rw c.before.enum_told-1.given.1 c.raised.ensures
+returns-2 c = rw c.in-Capitals.is c.raised.ensures
 
 -- small letters
 returns-3 : tie.Need-returns-in-Small
-returns-3 c = rw c.before.enum_told-in-Small-1.given.1 c.folded.ensures
+returns-3 c = rw c.in-Small.is c.folded.ensures
 
 -- title case, another letter
 returns-4 : tie.Need-returns-else-first
 returns-4 c =
     let at-arm = c.before.before in
-    let args = at-arm.before.before.args in
-    other-letter args.case at-arm.enum_told-in-Title-1.given.1 args.first args.b _ c.before.if-first.false c.folded-in-Title.ensures
+    let args = at-arm.args in
+    other-letter args.case at-arm.in-Title.is args.first args.b _ c.if-first.false c.folded-in-Title.ensures
 
 pub letter_in_spec : {M : Type 1} → statement M
 letter_in_spec =

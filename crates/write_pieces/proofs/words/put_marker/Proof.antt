@@ -14,23 +14,23 @@ use Rattle.write_pieces.proofs.words.put_marker.Statement.{statement}
 use Rattle.write_pieces.proofs.words.put_marker.Tie as tie
 
 -- the letter that is chosen is that of the half of the day
-chosen : (c : tie.Joined-morning) → c.if-morning.half ≡ (if c.before.before.args.morning then 65 else 80)
+chosen : (c : tie.Joined-morning) → c.if-morning.half ≡ (if c.args.morning then 65 else 80)
 chosen c = (elim c.if-morning.branch [ inl w ↦ rw w.0.taken w.1 | inr w ↦ rw w.0.left w.1 ])
 
 -- the first letter is that of the half of the day, in the case
-first : (c : tie.After-letter_in) → let args = c.before.before.before.before.args in c.letter_in.result ≡ half args.case args.morning
+first : (c : tie.After-letter_in) → let args = c.args in c.letter_in.result ≡ half args.case args.morning
 first c =
-    let args = c.before.before.before.before.args in
+    let args = c.args in
     c.letter_in.ensures ∙ ap (letter_in args.case true) (chosen c.before.before)
 
 -- there is room for two bytes
-two : (c : tie.After-letter_in) → let args = c.before.before.before.before.args in args.at + 1 < length args.out.now
+two : (c : tie.After-letter_in) → let args = c.args in args.at + 1 < length args.out.now
 two c =
     let at-start = c.before.before.before.before in
     omega (arith, marker-some at-start.args.case at-start.args.dotted at-start.args.morning, at-start.requires)
 
 -- and for four where there are dots
-four : (c : tie.Then-dotted) → let args = c.before.before.before.before.before.args in args.at + 3 < length args.out.now
+four : (c : tie.Then-dotted) → let args = c.args in args.at + 3 < length args.out.now
 four c =
     let at-start = c.before.before.before.before.before in
     let size = marker-size at-start.args.case true at-start.args.morning in
@@ -40,9 +40,9 @@ four c =
 returns : tie.Need-returns-then-dotted
 returns c =
     let after_letters = c.before in
-    let args = after_letters.before.before.before.before.args in
+    let args = after_letters.args in
     rw c.if-dotted.true (record {
-      is = dotted-put args.case args.out.now args.at _ _ args.morning (first after_letters) after_letters.before.letter_in-m.ensures;
+      is = dotted-put args.case args.out.now args.at _ _ args.morning (first after_letters) after_letters.letter_in-m.ensures;
       next = omega (arith, marker-size args.case true args.morning);
     })
 
@@ -50,9 +50,9 @@ returns c =
 returns-2 : tie.Need-returns
 returns-2 c =
     let after_letters = c.before in
-    let args = after_letters.before.before.before.before.args in
+    let args = after_letters.args in
     rw c.if-dotted.false (record {
-      is = plain-put args.case args.out.now args.at _ _ args.morning (first after_letters) after_letters.before.letter_in-m.ensures;
+      is = plain-put args.case args.out.now args.at _ _ args.morning (first after_letters) after_letters.letter_in-m.ensures;
       next = omega (arith, marker-size args.case false args.morning);
     })
 

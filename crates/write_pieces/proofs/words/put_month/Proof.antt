@@ -16,23 +16,23 @@ use Rattle.write_pieces.proofs.words.put_month.Tie as tie
 -- the part of the table that is put
 abbrev part : tie.After-name_length → List ℕ
 part c =
-    let start = 9 * (c.before.before.before.args.month - 1) in
-    take (start + c.name_length.result - start) (drop start c.before.months_full-names.result)
+    let start = 9 * (c.args.month - 1) in
+    take (start + c.name_length.result - start) (drop start c.months_full-names.result)
 
 -- in the case it is the name
-named : (c : tie.After-name_length) → let args = c.before.before.before.args in
+named : (c : tie.After-name_length) → let args = c.args in
     in_case args.case (part c) ≡ month_text args.case args.full args.month
 named c =
     let at-start = c.before.before.before in
     let args = at-start.args in
-    name-part args.case args.month at-start.requires.0 at-start.requires.1 args.full _ c.before.months_full-names.ensures
+    name-part args.case args.month at-start.requires.0 at-start.requires.1 args.full _ c.months_full-names.ensures
     _ (c.name_length.ensures.0 args.case)
 
 -- there is room for the name
 put-word-requires : tie.Need-put_word-requires
 put-word-requires c κs =
     let after-length = c.before.before.before in
-    let at-start = after-length.before.before.before in
+    let at-start = after-length.before.before in
     omega (arith, cased-size at-start.args.case (part after-length), ap length (named after-length), at-start.requires.2)
 
 -- the name is put

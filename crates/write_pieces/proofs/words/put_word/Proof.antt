@@ -24,7 +24,7 @@ decreases-loop word case out₀ at i₀ out i = length word - i
 loop-again : tie.Need-loop-i-preserved invariant-loop decreases-loop
 loop-again c =
     let at-loop = c.before.before.before in
-    let args = at-loop.before.before.before.args in
+    let args = at-loop.args in
     let turn = next-letter args.case at-loop.loop-i.out args.at args.word.now at-loop.loop-i.i (omega arith) _ c.letter_in.ensures in
     (omega arith, search rules, turn ∙ at-loop.loop-i.invariant.2)
 
@@ -32,7 +32,7 @@ loop-again c =
 returns : tie.Need-returns invariant-loop decreases-loop
 returns c =
     let at-loop = c.before in
-    let args = at-loop.before.before.before.args in
+    let args = at-loop.args in
     let text = in_case args.case args.word.now in
     let done : at-loop.loop-i.i ≡ length text = omega (arith, cased-size args.case args.word.now) in
     record {
