@@ -40,27 +40,27 @@ module _ (c : tie.Else-not-is_digit_c invariant-loop decreases-loop) where
   at-loop = c.before.before.before.before
 
   digit : is_digit (byte at-loop) ≡ true
-  digit = sym c.is_digit_c.ensures ∙ not-false _ c.if-not-is_digit_c.false
+  digit = sym c.is_digit_c.ensures ∙ c.if-not-is_digit_c.false
 
 -- the byte is no digit
 returns : tie.Need-returns-then-not-is_digit_c invariant-loop decreases-loop
 returns c =
     let here = c.before.before.before.before in
-    let no_digit = sym c.is_digit_c.ensures ∙ not-true _ c.if-not-is_digit_c.true in
+    let no_digit = sym c.is_digit_c.ensures ∙ c.if-not-is_digit_c.true in
     stopped (most here) (text here) _ _ _ _ here.loop-i.invariant _ here.limit_of-most.ensures (omega arith) no_digit
 
 -- the digit takes the number beyond the limit, or further beyond it
 loop-again : tie.Need-loop-i-preserved-then-most-d invariant-loop decreases-loop
 loop-again c =
     let here = at-loop c.before in
-    full (most here) (text here) _ _ _ _ here.loop.inv (omega arith)
+    full (most here) (text here) _ _ _ _ here.loop-i.inv (omega arith)
     (digit c.before) (omega (arith, bounded here)) (omega arith)
 
 -- the digit leaves the number within the limit
 loop-again-2 : tie.Need-loop-i-preserved invariant-loop decreases-loop
 loop-again-2 c =
     let here = at-loop c.before in
-    more (most here) (text here) _ _ _ _ here.loop.inv (omega arith)
+    more (most here) (text here) _ _ _ _ here.loop-i.inv (omega arith)
     (digit c.before) (omega (arith, bounded here)) (omega arith)
 
 -- the end of the text

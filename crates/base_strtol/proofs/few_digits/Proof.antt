@@ -31,21 +31,21 @@ module _ (c : tie.Else-not-is_digit_c invariant-loop decreases-loop) where
   abbrev text : List ℕ
   text = at-loop.before.before.args.s.now
 
-  digit : is_digit (byte_at text at-loop.loop.i) ≡ true
+  digit : is_digit (byte_at text at-loop.loop-i.i) ≡ true
   digit = sym c.is_digit_c.ensures ∙ not-false _ c.if-not-is_digit_c.false
 
 -- the byte is no digit
 returns : tie.Need-returns-then-not-is_digit_c invariant-loop decreases-loop
 returns c =
     let here = c.before.before.before.before in
-    let no_digit = sym c.is_digit_c.ensures ∙ not-true _ c.if-not-is_digit_c.true in
+    let no_digit = sym c.is_digit_c.ensures ∙ c.if-not-is_digit_c.true in
     short-read _ _ (stopped (limit false) _ _ _ _ _ here.loop-i.invariant.1 _ refl (omega arith) no_digit) here.loop-i.invariant.0
 
 -- with this digit the number is too large
 returns-2 : tie.Need-returns-then-value-gt99999999 invariant-loop decreases-loop
 returns-2 c =
     let at-digit = c.before in
-    short-not _ _ (at-loop at-digit).loop.invariant.1 c.if-value-gt99999999.true (omega arith) (digit at-digit)
+    short-not _ _ (at-loop at-digit).loop-i.invariant.1 c.if-value-gt99999999.true (omega arith) (digit at-digit)
 
 -- the digit is added
 loop-again : tie.Need-loop-i-preserved invariant-loop decreases-loop

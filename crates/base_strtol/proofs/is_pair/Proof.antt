@@ -12,8 +12,8 @@ returns-5 c e =
     let second = c.before.before in
     let first = second.before.before.before in (
       omega (arith, first.if-s-at-lt3.false),
-      sym first.is_digit_c.ensures ∙ not-false _ first.if-not-is_digit_c.false,
-      sym second.is_digit_c-2.ensures ∙ not-false _ second.if-not-is_digit_c-2.false,
+      sym first.is_digit_c.ensures ∙ first.if-not-is_digit_c.false,
+      sym second.is_digit_c-2.ensures ∙ second.if-not-is_digit_c-2.false,
       sym c.is_digit_c-3.ensures ∙ not-true _ e,
     )
 

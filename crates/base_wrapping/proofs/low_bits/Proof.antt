@@ -19,7 +19,7 @@ returns c = simp (to_z-of_z c.ranges.x) (taken c).is
 
 -- x is negative
 returns-2 : tie.Need-returns-else-x-ge0
-returns-2 c = simp (to_z-of_z c.ranges.x, to_z-of_z (left c).ranges) (left c).is
+returns-2 c = simp (to_z-of_z c.ranges.x, to_z-of_z (left c).fits) (left c).is
 
 pub low_bits_spec : {M : Type 1} → statement M
 low_bits_spec =
@@ -27,7 +27,7 @@ low_bits_spec =
     (tie.spec
     (λ c. simp (to_z-of_z c.ranges.x) (taken c).cast)
     (λ c. search rules)
-    (λ c. simp (to_z-of_z c.ranges.x) (left c).ranges)
+    (λ c. simp (to_z-of_z c.ranges.x) (left c).fits)
     (λ c. simp (to_z-of_z c.ranges.x, to_z-of_z (left c).ranges) (left c).cast)
     (λ c. search rules)
     (λ c. search rules)

@@ -78,7 +78,7 @@ returns-4 c =
 returns-5 : tie.Need-returns-in-4
 returns-5 c =
     let at-start = c.before.before.before.before in
-    ap pos (thirty at-start.args.leap at-start.ranges.month c.in-4.keys1)
+    ap pos (thirty at-start.args.leap at-start.ranges.month c.in-4.in-4-own.keys1)
 
 -- 31 days
 returns-6 : tie.Need-returns-in_default
@@ -88,7 +88,7 @@ returns-6 c =
     let month-fits = at-start.ranges.month in
     let number = from month-fits at-end.if-month-lt1.false in
     ap pos (long at-start.args.leap at-start.args.month
-    (omega (arith, number.from, number.is)) (not-above month-fits at-end.if-month-gt12.false) c.if-month-eq2.false c.in_default.rest.1)
+    (omega (arith, number.from, number.is)) (not-above month-fits at-end.if-month-gt12.false) c.if-month-eq2.false c.in_default.in_default-own.rest.1)
 
 pub month_length_spec : {M : Type 1} → statement M
 month_length_spec = tie.close (tie.spec returns returns-2 returns-3 returns-4 returns-5 returns-6)

@@ -24,7 +24,7 @@ pub bits_spec : {M : Type 1} → statement M
 bits_spec =
     tie.close
     (tie.spec
-    (λ c. simp (to_z-of_z c.ranges.x) (negative-cast c).ranges)
+    (λ c. simp (to_z-of_z c.ranges.x) (negative-cast c).fits)
     (λ c. simp (to_z-of_z c.ranges.x, to_z-of_z (negative-cast c).ranges) (negative-cast c).cast)
     (λ c. simp (to_z-of_z c.ranges.x, to_z-of_z (negative-cast c).ranges) (omega (arith, (negative-cast c).room)))
     (λ c. simp (to_z-of_z c.ranges.x) (positive-cast c).cast)

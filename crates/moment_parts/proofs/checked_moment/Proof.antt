@@ -21,7 +21,7 @@ dated c = c.before.before.before
 -- the test of the time, as the definition has it
 time : (c : tie.After-time_in_range) {b : Bool} → c.time_in_range.result ≡ b
     → let at-start = (dated c.before.before).before.before.before.before.before in
-    time_in_range at-start.args.hour (minute_of at-start.args.t2) (second_of at-start.args.t2) at-start.args.micros ≡ b
+    time_in_range at-start.args.hour (minute_of at-start.args.f) (second_of at-start.args.f) at-start.args.micros ≡ b
 time c e =
     let after-second = (dated c.before.before).before.before in
     let after-minute = after-second.before in
@@ -87,7 +87,7 @@ returns-4 c =
       sym after-offset-of.offset_of.ensures ∙ at_offset.in-At.is,
       returned after-second.second_of-second.ok after-second.second_of-second.ensures,
       returned after-minute.minute_of-minute.ok after-minute.minute_of-minute.ensures,
-      (known at-start.args.t2 _ at-start.well_formed.1.0).back,
+      (known at-start.args.f _ at-start.well_formed.1.0).back,
       to_z-of_z at-start.ranges.hour,
       to_z-of_z at-start.ranges.micros,
       to_z-of_z date-fits.year,

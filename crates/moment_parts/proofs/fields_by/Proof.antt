@@ -16,7 +16,7 @@ returns c = input-long _ _ _ _ (omega arith)
 -- the input is not UTF-8
 returns-2 : tie.Need-returns-then-not-is_utf8
 returns-2 c =
-    input-bad _ _ _ _ (sym c.is_utf8.ensures ∙ not-true _ c.if-not-is_utf8.true) ∙ input-within _ _ _ _ (omega arith)
+    input-bad _ _ _ _ (sym c.is_utf8.ensures ∙ c.if-not-is_utf8.true) ∙ input-within _ _ _ _ (omega arith)
 
 -- within it an input has at most 512 bytes
 fields-within-requires : tie.Need-fields_within-requires
@@ -29,7 +29,7 @@ returns-3 : tie.Need-returns
 returns-3 c =
     let at_test = c.before.before in
     c.fields_within.ensures _
-    ∙ input-good _ _ _ _ (sym at_test.is_utf8.ensures ∙ not-false _ at_test.if-not-is_utf8.false)
+    ∙ input-good _ _ _ _ (sym at_test.is_utf8.ensures ∙ at_test.if-not-is_utf8.false)
     ∙ input-within _ _ _ _ (omega arith)
 
 pub fields_by_spec : {M : Type 1} → statement M

@@ -42,7 +42,7 @@ returns-3 : tie.Need-returns-then-not-are_utf8
 returns-3 c =
     let within-limits = c.before.before in
     sym (bad-text _ _ _ (short within-limits.before.before) (small within-limits)
-    (sym c.are_utf8.ensures ∙ not-true _ c.if-not-are_utf8.true))
+    (sym c.are_utf8.ensures ∙ c.if-not-are_utf8.true))
 
 -- within their limits a template has at most 256 bytes and an input at most 512
 parse-format-requires : tie.Need-parse_format-end-requires
@@ -70,7 +70,7 @@ returns-4 c =
     c.fields_within.ensures _
     ∙ ap (λ (ns : List Node). answer_by args.set.strict ns args.t.now args.s.now) (parsed-nodes after-parse.parse_format-end.ensures (small-nodes args.set.accents args.t.now))
     ∙ read_by _ _ _ (short within-limits.before.before) (small within-limits)
-    (sym after-utf8-test.are_utf8.ensures ∙ not-false _ after-utf8-test.if-not-are_utf8.false)
+    (sym after-utf8-test.are_utf8.ensures ∙ after-utf8-test.if-not-are_utf8.false)
 
 pub fields_of_spec : {M : Type 1} → statement M
 fields_of_spec =

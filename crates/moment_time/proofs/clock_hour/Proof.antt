@@ -10,8 +10,8 @@ use Rattle.moment_sums.proofs.Tests.{equal, unequal}
 use Rattle.moment_time.proofs.clock_hour.Statement.{statement}
 use Rattle.moment_time.proofs.clock_hour.Tie as tie
 
-has : (c : tie.Start) → Known c.args.t1
-has c = known c.args.t1 _ c.well_formed.0
+has : (c : tie.Start) → Known c.args.f
+has c = known c.args.f _ c.well_formed.0
 
 -- the 12-hour clock
 returns : tie.Need-returns-then-clock-eq12

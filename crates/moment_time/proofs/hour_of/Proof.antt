@@ -7,8 +7,8 @@ use Rattle.moment_time.proofs.SecondOfDay.{by-hour, hours-back}
 use Rattle.moment_time.proofs.hour_of.Statement.{statement}
 use Rattle.moment_time.proofs.hour_of.Tie as tie
 
-has : (c : tie.Start) → Known c.args.t1
-has c = known c.args.t1 _ c.well_formed.0
+has : (c : tie.Start) → Known c.args.f
+has c = known c.args.f _ c.well_formed.0
 
 returns : tie.Need-returns
 unfolding hour_of

@@ -14,10 +14,10 @@ use Rattle.moment_time.proofs.micros_of.Statement.{statement}
 use Rattle.moment_time.proofs.micros_of.Tie as tie
 
 -- the milliseconds times 1000, as the match found them
-product : (c : tie.After-checked_mul) {v : Value} → c.checked_mul.result ≡ v → Is (get c.args.t1 ms) times 1000 ≡ v
+product : (c : tie.After-checked_mul) {v : Value} → c.checked_mul.result ≡ v → Is (get c.args.f ms) times 1000 ≡ v
 product c e =
     let at-start = c.before.before.before in
-    sym (simp (known at-start.args.t1 _ at-start.well_formed.0).back at c.checked_mul.ensures) ∙ e
+    sym (simp (known at-start.args.f _ at-start.well_formed.0).back at c.checked_mul.ensures) ∙ e
 
 -- the product fits
 returns : tie.Need-returns-in-Is
@@ -32,7 +32,7 @@ returns c =
       c.wrapping_add.ensures,
       wrap-back,
       back matched.in-Is.whole at-whole.known_told-1.given.0.1,
-      (known at-start.args.t1 _ at-start.well_formed.0).back,
+      (known at-start.args.f _ at-start.well_formed.0).back,
     ))
 
 -- it was refused

@@ -18,8 +18,8 @@ use Rattle.moment_sums.proofs.Within.{from_zero}
 use Rattle.moment_time.proofs.offset_of.Statement.{statement}
 use Rattle.moment_time.proofs.offset_of.Tie as tie
 
-has : (c : tie.Start) → Known c.args.t1
-has c = known c.args.t1 _ c.well_formed.0
+has : (c : tie.Start) → Known c.args.f
+has c = known c.args.f _ c.well_formed.0
 
 -- past the test of hours and minutes
 abbrev start : tie.Else-not-offset_in_range → tie.Start
@@ -27,7 +27,7 @@ start c = c.before.before.before.before.before.before
 
 -- a field that was read
 abbrev field : (c : tie.Else-not-offset_in_range) → ℕ → ℤ
-field c k = get (start c).args.t1 k
+field c k = get (start c).args.f k
 
 tests : (c : tie.Else-not-offset_in_range) → (below (field c tzh) 16 ≡ true) × (below (field c tzm) 60 ≡ true)
 tests c =

@@ -8,8 +8,8 @@ use Rattle.moment_sums.proofs.Tests.{absent, present}
 use Rattle.moment_year.proofs.year_of.Statement.{statement}
 use Rattle.moment_year.proofs.year_of.Tie as tie
 
-has : (c : tie.After-bc-1) → Known c.args.t1
-has c = let at-start = c.before.before.before in known at-start.args.t1 _ at-start.well_formed.0
+has : (c : tie.After-bc-1) → Known c.args.f
+has c = let at-start = c.before.before.before in known at-start.args.f _ at-start.well_formed.0
 
 -- neither year nor century
 returns : tie.Need-returns-then-cc-eq0

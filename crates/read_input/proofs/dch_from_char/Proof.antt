@@ -62,11 +62,11 @@ module _ (c : tie.After-node_at-n invariant-loop decreases-loop) where
   one_left : next at-lane < length (nodes at-lane)
   one_left = omega (arith, node-count at-lane, c.if-c-next.false)
 
-  input-left : at-lane.lane.result.place.at < length (start at-lane).args.s.now
+  input-left : at-lane.lane-passed.result.place.at < length (start at-lane).args.s.now
   input-left = omega (arith, c.if-s-place.false)
 
   pattern : c.node_at-n.result.kind ≡ 1
-  pattern = ap (λ (n : Node). n.kind) c.node_at-n.ensures ∙ at-lane.lane.ensures.stops one_left input-left
+  pattern = ap (λ (n : Node). n.kind) c.node_at-n.ensures ∙ at-lane.lane-passed.ensures.stops one_left input-left
 
 -- the template ended in the lane
 returns : tie.Need-returns-then-c-next invariant-loop decreases-loop
@@ -100,7 +100,7 @@ loop-less : tie.Need-loop-i-smaller invariant-loop decreases-loop
 loop-less c =
     let at-node = c.before.before.before.before.before in
     let passed = at-lane at-node in
-    omega (arith, one_left at-node, node-count passed, passed.lane.ensures.on)
+    omega (arith, one_left at-node, node-count passed, passed.lane-passed.ensures.on)
 
 -- a pattern was read: on to the nodes after it
 loop-again : tie.Need-loop-i-preserved invariant-loop decreases-loop

@@ -36,7 +36,7 @@ returns-5 c = simp (c.in-7.is, returned c.near_if_short.type_inv c.near_if_short
 returns-6 : tie.Need-returns-in_default
 unfolding kept
 returns-6 c =
-    let others = c.in_default.rest in
+    let others = c.in_default.in_default-own.rest in
     simp (
       to_z-of_z c.ranges.z,
       ne_eqb _ _ others.1,

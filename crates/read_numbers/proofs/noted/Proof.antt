@@ -36,7 +36,7 @@ returns-4 c =
 returns-5 : tie.Need-returns-in_default
 unfolding noted
 returns-5 c =
-    let others = c.in_default.rest in
+    let others = c.in_default.in_default-own.rest in
     simp (ne_eqb _ _ others.1, ne_eqb _ _ others.0.1, ne_eqb _ _ others.0.0.1, ne_eqb _ _ others.0.0.0.1)
 
 pub noted_spec : {M : Type 1} → statement M

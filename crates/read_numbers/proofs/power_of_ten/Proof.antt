@@ -12,7 +12,7 @@ five k h a b c d e = omega arith
 -- the last case
 returns-6 : tie.Need-returns-in_default
 returns-6 c =
-    let others = c.in_default.rest in
+    let others = c.in_default.in_default-own.rest in
     rw (five c.args.k c.requires others.0.0.0.0.1 others.0.0.0.1 others.0.0.1 others.0.1 others.1)
 
 pub power_of_ten_spec : {M : Type 1} → statement M

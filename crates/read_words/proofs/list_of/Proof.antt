@@ -24,7 +24,7 @@ other (suc (suc (suc (suc (suc (suc (suc (suc (suc k))))))))) n1 n2 n3 n4 n5 n6 
 -- any other number
 returns-9 : tie.Need-returns-in_default
 returns-9 c =
-    let n8 = c.in_default.rest in
+    let n8 = c.in_default.in_default-own.rest in
     let n7 = n8.0 in
     let n6 = n7.0 in
     let n5 = n6.0 in

@@ -25,7 +25,7 @@ returns-3 c = (rw c.in-4.is, omega arith)
 returns-4 : tie.Need-returns-in_default
 unfolding meant
 returns-4 c =
-    let others = c.in_default.rest in
+    let others = c.in_default.in_default-own.rest in
     (rw (ne_eqb _ _ others.0.0.1, ne_eqb _ _ others.0.1, ne_eqb _ _ others.1), omega arith)
 
 pub meant_spec : {M : Type 1} → statement M

@@ -28,4 +28,4 @@ width_of_spec =
     (λ c. rw c.in-16.is)
     (λ c. rw c.in-17.is)
     -- any other
-    (λ c. sym (no-width c.args.piece c.in_default.rest)))
+    (λ c. sym (no-width c.args.piece c.in_default.in_default-own.rest)))

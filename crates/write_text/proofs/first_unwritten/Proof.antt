@@ -27,7 +27,7 @@ returns c =
     let after-node = after-is-written.before in
     let at-loop = after-node.before.before in
     let ns = nodes_in at-loop.args.c.now in
-    let unwritten = rw after-node.node_at-n.ensures at (sym after-is-written.is_written.ensures ∙ not-true _ at_test.if-not-is_written.true) in
+    let unwritten = rw after-node.node_at-n.ensures at (sym after-is-written.is_written.ensures ∙ at_test.if-not-is_written.true) in
     c.named.ensures
     ∙ ap (λ (x : Node). named x.pattern) after-node.node_at-n.ensures
     ∙ sym (unwritten-here ns at-loop.loop-i.i (node-left _ _ after-node.loop-i-test.true) unwritten)
@@ -40,7 +40,7 @@ loop-again c =
     let after-node = after-is-written.before in
     let at-loop = after-node.before.before in
     let ns = nodes_in at-loop.args.c.now in
-    let written = rw after-node.node_at-n.ensures at (sym after-is-written.is_written.ensures ∙ not-false _ c.if-not-is_written.false) in (
+    let written = rw after-node.node_at-n.ensures at (sym after-is-written.is_written.ensures ∙ c.if-not-is_written.false) in (
       omega (arith, after-node.loop-i-test.true),
       sym (unwritten-next ns at-loop.loop-i.i (node-left _ _ after-node.loop-i-test.true) written)
           ∙ at-loop.loop-i.invariant.1,

@@ -40,7 +40,7 @@ returns c = too_long _ _ _ _ (omega arith)
 -- the template is not UTF-8
 returns-2 : tie.Need-returns-then-not-is_utf8
 returns-2 c =
-    not-utf8 _ _ _ _ (short c.before.before) (sym c.is_utf8.ensures ∙ not-true _ c.if-not-is_utf8.true)
+    not-utf8 _ _ _ _ (short c.before.before) (sym c.is_utf8.ensures ∙ c.if-not-is_utf8.true)
 
 -- within its limit a template has at most 256 bytes
 parse-format-requires : tie.Need-parse_format-end-requires
@@ -61,7 +61,7 @@ returns-3 c =
     let within-limit = after-utf8-test.before.before in
     let args = (start within-limit).args in
     by-nodes args.set args.t.now args.m args.out.now (short within-limit)
-    (sym after-utf8-test.is_utf8.ensures ∙ not-false _ after-utf8-test.if-not-is_utf8.false)
+    (sym after-utf8-test.is_utf8.ensures ∙ after-utf8-test.if-not-is_utf8.false)
     _ (few_bytes args.t.now (short within-limit) after-parse.parse_format-end.ensures) (parsed-nodes after-parse.parse_format-end.ensures (small-nodes false args.t.now))
     after_write.write_by.ensures
 

@@ -30,7 +30,7 @@ all-written after-length = after-length.before.before.before.before
 
 -- the numbers are a moment
 moment : (c : tie.Else-not-is_moment) → is_moment (start c.before.before.before).args.m ≡ true
-moment c = sym c.is_moment.ensures ∙ not-false _ c.if-not-is_moment.false
+moment c = sym c.is_moment.ensures ∙ c.if-not-is_moment.false
 
 -- there are too many nodes
 returns : tie.Need-returns-then-nodes_limit-c
@@ -54,7 +54,7 @@ returns-3 c =
     let args = (start after-search).args in
     no-moment args.set args.c.now args.t.now args.m args.out.now (few (within-limit after-search))
     _ after-search.first_unwritten-unwritten.ensures at-patterns.if-unwritten-lt-ALL_WRITTEN.false
-    (sym c.is_moment.ensures ∙ not-true _ c.if-not-is_moment.true)
+    (sym c.is_moment.ensures ∙ c.if-not-is_moment.true)
 
 -- the table is the definition's, the numbers are a moment, and the nodes are few
 text-length-requires : tie.Need-text_length-needed-requires

@@ -17,7 +17,7 @@ pub magnitude_spec : {M : Type 1} → statement M
 magnitude_spec =
     tie.close
     (tie.spec
-    (λ c. simp (to_z-of_z c.ranges.value) (below-0 c).ranges)
+    (λ c. simp (to_z-of_z c.ranges.value) (below-0 c).fits)
     (λ c. simp (to_z-of_z c.ranges.value, to_z-of_z (below-0 c).ranges) (below-0 c).cast)
     (λ c. simp (to_z-of_z c.ranges.value, to_z-of_z (below-0 c).ranges) (below-0 c).room)
     (λ c. simp (to_z-of_z c.ranges.value) (not-below-0 c).cast)

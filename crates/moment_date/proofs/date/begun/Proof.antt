@@ -10,7 +10,7 @@ returns : tie.Need-returns
 unfolding begun
 returns c =
     let at-start = c.before.before.before in
-    let fields = known at-start.args.t1 _ at-start.well_formed.0 in
+    let fields = known at-start.args.f _ at-start.well_formed.0 in
     simp (to_z-of_z at-start.ranges.year, c.year_mask-set.ensures, fields.back)
 
 pub begun_spec : {M : Type 1} → statement M

@@ -20,7 +20,7 @@ returns-2 c =
     let no-year = c.before in
     let at-start = no-year.before.before.before in
     let fits = fitting at-start.args.r _ at-start.well_formed.1.0 in
-    let fields = known at-start.args.t1 _ at-start.well_formed.0 in
+    let fields = known at-start.args.f _ at-start.well_formed.0 in
     simp (absent fits.year no-year.if-r-ne0.false, zero_bits (fields.fits bc))
 
 pub lacks_year_spec : {M : Type 1} → statement M

@@ -10,14 +10,14 @@ use Rattle.moment_sums.proofs.Tests.{equal, unequal, failed, passed}
 use Rattle.moment_date.proofs.date.with_day_of_year.Statement.{statement}
 use Rattle.moment_date.proofs.date.with_day_of_year.Tie as tie
 
-has : (c : tie.Start) → Known c.args.t1
-has c = known c.args.t1 _ c.well_formed.0
+has : (c : tie.Start) → Known c.args.f
+has c = known c.args.f _ c.well_formed.0
 
 -- past the first test the day of the year counts, past the second there is a year
 counts : (c : tie.Else-not-counts_day_of_year) → counts_day_of_year c.args.r ≡ true
 counts c = sym c.counts_day_of_year.ensures ∙ passed _ c.if-not-counts_day_of_year.false
 
-has-year : (c : tie.Else-lacks_year) → let args = c.args in lacks_year args.t1 args.r ≡ false
+has-year : (c : tie.Else-lacks_year) → let args = c.args in lacks_year args.f args.r ≡ false
 has-year c = sym c.lacks_year.ensures ∙ c.if-lacks_year.false
 
 -- the day of the year does not count

@@ -7,8 +7,8 @@ use Rattle.moment_sums.proofs.Tests.{absent, present}
 use Rattle.moment_date.proofs.date.with_julian.Statement.{statement}
 use Rattle.moment_date.proofs.date.with_julian.Tie as tie
 
-has : (c : tie.Start) → Known c.args.t1
-has c = known c.args.t1 _ c.well_formed.0
+has : (c : tie.Start) → Known c.args.f
+has c = known c.args.f _ c.well_formed.0
 
 -- no Julian day was read
 returns : tie.Need-returns-then-j-eq0

@@ -13,11 +13,11 @@ use Rattle.moment_sums.proofs.Tests.{absent, present}
 use Rattle.moment_date.proofs.date.with_month_week.Statement.{statement}
 use Rattle.moment_date.proofs.date.with_month_week.Tie as tie
 
-has : (c : tie.Start) → Known c.args.t1
-has c = known c.args.t1 _ c.well_formed.0
+has : (c : tie.Start) → Known c.args.f
+has c = known c.args.f _ c.well_formed.0
 
 -- the first day of the week, as the match found it
-first : (c : tie.After-first_of_week) {v : Value} → c.first_of_week.result ≡ v → first_of_week (get c.args.t1 w) ≡ v
+first : (c : tie.After-first_of_week) {v : Value} → c.first_of_week.result ≡ v → first_of_week (get c.args.f w) ≡ v
 first c e = sym (simp (has c.before.before.before).back at c.first_of_week.ensures) ∙ e
 
 -- no week was read

@@ -15,14 +15,14 @@ use Rattle.moment_sums.proofs.Tests.{equal, unequal, absent, present}
 use Rattle.moment_date.proofs.date.with_week.Statement.{statement}
 use Rattle.moment_date.proofs.date.with_week.Tie as tie
 
-has : (c : tie.Start) → Known c.args.t1
-has c = known c.args.t1 _ c.well_formed.0
+has : (c : tie.Start) → Known c.args.f
+has c = known c.args.f _ c.well_formed.0
 
 abbrev start : tie.After-first_of_week → tie.Start
 start c = c.before.before.before.before.before
 
 -- the first day of the week, as the match found it
-first : (c : tie.After-first_of_week) {v : Value} → c.first_of_week.result ≡ v → first_of_week (get (start c).args.t1 ww) ≡ v
+first : (c : tie.After-first_of_week) {v : Value} → c.first_of_week.result ≡ v → first_of_week (get (start c).args.f ww) ≡ v
 first c e = sym (simp (has (start c)).back at c.first_of_week.ensures) ∙ e
 
 -- no week was read

@@ -20,5 +20,5 @@ scale_of_spec =
     (λ c. rw c.in-4.is)
     -- five digits
     (λ c.
-    let others = c.in_default.rest in
+    let others = c.in_default.in_default-own.rest in
     rw (five c.args.digits c.requires.0 c.requires.1 others.0.0.0.1 others.0.0.1 others.0.1 others.1)))

@@ -54,7 +54,7 @@ returns-6 c = c.read_offset_minutes.ensures ∙ of-kind c.before.before.before.b
 returns-7 : tie.Need-returns-in_default
 unfolding performed
 returns-7 c =
-    let no-minutes = c.in_default.rest in
+    let no-minutes = c.in_default.in_default-own.rest in
     let no-offset = no-minutes.0 in
     let no-dropped = no-offset.0 in
     let no-exact = no-dropped.0 in

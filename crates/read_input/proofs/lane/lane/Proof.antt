@@ -37,27 +37,27 @@ module _ (c : tie.Else-s-at invariant-loop decreases-loop) where
   abbrev at-loop : tie.At-loop-i invariant-loop decreases-loop
   at-loop = c.before.before
 
-  one_left : at-loop.loop.i < length (nodes_in at-loop.before.before.before.before.args.c.now)
+  one_left : at-loop.loop-i.i < length (nodes_in at-loop.before.before.before.before.args.c.now)
   one_left = omega (arith, c.loop-i-test.true, nodes-length at-loop.before.before.before.before.args.c.now)
 
 node-taken-requires : tie.Need-node_taken-r-requires invariant-loop decreases-loop
 node-taken-requires c κs =
     let here = c.before in
-    let inv = (at-loop here).loop.invariant in
+    let inv = (at-loop here).loop-i.invariant in
     (one_left here, inv.1.none, inv.1.payable, omega (arith, here.if-s-at.false), search rules)
 
 -- a pattern that is left
 returns-2 : tie.Need-returns-then-r-i invariant-loop decreases-loop
 returns-2 c =
     let after-node = c.before.before in
-    let inv = (at-loop after-node.before.before).loop.inv in
+    let inv = (at-loop after-node.before.before).loop-i.inv in
     let took = after-node.node_taken-r.ensures in
     record { on = omega (arith, inv.0, took.on); turned = took.turned _ inv.1; stops = λ h l. rw c.if-r-i.true (took.left c.if-r-i.true) }
 
 loop-again : tie.Need-loop-i-preserved invariant-loop decreases-loop
 loop-again c =
     let after-node = c.before.before.before in
-    let inv = (at-loop after-node.before.before).loop.inv in
+    let inv = (at-loop after-node.before.before).loop-i.inv in
     let took = after-node.node_taken-r.ensures in
     (omega (arith, inv.0, took.on), took.turned _ inv.1)
 

@@ -32,7 +32,7 @@ as_is c = to_z_pos w32 (omega (arith, small c))
 returns-3 : tie.Need-returns-then-not-number_put
 returns-3 c =
     let refused = c.before in
-    is-left c.left-then-not-number_put.ensures (refused.number_put.ensures.left (not-true _ refused.if-not-number_put.true))
+    is-left c.left-then-not-number_put.ensures (refused.number_put.ensures.left (refused.if-not-number_put.true))
 
 -- read
 returns-4 : tie.Need-returns
@@ -50,7 +50,7 @@ returns-4 c =
       left = λ e. absurd (true≢false e);
       taken = λ e.
           is-taken _ _ _ _ _ _ after-short.short_number-digits.ensures pre.2.is after-mode.mode_at.ensures pre.3 pre.4 pre.5 some.if-end-at.false
-          (sym after-takes.takes.ensures ∙ not-false _ wide.if-not-takes.false)
+          (sym after-takes.takes.ensures ∙ wide.if-not-takes.false)
           (rw (as_is after-short) at after-put.number_put.ensures) (not-false _ not_left.if-not-number_put.false) c.past_field-place.ensures;
     }
 

@@ -29,7 +29,7 @@ returns c = long _ _ _ (omega (arith, limit c.before))
 returns-2 : tie.Need-returns-then-not-is_utf8
 returns-2 c =
     let after-utf8 = c.before in
-    ill-formed _ _ _ (short after-utf8.before) (sym after-utf8.is_utf8.ensures ∙ not-true _ c.if-not-is_utf8.true)
+    ill-formed _ _ _ (short after-utf8.before) (sym after-utf8.is_utf8.ensures ∙ c.if-not-is_utf8.true)
 
 -- within its limit a template has at most 256 bytes
 parse-format-requires : tie.Need-parse_format-requires
@@ -43,7 +43,7 @@ returns-3 c =
     let at_test = c.before.before in
     let after-utf8 = at_test.before in
     let set_is = after-utf8.settings_of-set.ensures in
-    parsed _ _ _ (short after-utf8.before) (sym after-utf8.is_utf8.ensures ∙ not-false _ at_test.if-not-is_utf8.false)
+    parsed _ _ _ (short after-utf8.before) (sym after-utf8.is_utf8.ensures ∙ at_test.if-not-is_utf8.false)
     (rw set_is at c.parse_format.ensures)
 
 pub sorbilgan_compile_with_spec : {M : Type 1} → statement M

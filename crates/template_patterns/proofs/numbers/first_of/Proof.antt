@@ -53,4 +53,4 @@ first_of_spec =
     (λ c. arm 117 c.in-117.is refl)
     (λ c. arm 119 c.in-119.is refl)
     (λ c. arm 121 c.in-121.is refl)
-    (λ c. sym (no_start _ c.in_default.rest)))
+    (λ c. sym (no_start _ c.in_default.in_default-own.rest)))

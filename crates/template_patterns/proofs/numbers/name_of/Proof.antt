@@ -129,4 +129,4 @@ name_of_spec =
     (λ c. arm 109 c.in-109.is refl)
     (λ c. arm 110 c.in-110.is refl)
     (λ c. arm 111 c.in-111.is refl)
-    (λ c. sym (past-numbers _ (past_all _ 112 c.in_default.rest))))
+    (λ c. sym (past-numbers _ (past_all _ 112 c.in_default.in_default-own.rest))))

@@ -69,4 +69,4 @@ number_of_spec =
     (λ c. rw c.in-10.is (value (given c.before.before.before).minute w32 tt))
     (λ c. rw c.in-11.is (value (given c.before.before.before).second w32 tt))
     (λ c. let at-arm = c.before.before.before.before.before.before in let known = given at-arm.before in rw (at-arm.in-12.is, value known.hour w32 tt, value known.minute w32 tt, value known.second w32 tt))
-    (λ c. let at-start = c.before.before.before in value (given at-start).micros w32 tt ∙ sym (last-number at-start.args.piece at-start.args.m c.in_default.rest)))
+    (λ c. let at-start = c.before.before.before in value (given at-start).micros w32 tt ∙ sym (last-number at-start.args.piece at-start.args.m c.in_default.in_default-own.rest)))
