@@ -53,14 +53,14 @@ returns c =
 loop-again : tie.Need-loop-i-preserved-then-most-d invariant-loop decreases-loop
 loop-again c =
     let here = at-loop c.before in
-    full (most here) (text here) _ _ _ _ here.loop-i.inv (omega arith)
+    full (most here) (text here) _ _ _ _ here.loop-i.invariant (omega arith)
     (digit c.before) (omega (arith, bounded here)) (omega arith)
 
 -- the digit leaves the number within the limit
 loop-again-2 : tie.Need-loop-i-preserved invariant-loop decreases-loop
 loop-again-2 c =
     let here = at-loop c.before in
-    more (most here) (text here) _ _ _ _ here.loop-i.inv (omega arith)
+    more (most here) (text here) _ _ _ _ here.loop-i.invariant (omega arith)
     (digit c.before) (omega (arith, bounded here)) (omega arith)
 
 -- the end of the text

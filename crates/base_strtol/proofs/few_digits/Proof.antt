@@ -32,7 +32,7 @@ module _ (c : tie.Else-not-is_digit_c invariant-loop decreases-loop) where
   text = at-loop.before.before.args.s.now
 
   digit : is_digit (byte_at text at-loop.loop-i.i) ≡ true
-  digit = sym c.is_digit_c.ensures ∙ not-false _ c.if-not-is_digit_c.false
+  digit = sym c.is_digit_c.ensures ∙ c.if-not-is_digit_c.false
 
 -- the byte is no digit
 returns : tie.Need-returns-then-not-is_digit_c invariant-loop decreases-loop
@@ -54,7 +54,7 @@ loop-again c =
     let here = at-loop at-digit in
     let in_bounds = digit-bounds _ (digit at-digit) in
     let room = c.if-value-gt99999999.false in
-    let reading = more (limit false) (text at-digit) _ _ _ _ here.loop.inv.1 (omega arith) (digit at-digit) (omega arith) in
+    let reading = more (limit false) (text at-digit) _ _ _ _ here.loop-i.invariant.1 (omega arith) (digit at-digit) (omega arith) in
     (omega (arith, room, in_bounds), reading (omega (arith, room, in_bounds)))
 
 -- the end of the text

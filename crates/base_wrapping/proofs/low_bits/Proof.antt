@@ -28,7 +28,7 @@ low_bits_spec =
     (λ c. simp (to_z-of_z c.ranges.x) (taken c).cast)
     (λ c. search rules)
     (λ c. simp (to_z-of_z c.ranges.x) (left c).fits)
-    (λ c. simp (to_z-of_z c.ranges.x, to_z-of_z (left c).ranges) (left c).cast)
+    (λ c. simp (to_z-of_z c.ranges.x, to_z-of_z (left c).fits) (left c).cast)
     (λ c. search rules)
     (λ c. search rules)
     returns

@@ -50,14 +50,14 @@ node-taken-requires c κs =
 returns-2 : tie.Need-returns-then-r-i invariant-loop decreases-loop
 returns-2 c =
     let after-node = c.before.before in
-    let inv = (at-loop after-node.before.before).loop-i.inv in
+    let inv = (at-loop after-node.before.before).loop-i.invariant in
     let took = after-node.node_taken-r.ensures in
     record { on = omega (arith, inv.0, took.on); turned = took.turned _ inv.1; stops = λ h l. rw c.if-r-i.true (took.left c.if-r-i.true) }
 
 loop-again : tie.Need-loop-i-preserved invariant-loop decreases-loop
 loop-again c =
     let after-node = c.before.before.before in
-    let inv = (at-loop after-node.before.before).loop-i.inv in
+    let inv = (at-loop after-node.before.before).loop-i.invariant in
     let took = after-node.node_taken-r.ensures in
     (omega (arith, inv.0, took.on), took.turned _ inv.1)
 
