@@ -6,9 +6,15 @@
 ghost use Rattle.std.specs.Prelude.{◌≡◌, false, ◌≤◌, ◌<◌, length, drop};
 ghost use Rattle.line_texts.specs.Texts.{NoneLeft, longest};
 
-use libc::{STDERR_FILENO, STDIN_FILENO, STDOUT_FILENO};
 use line_answers::Mode;
 use line_texts::Choice;
+use std::env::{Env, FillError};
+use std::fmt::InlineText;
+use std::io;
+use std::io::Read;
+
+// The bytes of the input's buffer and of the answers'.
+const BUFFER: usize = 65536;
 
 // What is left between two reads: the bytes kept of an unfinished line, whether its beginning was left off, whether
 // something failed, and how many reads may come. A proved loop has to end, and nothing says that the input does: so the
@@ -37,36 +43,50 @@ struct Rest {
     failed: bool,
 }
 
+// Says on standard error what failed, and why in the system's words, without the error's number.
+fn report(rt: &impl Eprint, what: &str, error: io::Error) {
+    let text = InlineText::<128>::of(error);
+    let words = text.as_str();
+    let why = match words.split_once(" (os error ") {
+        Some((why, _)) => why,
+        None => words,
+    };
+    let _ = eprintln!(rt; "dates: {what}: {why}");
+}
+
 // Reads after the bytes that are kept.
-fn read_on(input: &mut [u8], kept: usize) -> Got
+fn read_on(rt: &impl Eprint, reader: &mut impl Read, input: &mut [u8], kept: usize) -> Got
     requires { kept ≤ length input.old }
     ensures { result.end ≤ length input.new }
 {
-    let got = libc::read(STDIN_FILENO, &mut input[kept..]);
-    if got < 0 {
-        os::fail(b"dates: standard input");
-        return Got {
-            end: kept,
-            failed: true,
-        };
-    }
-    Got {
-        end: kept + io::count(got, &input[kept..]),
-        failed: false,
+    match reader.read(&mut input[kept..]) {
+        Ok(count) => Got {
+            end: kept + count,
+            failed: false,
+        },
+        Err(error) => {
+            report(rt, "standard input", error);
+            Got {
+                end: kept,
+                failed: true,
+            }
+        }
     }
 }
 
 // Writes answers; the result says whether that failed.
-fn write_out(answers: &[u8]) -> bool {
-    if io::write_all(STDOUT_FILENO, answers) {
-        return false;
+fn write_out(rt: &(impl Print + Eprint), answers: &[u8]) -> bool {
+    match rt.write_all(answers) {
+        Ok(()) => false,
+        Err(error) => {
+            report(rt, "standard output", error);
+            true
+        }
     }
-    os::fail(b"dates: standard output");
-    true
 }
 
 // Answers the lines that end in a text, a buffer full of answers at a time. Unless it fails, none of them is left.
-fn answer_text(mode: Mode, text: &[u8], long: bool, out: &mut [u8]) -> Rest
+fn answer_text(rt: &(impl Print + Eprint), mode: Mode, text: &[u8], long: bool, out: &mut [u8]) -> Rest
     requires { longest ≤ length out.old }
     ensures { result.failed ≡ false → NoneLeft (drop result.from text.now) }
 {
@@ -79,7 +99,7 @@ fn answer_text(mode: Mode, text: &[u8], long: bool, out: &mut [u8]) -> Rest
         let from = s.from;
         let a = line_texts::answer_lines(mode, &text[from..], s.long, out);
         let at = a.at;
-        if write_out(&out[0..at]) {
+        if write_out(rt, &out[0..at]) {
             return Rest { failed: true, ..s };
         }
         if a.from == 0 {
@@ -96,11 +116,11 @@ fn answer_text(mode: Mode, text: &[u8], long: bool, out: &mut [u8]) -> Rest
 
 // Reads once and answers the lines that end there. At the end of the input, and where something failed, no read is
 // left.
-fn turn(mode: Mode, input: &mut [u8], out: &mut [u8], s: State) -> State
+fn turn(rt: &(impl Print + Eprint), reader: &mut impl Read, mode: Mode, input: &mut [u8], out: &mut [u8], s: State) -> State
     requires { (s.kept ≤ length input.old) × (longest ≤ length out.old) × (0 < s.reads) }
     ensures { (result.kept ≤ length input.new) × (result.reads < s.reads) }
 {
-    let got = read_on(input, s.kept);
+    let got = read_on(rt, reader, input, s.kept);
     if got.failed {
         return State {
             failed: true,
@@ -112,7 +132,7 @@ fn turn(mode: Mode, input: &mut [u8], out: &mut [u8], s: State) -> State
         return State { reads: 0, ..s };
     }
     let end = got.end;
-    let rest = answer_text(mode, &input[0..end], s.long, out);
+    let rest = answer_text(rt, mode, &input[0..end], s.long, out);
     let k = line_buffers::keep(input, rest.from, end, rest.long);
     if rest.failed {
         return State {
@@ -131,19 +151,20 @@ fn turn(mode: Mode, input: &mut [u8], out: &mut [u8], s: State) -> State
 }
 
 // Answers the last line, where it has no newline.
-fn answer_last(mode: Mode, line: &[u8], long: bool, out: &mut [u8]) {
+fn answer_last(rt: &(impl Print + Eprint), mode: Mode, line: &[u8], long: bool, out: &mut [u8]) {
     if !long {
         if line.len() == 0 {
             return;
         }
     }
     let end = line_texts::answer_line(mode, line, long, out, 0);
-    write_out(&out[0..end]);
+    write_out(rt, &out[0..end]);
 }
 
-fn answer_all(mode: Mode, input: &mut [u8], out: &mut [u8])
+fn answer_all(rt: &(impl Input + Print + Eprint), mode: Mode, input: &mut [u8], out: &mut [u8])
     requires { longest ≤ length out.old }
 {
+    let mut reader = rt.reader();
     let mut s = State {
         kept: 0,
         long: false,
@@ -151,39 +172,35 @@ fn answer_all(mode: Mode, input: &mut [u8], out: &mut [u8])
         reads: u64::MAX,
     };
     while s.reads > 0 {
-        s = turn(mode, input, out, s);
+        s = turn(rt, &mut reader, mode, input, out, s);
     }
     if s.failed {
         return;
     }
     let kept = s.kept;
-    answer_last(mode, &input[0..kept], s.long, out);
+    answer_last(rt, mode, &input[0..kept], s.long, out);
 }
 
 // The mode that the one argument names, and parts without any. An argument longer than the buffer is read as an empty
 // name.
-fn chosen() -> Choice {
-    let count = os::arg_count();
-    if count < 2 {
-        return Choice::Of(Mode::Parts);
-    }
-    if 2 < count {
+fn chosen(rt: &impl Env) -> Choice {
+    let mut name = [0u8; 16];
+    if !matches!(rt.arg(2, &mut name), Err(FillError::NotPresent)) {
         return Choice::Unknown;
     }
-    let mut name = [0u8; 16];
-    let len = os::arg(1, &mut name);
-    line_texts::choice_of(&name[0..len])
+    match rt.arg(1, &mut name) {
+        Ok(len) => line_texts::choice_of(&name[0..len]),
+        Err(FillError::TooLong) => line_texts::choice_of(b""),
+        Err(FillError::NotPresent) => Choice::Of(Mode::Parts),
+    }
 }
 
-fn main() {
-    let Choice::Of(mode) = chosen() else {
-        io::write_all(
-            STDERR_FILENO,
-            b"dates: the one argument is parts, instant, date or write\n",
-        );
+fn main(rt: HostRuntime) {
+    let Choice::Of(mode) = chosen(&rt) else {
+        let _ = eprintln!(rt; "dates: the one argument is parts, instant, date or write");
         return;
     };
-    let mut input = io::large_buffer();
-    let mut output = io::large_buffer();
-    answer_all(mode, &mut input, &mut output);
+    let mut input = [0u8; BUFFER];
+    let mut output = [0u8; BUFFER];
+    answer_all(&rt, mode, &mut input, &mut output);
 }

@@ -7,7 +7,6 @@ ghost use Rattle.std.specs.Int.{w64};
 ghost use Rattle.std.proofs.Common.{of_z};
 
 use calendar_julian::Date;
-use libc::STDOUT_FILENO;
 use std::num::wrapping_add_u64;
 
 // The Julian days of 0001-01-01 and 9999-12-31.
@@ -100,11 +99,7 @@ fn all_days() -> Days {
     Days { count, checksum: h }
 }
 
-fn main() {
-    let days = all_days();
-    io::write_all(STDOUT_FILENO, b"days ");
-    io::print_decimal(STDOUT_FILENO, days.count);
-    io::write_all(STDOUT_FILENO, b" checksum ");
-    io::print_decimal(STDOUT_FILENO, days.checksum);
-    io::write_all(STDOUT_FILENO, b"\n");
+fn main(rt: HostRuntime) {
+    let Days { count, checksum } = all_days();
+    let _ = println!(rt; "days {count} checksum {checksum}");
 }

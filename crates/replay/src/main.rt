@@ -6,7 +6,10 @@ mod questions;
 
 ghost use Rattle.std.specs.Prelude.{◌≤◌, ◌<◌, length};
 
-use libc::{STDIN_FILENO, STDOUT_FILENO};
+use std::io::Read;
+
+// The bytes of the input's buffer and of the answers'.
+const BUFFER: usize = 65536;
 
 // Room for any answer: the longest is that of `parse`, 256 nodes of 15 bytes, and its newline.
 const LONGEST: usize = 4096;
@@ -31,33 +34,35 @@ struct State {
     reads: u64,
 }
 
-// Reads after the bytes that are kept; the answer is the end of all.
-fn read_on(input: &mut [u8], kept: usize) -> usize
+// Reads after the bytes that are kept; the answer is the end of all. What cannot be read ends the input.
+fn read_on(reader: &mut impl Read, input: &mut [u8], kept: usize) -> usize
     requires { kept ≤ length input.old }
     ensures { result ≤ length input.new }
 {
-    let got = libc::read(STDIN_FILENO, &mut input[kept..]);
-    kept + io::count(got, &input[kept..])
+    match reader.read(&mut input[kept..]) {
+        Ok(count) => kept + count,
+        Err(_) => kept,
+    }
 }
 
 // Writes the answers out where there may be no room for one more.
-fn make_room(out: &[u8], at: usize) -> usize
+fn make_room(rt: &impl Print, out: &[u8], at: usize) -> usize
     requires { at ≤ length out.now }
     ensures { result ≤ length out.now }
 {
     if LONGEST <= out.len() - at {
         return at;
     }
-    io::write_all(STDOUT_FILENO, &out[0..at]);
+    let _ = rt.write_all(&out[0..at]);
     0
 }
 
 // Answers one line; one that is too long is no question.
-fn answer_line(line: &[u8], long: bool, out: &mut [u8], at: usize) -> usize
+fn answer_line(rt: &impl Print, line: &[u8], long: bool, out: &mut [u8], at: usize) -> usize
     requires { at ≤ length out.old }
     ensures { result ≤ length out.new }
 {
-    let start = make_room(out, at);
+    let start = make_room(rt, out, at);
     if long {
         let end = questions::unknown(out, start);
         return line_buffers::put_byte(b'\n', out, end);
@@ -67,7 +72,7 @@ fn answer_line(line: &[u8], long: bool, out: &mut [u8], at: usize) -> usize
 }
 
 // Answers the lines that end in a text.
-fn answer_lines(text: &[u8], long: bool, out: &mut [u8], at: usize) -> Answered
+fn answer_lines(rt: &impl Print, text: &[u8], long: bool, out: &mut [u8], at: usize) -> Answered
     requires { at ≤ length out.old }
     ensures { result.at ≤ length out.new }
 {
@@ -75,7 +80,7 @@ fn answer_lines(text: &[u8], long: bool, out: &mut [u8], at: usize) -> Answered
     let mut end = line_buffers::find(text, 0, b'\n');
     while end < text.len() {
         let from = s.from;
-        let next = answer_line(&text[from..end], s.long, out, s.at);
+        let next = answer_line(rt, &text[from..end], s.long, out, s.at);
         s = Answered {
             from: end + 1,
             at: next,
@@ -87,16 +92,16 @@ fn answer_lines(text: &[u8], long: bool, out: &mut [u8], at: usize) -> Answered
 }
 
 // Reads once and answers the lines that end there. At the end of the input no read is left.
-fn turn(input: &mut [u8], out: &mut [u8], s: State) -> State
+fn turn(rt: &impl Print, reader: &mut impl Read, input: &mut [u8], out: &mut [u8], s: State) -> State
     requires { (s.kept ≤ length input.old) × (s.at ≤ length out.old) × (0 < s.reads) }
     ensures { (result.kept ≤ length input.new) × (result.at ≤ length out.new) × (result.reads < s.reads) }
 {
     let kept = s.kept;
-    let end = read_on(input, kept);
+    let end = read_on(reader, input, kept);
     if end == kept {
         return State { reads: 0, ..s };
     }
-    let a = answer_lines(&input[0..end], s.long, out, s.at);
+    let a = answer_lines(rt, &input[0..end], s.long, out, s.at);
     let k = line_buffers::keep(input, a.from, end, a.long);
     State {
         kept: k.count,
@@ -107,20 +112,21 @@ fn turn(input: &mut [u8], out: &mut [u8], s: State) -> State
 }
 
 // Answers the last line, where it has no newline.
-fn answer_last(line: &[u8], long: bool, out: &mut [u8], at: usize) -> usize
+fn answer_last(rt: &impl Print, line: &[u8], long: bool, out: &mut [u8], at: usize) -> usize
     requires { at ≤ length out.old }
     ensures { result ≤ length out.new }
 {
     if long {
-        return answer_line(line, true, out, at);
+        return answer_line(rt, line, true, out, at);
     }
     if line.len() == 0 {
         return at;
     }
-    answer_line(line, false, out, at)
+    answer_line(rt, line, false, out, at)
 }
 
-fn answer_all(input: &mut [u8], out: &mut [u8]) {
+fn answer_all(rt: &(impl Input + Print), input: &mut [u8], out: &mut [u8]) {
+    let mut reader = rt.reader();
     let mut s = State {
         kept: 0,
         long: false,
@@ -128,15 +134,15 @@ fn answer_all(input: &mut [u8], out: &mut [u8]) {
         reads: u64::MAX,
     };
     while s.reads > 0 {
-        s = turn(input, out, s);
+        s = turn(rt, &mut reader, input, out, s);
     }
     let kept = s.kept;
-    let end = answer_last(&input[0..kept], s.long, out, s.at);
-    io::write_all(STDOUT_FILENO, &out[0..end]);
+    let end = answer_last(rt, &input[0..kept], s.long, out, s.at);
+    let _ = rt.write_all(&out[0..end]);
 }
 
-fn main() {
-    let mut input = io::large_buffer();
-    let mut output = io::large_buffer();
-    answer_all(&mut input, &mut output);
+fn main(rt: HostRuntime) {
+    let mut input = [0u8; BUFFER];
+    let mut output = [0u8; BUFFER];
+    answer_all(&rt, &mut input, &mut output);
 }

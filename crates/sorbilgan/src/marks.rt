@@ -6,8 +6,7 @@ ghost use Rattle.template_nodes.specs.Joined.{has_lone_mark};
 
 // 1 where a mark counts alone in the template t that was compiled to these nodes, else 0. Any bytes are taken for
 // nodes.
-#[unsafe(no_mangle)]
-pub extern "C" fn sorbilgan_has_lone_mark(nodes: &[u8], t: &[u8]) -> u8
+pub fn sorbilgan_has_lone_mark(nodes: &[u8], t: &[u8]) -> u8
     ensures { result ≡ (if has_lone_mark t.now (nodes_in nodes.now) then 1 else 0) }
 {
     if template_nodes::has_lone_mark(nodes, t) {

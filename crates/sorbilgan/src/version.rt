@@ -5,15 +5,13 @@ ghost use Rattle.sorbilgan.specs.Version.{version};
 
 pub const VERSION: u32 = 4;
 
-#[unsafe(no_mangle)]
-pub extern "C" fn sorbilgan_version() -> u32
+pub fn sorbilgan_version() -> u32
     ensures { result ≡ version }
 {
     VERSION
 }
 
-#[unsafe(no_mangle)]
-pub extern "C" fn sorbilgan_version_4() -> u32
+pub fn sorbilgan_version_4() -> u32
     ensures { result ≡ version }
 {
     VERSION

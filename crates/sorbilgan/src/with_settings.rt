@@ -27,21 +27,14 @@ fn record_by(set: Settings, nodes: &[u8], t: &[u8], s: &[u8], out: &mut [i64; 15
 }
 
 // The parts of the moment that an input s has by a template t.
-#[unsafe(no_mangle)]
-pub extern "C" fn sorbilgan_parts_with(settings: u32, t: &[u8], s: &[u8], out: &mut [i64; 15]) -> u8
+pub fn sorbilgan_parts_with(settings: u32, t: &[u8], s: &[u8], out: &mut [i64; 15]) -> u8
     ensures { Recorded (parts_record (parts_of (settings_of settings) t.now s.now)) out.new result }
 {
     record_of(settings_of(settings), t, s, out)
 }
 
 // The microseconds of that moment since 1970-01-01.
-#[unsafe(no_mangle)]
-pub extern "C" fn sorbilgan_instant_with(
-    settings: u32,
-    t: &[u8],
-    s: &[u8],
-    out: &mut [i64; 5],
-) -> u8
+pub fn sorbilgan_instant_with(settings: u32, t: &[u8], s: &[u8], out: &mut [i64; 5]) -> u8
     ensures { Recorded (instant_record (timestamp_of (settings_of settings) t.now s.now)) out.new result }
 {
     sorbilgan_records::put_instant(
@@ -51,8 +44,7 @@ pub extern "C" fn sorbilgan_instant_with(
 }
 
 // Its days since then.
-#[unsafe(no_mangle)]
-pub extern "C" fn sorbilgan_date_with(settings: u32, t: &[u8], s: &[u8], out: &mut [i64; 5]) -> u8
+pub fn sorbilgan_date_with(settings: u32, t: &[u8], s: &[u8], out: &mut [i64; 5]) -> u8
     ensures { Recorded (day_record (date_of (settings_of settings) t.now s.now)) out.new result }
 {
     sorbilgan_records::put_day(
@@ -63,8 +55,7 @@ pub extern "C" fn sorbilgan_date_with(settings: u32, t: &[u8], s: &[u8], out: &m
 
 // Puts the bytes of a template's nodes into the buffer, and gives how many they are; -1 for a template over its limit,
 // -2 for one that is not UTF-8.
-#[unsafe(no_mangle)]
-pub extern "C" fn sorbilgan_compile_with(settings: u32, t: &[u8], nodes: &mut [u8; 1536]) -> i64
+pub fn sorbilgan_compile_with(settings: u32, t: &[u8], nodes: &mut [u8; 1536]) -> i64
     ensures { CompiledTo (settings_of settings) t.now nodes.old nodes.new result }
 {
     let set = settings_of(settings);
@@ -78,8 +69,7 @@ pub extern "C" fn sorbilgan_compile_with(settings: u32, t: &[u8], nodes: &mut [u
 }
 
 // The same three by the nodes of a template t that was compiled. Any bytes are taken for nodes.
-#[unsafe(no_mangle)]
-pub extern "C" fn sorbilgan_parts_by_with(
+pub fn sorbilgan_parts_by_with(
     settings: u32,
     nodes: &[u8],
     t: &[u8],
@@ -91,8 +81,7 @@ pub extern "C" fn sorbilgan_parts_by_with(
     record_by(settings_of(settings), nodes, t, s, out)
 }
 
-#[unsafe(no_mangle)]
-pub extern "C" fn sorbilgan_instant_by_with(
+pub fn sorbilgan_instant_by_with(
     settings: u32,
     nodes: &[u8],
     t: &[u8],
@@ -107,8 +96,7 @@ pub extern "C" fn sorbilgan_instant_by_with(
     )
 }
 
-#[unsafe(no_mangle)]
-pub extern "C" fn sorbilgan_date_by_with(
+pub fn sorbilgan_date_by_with(
     settings: u32,
     nodes: &[u8],
     t: &[u8],

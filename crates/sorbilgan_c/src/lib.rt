@@ -54,7 +54,18 @@ pub extern "C" fn sorbilgan_date(t: &[u8], s: &[u8], out: &mut [i64; 5]) -> u8
 }
 
 #[unsafe(no_mangle)]
-pub extern "C" fn sorbilgan_write(t: &[u8], year: i32, month: i32, day: i32, hour: i32, minute: i32, second: i32, micros: i32, text: &mut [u8], out: &mut [i64; 5]) -> u8
+pub extern "C" fn sorbilgan_write(
+    t: &[u8],
+    year: i32,
+    month: i32,
+    day: i32,
+    hour: i32,
+    minute: i32,
+    second: i32,
+    micros: i32,
+    text: &mut [u8],
+    out: &mut [i64; 5],
+) -> u8
     ensures { RecordedWrite pages t.now (seven_numbers year month day hour minute second micros) text.old text.new out.new result }
 {
     sorbilgan::sorbilgan_write(t, year, month, day, hour, minute, second, micros, text, out)
@@ -90,10 +101,24 @@ pub extern "C" fn sorbilgan_date_by(nodes: &[u8], t: &[u8], s: &[u8], out: &mut 
 }
 
 #[unsafe(no_mangle)]
-pub extern "C" fn sorbilgan_write_by(nodes: &[u8], t: &[u8], year: i32, month: i32, day: i32, hour: i32, minute: i32, second: i32, micros: i32, text: &mut [u8], out: &mut [i64; 5]) -> u8
+pub extern "C" fn sorbilgan_write_by(
+    nodes: &[u8],
+    t: &[u8],
+    year: i32,
+    month: i32,
+    day: i32,
+    hour: i32,
+    minute: i32,
+    second: i32,
+    micros: i32,
+    text: &mut [u8],
+    out: &mut [i64; 5],
+) -> u8
     ensures { RecordedWriteBy pages nodes.now t.now (seven_numbers year month day hour minute second micros) text.old text.new out.new result }
 {
-    sorbilgan::sorbilgan_write_by(nodes, t, year, month, day, hour, minute, second, micros, text, out)
+    sorbilgan::sorbilgan_write_by(
+        nodes, t, year, month, day, hour, minute, second, micros, text, out,
+    )
 }
 
 // The same nine with settings, which are the bits of a number.
@@ -105,7 +130,12 @@ pub extern "C" fn sorbilgan_parts_with(settings: u32, t: &[u8], s: &[u8], out: &
 }
 
 #[unsafe(no_mangle)]
-pub extern "C" fn sorbilgan_instant_with(settings: u32, t: &[u8], s: &[u8], out: &mut [i64; 5]) -> u8
+pub extern "C" fn sorbilgan_instant_with(
+    settings: u32,
+    t: &[u8],
+    s: &[u8],
+    out: &mut [i64; 5],
+) -> u8
     ensures { Recorded (instant_record (timestamp_of (settings_of settings) t.now s.now)) out.new result }
 {
     sorbilgan::sorbilgan_instant_with(settings, t, s, out)
@@ -119,10 +149,24 @@ pub extern "C" fn sorbilgan_date_with(settings: u32, t: &[u8], s: &[u8], out: &m
 }
 
 #[unsafe(no_mangle)]
-pub extern "C" fn sorbilgan_write_with(settings: u32, t: &[u8], year: i32, month: i32, day: i32, hour: i32, minute: i32, second: i32, micros: i32, text: &mut [u8], out: &mut [i64; 5]) -> u8
+pub extern "C" fn sorbilgan_write_with(
+    settings: u32,
+    t: &[u8],
+    year: i32,
+    month: i32,
+    day: i32,
+    hour: i32,
+    minute: i32,
+    second: i32,
+    micros: i32,
+    text: &mut [u8],
+    out: &mut [i64; 5],
+) -> u8
     ensures { RecordedWrite (settings_of settings) t.now (seven_numbers year month day hour minute second micros) text.old text.new out.new result }
 {
-    sorbilgan::sorbilgan_write_with(settings, t, year, month, day, hour, minute, second, micros, text, out)
+    sorbilgan::sorbilgan_write_with(
+        settings, t, year, month, day, hour, minute, second, micros, text, out,
+    )
 }
 
 #[unsafe(no_mangle)]
@@ -133,31 +177,64 @@ pub extern "C" fn sorbilgan_compile_with(settings: u32, t: &[u8], nodes: &mut [u
 }
 
 #[unsafe(no_mangle)]
-pub extern "C" fn sorbilgan_parts_by_with(settings: u32, nodes: &[u8], t: &[u8], s: &[u8], out: &mut [i64; 15]) -> u8
+pub extern "C" fn sorbilgan_parts_by_with(
+    settings: u32,
+    nodes: &[u8],
+    t: &[u8],
+    s: &[u8],
+    out: &mut [i64; 15],
+) -> u8
     ensures { Recorded (parts_record (parts_by (settings_of settings) (nodes_in nodes.now) t.now s.now)) out.new result }
 {
     sorbilgan::sorbilgan_parts_by_with(settings, nodes, t, s, out)
 }
 
 #[unsafe(no_mangle)]
-pub extern "C" fn sorbilgan_instant_by_with(settings: u32, nodes: &[u8], t: &[u8], s: &[u8], out: &mut [i64; 5]) -> u8
+pub extern "C" fn sorbilgan_instant_by_with(
+    settings: u32,
+    nodes: &[u8],
+    t: &[u8],
+    s: &[u8],
+    out: &mut [i64; 5],
+) -> u8
     ensures { Recorded (instant_record (instant_by (parts_by (settings_of settings) (nodes_in nodes.now) t.now s.now))) out.new result }
 {
     sorbilgan::sorbilgan_instant_by_with(settings, nodes, t, s, out)
 }
 
 #[unsafe(no_mangle)]
-pub extern "C" fn sorbilgan_date_by_with(settings: u32, nodes: &[u8], t: &[u8], s: &[u8], out: &mut [i64; 5]) -> u8
+pub extern "C" fn sorbilgan_date_by_with(
+    settings: u32,
+    nodes: &[u8],
+    t: &[u8],
+    s: &[u8],
+    out: &mut [i64; 5],
+) -> u8
     ensures { Recorded (day_record (day_by (parts_by (settings_of settings) (nodes_in nodes.now) t.now s.now))) out.new result }
 {
     sorbilgan::sorbilgan_date_by_with(settings, nodes, t, s, out)
 }
 
 #[unsafe(no_mangle)]
-pub extern "C" fn sorbilgan_write_by_with(settings: u32, nodes: &[u8], t: &[u8], year: i32, month: i32, day: i32, hour: i32, minute: i32, second: i32, micros: i32, text: &mut [u8], out: &mut [i64; 5]) -> u8
+pub extern "C" fn sorbilgan_write_by_with(
+    settings: u32,
+    nodes: &[u8],
+    t: &[u8],
+    year: i32,
+    month: i32,
+    day: i32,
+    hour: i32,
+    minute: i32,
+    second: i32,
+    micros: i32,
+    text: &mut [u8],
+    out: &mut [i64; 5],
+) -> u8
     ensures { RecordedWriteBy (settings_of settings) nodes.now t.now (seven_numbers year month day hour minute second micros) text.old text.new out.new result }
 {
-    sorbilgan::sorbilgan_write_by_with(settings, nodes, t, year, month, day, hour, minute, second, micros, text, out)
+    sorbilgan::sorbilgan_write_by_with(
+        settings, nodes, t, year, month, day, hour, minute, second, micros, text, out,
+    )
 }
 
 // 1 where a mark counts alone in a compiled template, else 0.

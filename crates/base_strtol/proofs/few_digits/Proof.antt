@@ -41,21 +41,14 @@ returns c =
     let no_digit = sym c.is_digit_c.ensures ∙ c.if-not-is_digit_c.true in
     short-read _ _ (stopped (limit false) _ _ _ _ _ here.loop-i.invariant.1 _ refl (omega arith) no_digit) here.loop-i.invariant.0
 
--- with this digit the number is too large
-returns-2 : tie.Need-returns-then-value-gt99999999 invariant-loop decreases-loop
-returns-2 c =
-    let at-digit = c.before in
-    short-not _ _ (at-loop at-digit).loop-i.invariant.1 c.if-value-gt99999999.true (omega arith) (digit at-digit)
-
 -- the digit is added
 loop-again : tie.Need-loop-i-preserved invariant-loop decreases-loop
 loop-again c =
     let at-digit = c.before in
     let here = at-loop at-digit in
     let in_bounds = digit-bounds _ (digit at-digit) in
-    let room = c.if-value-gt99999999.false in
     let reading = more (limit false) (text at-digit) _ _ _ _ here.loop-i.invariant.1 (omega arith) (digit at-digit) (omega arith) in
-    (omega (arith, room, in_bounds), reading (omega (arith, room, in_bounds)))
+    (omega (arith, in_bounds), reading (omega (arith, in_bounds)))
 
 -- the end of the text
 returns-3 : tie.Need-returns invariant-loop decreases-loop
@@ -73,7 +66,8 @@ few_digits_spec =
     (λ c. omega arith)
     (λ c κs. search rules)
     returns
-    returns-2
+    -- with this digit the number is too large
+    (λ c. short-not _ _ (at-loop c.before).loop-i.invariant.1 (omega arith) (omega arith) (digit c.before))
     (λ c. omega arith)
     (λ c. omega arith)
     (λ c. omega (arith, digit-bounds _ (digit c.before)))

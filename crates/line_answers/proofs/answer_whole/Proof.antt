@@ -45,7 +45,6 @@ answer_whole_spec =
     (λ c κs. search rules)
     (λ c. search rules)
     returns-2
-    (λ c. search rules)
     (λ c κs. search rules)
     (λ c. search rules)
     returns-3)

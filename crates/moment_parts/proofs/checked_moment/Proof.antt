@@ -10,7 +10,6 @@ use Rattle.moment_parts.specs.Parts.{checked_moment}
 use Rattle.moment_time.specs.Time.{minute_of, second_of, time_in_range}
 use Rattle.moment_sums.proofs.Known.{known}
 use Rattle.moment_date.proofs.Held.{fitting}
-use Rattle.moment_sums.proofs.Tests.{failed, passed}
 use Rattle.moment_parts.proofs.checked_moment.Statement.{statement}
 use Rattle.moment_parts.proofs.checked_moment.Tie as tie
 
@@ -27,8 +26,8 @@ time c e =
     let after-minute = after-second.before in
     let at-start = after-minute.before.before in
     sym (simp (
-      returned after-second.second_of-second.ok after-second.second_of-second.ensures,
-      returned after-minute.minute_of-minute.ok after-minute.minute_of-minute.ensures,
+      returned after-second.second_of-second.type_inv after-second.second_of-second.ensures,
+      returned after-minute.minute_of-minute.type_inv after-minute.minute_of-minute.ensures,
       to_z-of_z at-start.ranges.hour,
       to_z-of_z at-start.ranges.micros,
     ) at c.time_in_range.ensures)
@@ -36,7 +35,7 @@ time c e =
 
 -- the date is in range
 date : (c : tie.Else-not-date_in_range) → date_in_range c.args.r ≡ true
-date c = sym c.date_in_range.ensures ∙ passed _ c.if-not-date_in_range.false
+date c = sym c.date_in_range.ensures ∙ c.if-not-date_in_range.false
 
 -- the test of the strict switch
 never : (c : tie.After-no_such_day) {b : Bool} → c.no_such_day.result ≡ b
@@ -49,7 +48,7 @@ never c e =
 -- the date is out of range
 returns : tie.Need-returns-then-not-date_in_range
 unfolding checked_moment
-returns c = simp (sym c.date_in_range.ensures ∙ failed _ c.if-not-date_in_range.true)
+returns c = simp (sym c.date_in_range.ensures ∙ c.if-not-date_in_range.true)
 
 -- the month never has the day
 returns-2 : tie.Need-returns-then-no_such_day
@@ -64,7 +63,7 @@ returns-3 c =
     simp (
       date (dated after-strict-test.before),
       never after-strict-test.before after-strict-test.if-no_such_day.false,
-      time c.before (failed _ c.if-not-time_in_range.true),
+      time c.before c.if-not-time_in_range.true,
     )
 
 -- a moment with its offset
@@ -83,10 +82,10 @@ returns-4 c =
     simp (
       date after-date-test,
       never after-strict-test.before after-strict-test.if-no_such_day.false,
-      time after-time-test.before (passed _ after-time-test.if-not-time_in_range.false),
+      time after-time-test.before after-time-test.if-not-time_in_range.false,
       sym after-offset-of.offset_of.ensures ∙ at_offset.in-At.is,
-      returned after-second.second_of-second.ok after-second.second_of-second.ensures,
-      returned after-minute.minute_of-minute.ok after-minute.minute_of-minute.ensures,
+      returned after-second.second_of-second.type_inv after-second.second_of-second.ensures,
+      returned after-minute.minute_of-minute.type_inv after-minute.minute_of-minute.ensures,
       (known at-start.args.f _ at-start.well_formed.1.0).back,
       to_z-of_z at-start.ranges.hour,
       to_z-of_z at-start.ranges.micros,
@@ -106,7 +105,7 @@ returns-5 c =
     simp (
       date (dated after-strict-test.before),
       never after-strict-test.before after-strict-test.if-no_such_day.false,
-      time after-time-test.before (passed _ after-time-test.if-not-time_in_range.false),
+      time after-time-test.before after-time-test.if-not-time_in_range.false,
       sym after-offset-of.offset_of.ensures ∙ at-refusal.in-Refused.is,
     )
 

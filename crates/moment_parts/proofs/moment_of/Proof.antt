@@ -38,8 +38,8 @@ returns c =
       date after-dated-of at-date.in-Date.is,
       micros after-micros-of at-micros.in-Is-micros_of.is,
       c.checked_moment.ensures,
-      back at-hour.in-Is.hour hour-known.known_told-1.given.0.1,
-      back at-micros.in-Is-micros_of.micros micros-known.known_told-in-Is-micros_of-1.given.0.1,
+      back at-hour.in-Is.hour (search rules),
+      back at-micros.in-Is-micros_of.micros (search rules),
     )
 
 -- the fraction is refused

@@ -31,7 +31,7 @@ returns c =
     (simp (
       c.wrapping_add.ensures,
       wrap-back,
-      back matched.in-Is.whole at-whole.known_told-1.given.0.1,
+      back matched.in-Is.whole (search rules),
       (known at-start.args.f _ at-start.well_formed.0).back,
     ))
 

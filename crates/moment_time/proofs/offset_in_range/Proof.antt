@@ -2,7 +2,6 @@
 use mathlib.Core.Path.{◌∙◌, sym}
 use borrow.Author.Rules.{rules}
 use mir.Facts.{to_z-of_z}
-use Rattle.moment_sums.proofs.Tests.{failed, passed}
 use Rattle.moment_time.proofs.offset_in_range.Statement.{statement}
 use Rattle.moment_time.proofs.offset_in_range.Tie as tie
 
@@ -10,14 +9,14 @@ use Rattle.moment_time.proofs.offset_in_range.Tie as tie
 returns : tie.Need-returns-then-not-below
 returns c =
     let fits = c.ranges in
-    rw (simp (to_z-of_z fits.hours) at (sym c.below.ensures ∙ failed _ c.if-not-below.true))
+    rw (simp (to_z-of_z fits.hours) at (sym c.below.ensures ∙ c.if-not-below.true))
 
 -- they are not: the test of the minutes
 returns-2 : tie.Need-returns
 returns-2 c =
     let after-hours = c.before.before in
     let fits = after-hours.ranges in
-    rw (simp (to_z-of_z fits.hours) at (sym after-hours.below.ensures ∙ passed _ c.if-not-below.false))
+    rw (simp (to_z-of_z fits.hours) at (sym after-hours.below.ensures ∙ c.if-not-below.false))
     (simp (to_z-of_z fits.minutes) at c.below-2.ensures)
 
 pub offset_in_range_spec : {M : Type 1} → statement M

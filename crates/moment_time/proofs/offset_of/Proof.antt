@@ -13,7 +13,7 @@ use Rattle.moment_sums.specs.Within.{Within, below}
 use Rattle.moment_time.specs.Time.{east_of, offset_of, offset_in_range, checked_offset}
 use Rattle.moment_sums.proofs.Known.{Known, known}
 use Rattle.moment_time.proofs.Offsets.{minutes as joined, hours-fit, minutes-fit, seconds-fit, neg-minutes-fit, neg-seconds-fit, neg-seconds-is}
-use Rattle.moment_sums.proofs.Tests.{absent, present, failed, passed}
+use Rattle.moment_sums.proofs.Tests.{absent, present}
 use Rattle.moment_sums.proofs.Within.{from_zero}
 use Rattle.moment_time.proofs.offset_of.Statement.{statement}
 use Rattle.moment_time.proofs.offset_of.Tie as tie
@@ -32,7 +32,7 @@ field c k = get (start c).args.f k
 tests : (c : tie.Else-not-offset_in_range) → (below (field c tzh) 16 ≡ true) × (below (field c tzm) 60 ≡ true)
 tests c =
     both (below (field c tzh) 16) (below (field c tzm) 60)
-    (simp (has (start c)).back at (sym c.offset_in_range.ensures ∙ passed _ c.if-not-offset_in_range.false))
+    (simp (has (start c)).back at (sym c.offset_in_range.ensures ∙ c.if-not-offset_in_range.false))
 
 -- the hours are 0 to 15, the minutes 0 to 59, and a sign was read
 hours : (c : tie.Else-not-offset_in_range) → Within 0 15 (field c tzh)
@@ -57,7 +57,7 @@ returns-2 c =
     let fields = has after-sign.before.before in
     simp (
       present (fields.fits tzsign) after-sign.if-sign-eq0.false,
-      simp fields.back at (sym c.offset_in_range.ensures ∙ failed _ c.if-not-offset_in_range.true),
+      simp fields.back at (sym c.offset_in_range.ensures ∙ c.if-not-offset_in_range.true),
     )
 
 -- the sums and products that fit read back as they are

@@ -5,28 +5,27 @@ use borrow.Author.Rules.{rules}
 use mir.Facts.{to_z-of_z}
 use Rattle.moment_sums.specs.Within.{below}
 use Rattle.moment_time.specs.Time.{time_in_range}
-use Rattle.moment_sums.proofs.Tests.{failed, passed}
 use Rattle.moment_time.proofs.time_in_range.Statement.{statement}
 use Rattle.moment_time.proofs.time_in_range.Tie as tie
 
 -- the tests that passed
 hour : (c : tie.Else-not-below) → below c.args.hour 24 ≡ true
-hour c = simp (to_z-of_z c.ranges.hour) at (sym c.below.ensures ∙ passed _ c.if-not-below.false)
+hour c = simp (to_z-of_z c.ranges.hour) at (sym c.below.ensures ∙ c.if-not-below.false)
 
 minute : (c : tie.Else-not-below-2) → below c.args.minute 60 ≡ true
 minute c =
     let fits = c.ranges in
-    simp (to_z-of_z fits.minute) at (sym c.below-2.ensures ∙ passed _ c.if-not-below-2.false)
+    simp (to_z-of_z fits.minute) at (sym c.below-2.ensures ∙ c.if-not-below-2.false)
 
 second : (c : tie.Else-not-below-3) → below c.args.second 60 ≡ true
 second c =
     let fits = c.ranges in
-    simp (to_z-of_z fits.second) at (sym c.below-3.ensures ∙ passed _ c.if-not-below-3.false)
+    simp (to_z-of_z fits.second) at (sym c.below-3.ensures ∙ c.if-not-below-3.false)
 
 -- the hour is out of range
 returns : tie.Need-returns-then-not-below
 unfolding time_in_range
-returns c = rw (simp (to_z-of_z c.ranges.hour) at (sym c.below.ensures ∙ failed _ c.if-not-below.true))
+returns c = rw (simp (to_z-of_z c.ranges.hour) at (sym c.below.ensures ∙ c.if-not-below.true))
 
 -- the minute is
 returns-2 : tie.Need-returns-then-not-below-2
@@ -34,7 +33,7 @@ unfolding time_in_range
 returns-2 c =
     let after-hour = c.before.before in
     let fits = after-hour.ranges in
-    rw (hour after-hour, simp (to_z-of_z fits.minute) at (sym c.below-2.ensures ∙ failed _ c.if-not-below-2.true))
+    rw (hour after-hour, simp (to_z-of_z fits.minute) at (sym c.below-2.ensures ∙ c.if-not-below-2.true))
 
 -- the second is
 returns-3 : tie.Need-returns-then-not-below-3
@@ -46,7 +45,7 @@ returns-3 c =
     rw (
       hour after-hour,
       minute after-minute,
-      simp (to_z-of_z fits.second) at (sym c.below-3.ensures ∙ failed _ c.if-not-below-3.true),
+      simp (to_z-of_z fits.second) at (sym c.below-3.ensures ∙ c.if-not-below-3.true),
     )
 
 -- the test of the fraction

@@ -48,8 +48,8 @@ module _ (c : tie.After-lane-passed invariant-loop decreases-loop) where
   -- the invariant holds there too
   after-lane
       : Turned start.args.t.now start.args.s.now nodes (read_all start.args.t.now start.args.s.now nodes) next
-      (fields_of c.lane-passed.new.1.1.1.0) c.lane-passed.result.place
-  after-lane = then-on _ _ _ _ _ _ _ at-loop.loop.inv c.lane-passed.ensures.turned
+      (fields_of c.lane-passed.new.f) c.lane-passed.result.place
+  after-lane = then-on _ _ _ _ _ _ _ at-loop.loop-i.invariant c.lane-passed.ensures.turned
 
   node-count : length nodes ≡ length start.args.c.now / 6
   node-count = nodes-length start.args.c.now
@@ -83,7 +83,7 @@ returns-2 c =
 pattern-read-requires : tie.Need-pattern_read-r-requires invariant-loop decreases-loop
 pattern-read-requires c κs =
     let at-node = c.before.before in
-    ((after-lane (at-lane at-node)).payable, omega (arith, input-left at-node), (start (at-lane at-node)).pre.0)
+    ((after-lane (at-lane at-node)).payable, omega (arith, input-left at-node), (start (at-lane at-node)).requires.0)
 
 -- a pattern was refused
 returns-3 : tie.Need-returns-in-Refused invariant-loop decreases-loop

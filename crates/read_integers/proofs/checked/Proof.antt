@@ -69,7 +69,7 @@ cast c = simp (to_z-of_z (value-fits (at_value c))) (fits-of (z c) (has-32-bits 
 returns-5 : tie.Need-returns
 returns-5 c =
     simp (to_z-of_z (value-fits (at_value c)), to_z-of_z (fits-of (z c) (has-32-bits c)))
-    (accepted _ _ _ (at_value c).before.before.if1.false (at_value c).before.if2.false (has-32-bits c))
+    (accepted _ _ _ c.if-r-start.false c.if-r.false (has-32-bits c))
 
 pub checked_spec : {M : Type 1} → statement M
 checked_spec = tie.close (tie.spec returns returns-2 returns-3 returns-4 cast returns-5)

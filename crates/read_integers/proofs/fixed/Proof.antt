@@ -2,7 +2,6 @@
 -- that the definition reads; each test of the code is one of the definition's. Assumes nothing.
 use mathlib.Core.Path.{◌≡◌, ◌∙◌}
 use mathlib.Core.Bool.{false, ◌&&◌, and-false}
-use mathlib.Core.Logic.{⊎_elim}
 use Prim.Native.Nat.{◌+◌, ◌-◌, ◌≤◌}
 use native.Mathlib.Omega.{arith}
 use borrow.Author.Rules.{rules}
@@ -16,6 +15,7 @@ use Rattle.base_chars.specs.Class.{is_space}
 use Rattle.base_strtol.specs.Strtol.{strtol}
 use Rattle.base_strtol.proofs.Leading.{leading-place}
 use Rattle.read_integers.proofs.Numbers.{short, narrow, whole, part_end}
+use Rattle.read_integers.proofs.fixed.Lts.{then-parsed-gt0+else-parsed-wide, else-parsed-gt0}
 use Rattle.read_integers.proofs.fixed.Statement.{statement}
 use Rattle.read_integers.proofs.fixed.Tie as tie
 
@@ -63,7 +63,10 @@ returns-3 c =
     let after-strtol = after-tests.before in
     let after-spaces = after-strtol.before.before.before in
     let fills : (ltb 0 after-strtol.c_strtol-r.result.end && ltb after-strtol.c_strtol-r.result.end after-spaces.args.width) ≡ false
-    = ⊎_elim (λ w. rw (le-ltb _ _ w.1.left, and-false)) (λ w. rw (le-ltb _ _ w.left)) after-tests.if-parsed-gt0.branch in
+    = elim after-tests.if-parsed-gt0.branch [
+      | then-parsed-gt0+else-parsed-wide w ↦ rw (le-ltb _ _ w.if-parsed-wide.false, and-false)
+      | else-parsed-gt0 w ↦ rw (le-ltb _ _ w.if-parsed-gt0.false)
+    ] in
     simp (to_z-of_z (value-fits after-strtol)) at c.checked.ensures
     ∙ whole _ _ _ _ _ after-spaces.past_spaces-from.ensures after-strtol.if-left-wide.false _ (part after-strtol) fills
 

@@ -11,7 +11,7 @@ use Rattle.read_integers.proofs.from_char_set_int.Tie as tie
 returns : tie.Need-returns-then-old-eq0
 returns c =
     let at-start = c.before in
-    rw (← same_bits at-start.args.old (pos 0) at-start.ranges.old (omega arith), c.if-old-eq0.taken)
+    rw (← same_bits at-start.args.old (pos 0) at-start.ranges.old (omega arith), c.if-old-eq0.true)
 
 -- it holds a value: whether that is another
 returns-2 : tie.Need-returns
@@ -19,7 +19,7 @@ returns-2 c =
     let at-start = c.before in
     rw (
       ← same_bits at-start.args.old (pos 0) at-start.ranges.old (omega arith),
-      ne_eqb _ _ c.if-old-eq0.left,
+      ne_eqb _ _ c.if-old-eq0.false,
       same_bits _ _ at-start.ranges.old at-start.ranges.new,
     )
 

@@ -2,7 +2,6 @@
 -- the input, with FX and without it. Assumes nothing.
 use mathlib.Core.Path.{◌∙◌}
 use borrow.Author.Rules.{rules}
-use borrow.Author.Tests.{not-true}
 use Rattle.read_literals.proofs.Literals.{entered-within, plain-char}
 use Rattle.read_literals.proofs.literal_read.Statement.{statement}
 use Rattle.read_literals.proofs.literal_read.Tie as tie
@@ -14,7 +13,7 @@ returns c =
     let is-char = none-skipped.before.before in
     let not_first = is-char.before.before in
     let args = not_first.args in
-    rw (not-true args.first not_first.if-not-first.true)
+    rw not_first.if-not-first.true
     (c.char_passed.ensures ∙ plain-char args.s.now args.n args.p is-char.if-n-eq-FN_CHAR.true none-skipped.if-p-eq0.true)
 
 -- past the spaces the place is still within the input

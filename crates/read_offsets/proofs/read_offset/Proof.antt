@@ -28,7 +28,7 @@ returns c = rw (sym (tested c.before.before) ∙ c.if-is_zone_letter.true, c.ref
 -- the hours: a sign that is stored, and a number
 hours : (c : tie.After-stored_offset-hours) →
     let args = c.args in
-    read_into c.stored_offset-hours.result c.stored_offset-hours.new.1.1.1.0
+    read_into c.stored_offset-hours.result c.stored_offset-hours.new.f
     ≡ stored_offset args.n tzh (number_at args.s.now (past_sign args.s.now args.p.at) 2 args.n.pattern args.free)
     (put (fields_of args.f.now) tzsign (sign_of args.s.now args.p)) args.p
 hours c =
@@ -49,7 +49,7 @@ unfolding read_offset then_minutes
 returns-2 c =
     let after-hours = c.before in
     let at_test = no-letter after-hours in
-    rw (sym (tested at_test.before) ∙ at_test.if-is_zone_letter.left, ← hours after-hours, c.in-Refused.is)
+    rw (sym (tested at_test.before) ∙ at_test.if-is_zone_letter.false, ← hours after-hours, c.in-Refused.is)
 
 -- the hours were read: the minutes after them
 returns-3 : tie.Need-returns-in-Read
@@ -58,7 +58,7 @@ returns-3 c =
     let at-verdict = c.before.before.before in
     let after-hours = at-verdict.before in
     let at_test = no-letter after-hours in
-    rw (sym (tested at_test.before) ∙ at_test.if-is_zone_letter.left, ← hours after-hours, at-verdict.in-Read.is) c.colon_minutes.ensures
+    rw (sym (tested at_test.before) ∙ at_test.if-is_zone_letter.false, ← hours after-hours, at-verdict.in-Read.is) c.colon_minutes.ensures
 
 pub read_offset_spec : {M : Type 1} → statement M
 read_offset_spec =

@@ -50,8 +50,8 @@ returns-2 c =
     let after-put = after-noted.before.before in
     let not-other = after-put.before.before in
     let after_test_lem = not-other.before in
-    let after_kept = after_test_lem.before.before in
-    let at-start = after_kept in
+    let after_kept = after_test_lem.before in
+    let at-start = after_kept.before in
     let args = at-start.args in
     let kept = ap (λ (x : ℕ). put (fields_of args.f.now) args.task.field (pos x)) after_kept.kept_word-kept.ensures in
     let set = simp (to_z_pos w32 {n = after_kept.kept_word-kept.result} (omega arith)) at after-put.put.ensures ∙ kept in

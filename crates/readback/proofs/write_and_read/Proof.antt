@@ -16,14 +16,13 @@ slice-reshare-prefix-read-by-all c =
 -- and is as long as the text
 slice-aggregate-read-by-all : tie.Need-slice_bounds-read_by_all-end-in-Length
 slice-aggregate-read-by-all c =
-    let after_write = c.before.before.before.before in
-    let is-length = c.n-1.given in
-    omega (arith, room _ _ _ after_write.write.ensures is-length.1, length-take is-length.0.0 after_write.write.new.1.1.1.0)
+    let after_write = c.before.before.before in
+    omega (arith, room _ _ _ after_write.write.ensures c.in-Length.is, length-take c.in-Length.n after_write.write.new.out)
 
 -- the text was written, and is read by each answer
 returns : tie.Need-returns-in-Length
 returns c =
-    let after_write = c.before.before.before.before.before in
+    let after_write = c.before.before.before.before in
     read _ _ _ after_write.write.ensures c.in-Length.is _ c.read_by_all.ensures
 
 -- nothing was written

@@ -163,12 +163,12 @@ loop-again-5 c =
     let start = at-loop.before.before.before in
     let args = start.args in
     let turn = at-loop.loop-at in
-    let one = put_one after-rest.rest_step-s.result turn.out put.new.0 turn.n put.result put.ensures in (
+    let one = put_one after-rest.rest_step-s.result turn.out put.new.out turn.n put.result put.ensures in (
       omega (arith, one, rest-on after-rest, turn.invariant.0),
       omega (arith, one, inside, turn.invariant.0, start.requires),
       search rules,
       turned args.accents args.t.now args.out.now turn.n turn.at turn.quoted after-rest.rest_step-s.result (rest-is after-rest) inside
-          (rest-on after-rest) turn.invariant.3 (omega (arith, inside, turn.invariant.0, start.requires)) put.new.0 put.result put.ensures,
+          (rest-on after-rest) turn.invariant.3 (omega (arith, inside, turn.invariant.0, start.requires)) put.new.out put.result put.ensures,
     )
 
 same_length : tie.Need-shape_of-out invariant-loop decreases-loop

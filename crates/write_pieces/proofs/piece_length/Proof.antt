@@ -33,7 +33,7 @@ returns-2 c =
     let at_test = c.before in
     let at-start = at_test.before in
     let args = at-start.args in
-    let width = c.width_of_lem.ensures in (
+    let width = c.width_of.ensures in (
       λ case. width ∙ piece-size case args.m args.piece at-start.requires.1 at-start.requires.0 at_test.if-piece-eq-MONTH_NAME.false,
       omega (arith, width, few_bytes args.piece at-start.requires.0),
     )

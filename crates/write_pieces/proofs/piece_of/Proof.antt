@@ -22,5 +22,5 @@ piece_of_spec =
     (λ c. sym (none-past _ c.if-pattern-ge112.true))
     -- in it: the entry less the letter for none
     (λ c. search rules)
-    (λ c. omega (arith, read c.before))
-    (λ c. omega (arith, read c.before)))
+    (λ c. omega (arith, read c.before.before))
+    (λ c. omega (arith, read c.before.before)))

@@ -110,7 +110,7 @@ put-number-requires c κs =
     let at-start = at_test.before.before.before.before.before in
     let args = at-start.args in
     let size = piece-size args.case args.m args.piece at-start.requires.1 at-start.requires.0 at_test.if-piece-eq-MONTH_NAME.false in
-    omega (arith, after-width.width_of_lem.ensures, size, at-start.requires.2)
+    omega (arith, after-width.width_of.ensures, size, at-start.requires.2)
 
 returns-5 : tie.Need-returns
 returns-5 c =
@@ -120,7 +120,7 @@ returns-5 c =
     let at_test = after-number.before in
     let args = at_test.args in
     put_same
-    (number_put args.case args.m args.piece (number at_test) _ _ after-width.width_of_lem.ensures after-number.number_of_lem.ensures)
+    (number_put args.case args.m args.piece (number at_test) _ _ after-width.width_of.ensures after-number.number_of.ensures)
     after-put.put_number.ensures
 
 pub put_piece_spec : {M : Type 1} → statement M

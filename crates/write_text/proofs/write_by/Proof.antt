@@ -4,7 +4,6 @@ use mathlib.Core.Bool.{true}
 use Prim.Native.Nat.{◌≤◌}
 use native.Mathlib.Omega.{arith}
 use borrow.Author.Rules.{rules}
-use borrow.Author.Tests.{not-true, not-false}
 use lib.ListN.{length}
 use Rattle.base_settings.proofs.Most.{template-most}
 use Rattle.write_pieces.specs.Moment.{is_moment}
@@ -70,7 +69,7 @@ returns-4 c =
     let after-search = at-patterns.before in
     let args = (start after-search).args in
     no_room args.set args.c.now args.t.now args.m args.out.now (few (within-limit after-search))
-    _ after-search.first_unwritten-unwritten.ensures at-patterns.if-unwritten-lt-ALL_WRITTEN.left
+    _ after-search.first_unwritten-unwritten.ensures at-patterns.if-unwritten-lt-ALL_WRITTEN.false
     (moment after-length.before.before) _ after-length.text_length-needed.ensures.0 c.if-out-needed.true
 
 -- the table is the definition's, the numbers are a moment, and there is room for the text
@@ -91,7 +90,7 @@ returns-5 c =
     let after-search = at-patterns.before in
     let args = (start after-search).args in
     wrote args.set args.c.now args.t.now args.m args.out.now (few (within-limit after-search))
-    _ after-search.first_unwritten-unwritten.ensures at-patterns.if-unwritten-lt-ALL_WRITTEN.left
+    _ after-search.first_unwritten-unwritten.ensures at-patterns.if-unwritten-lt-ALL_WRITTEN.false
     (moment after-length.before.before) _ after-length.text_length-needed.ensures.0 _ at_room.if-out-needed.false after-put.put_nodes.ensures
 
 pub write_by_spec : {M : Type 1} → statement M

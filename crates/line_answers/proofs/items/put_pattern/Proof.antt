@@ -20,7 +20,7 @@ returns-2 : tie.Need-returns
 returns-2 c =
     let after-item = c.before.before in
     let after-find = after-item.before.before.before in
-    let after-names = after-find.before.before.before in
+    let after-names = after-find.before.before in
     let at_test = after-names.before in
     let k = at_test.args.pattern in
     let five : 5 * k + 5 - 5 * k ≡ 5 = omega arith in
@@ -32,7 +32,6 @@ pub put_pattern_spec : {M : Type 1} → statement M
 put_pattern_spec =
     tie.close
     (tie.spec
-    (λ c. search rules)
     (λ c κs. search rules)
     (λ c. search rules)
     returns

@@ -17,15 +17,15 @@ settings-are c = c.pages.ensures
 part-put-text-end : tie.Need-slice_bounds-put_text-end
 part-put-text-end c =
     let at_length = c in
-    let after_write = at_length.before.before.before in
-    let size : length after_write.write.new.1.1.1.0 ≡ 512 = search rules in
+    let after_write = at_length.before.before in
+    let size : length after_write.write.new.out ≡ 512 = search rules in
     omega (arith, text-within (settings-are after_write) refl after_write.write.ensures _ at_length.in-Length.is, size)
 
 put-text-requires : tie.Need-put_text-requires
 put-text-requires c κs =
     let at_length = c.before.before in
-    let after_write = at_length.before.before.before in
-    let buffer = after_write.write.new.1.1.1.0 in
+    let after_write = at_length.before.before in
+    let buffer = after_write.write.new.out in
     let size : length buffer ≡ 512 = search rules in
     omega (arith, length-take (at_length.in-Length.len - 0) buffer, size)
 
@@ -34,7 +34,7 @@ returns : tie.Need-returns-in-Length
 returns c =
     let after-put = c.before.before in
     let at_length = after-put.before.before.before in
-    let after_write = at_length.before.before.before in
+    let after_write = at_length.before.before in
     let moment-is = after_write.moment_of.ensures in
     rw (text-written (settings-are after_write) refl after_write.write.ensures _ moment-is _ at_length.in-Length.is) after-put.put_text.ensures
 

@@ -18,8 +18,8 @@ magnitude_spec =
     tie.close
     (tie.spec
     (λ c. simp (to_z-of_z c.ranges.value) (below-0 c).fits)
-    (λ c. simp (to_z-of_z c.ranges.value, to_z-of_z (below-0 c).ranges) (below-0 c).cast)
-    (λ c. simp (to_z-of_z c.ranges.value, to_z-of_z (below-0 c).ranges) (below-0 c).room)
+    (λ c. simp (to_z-of_z c.ranges.value, to_z-of_z (below-0 c).fits) (below-0 c).cast)
+    (λ c. simp (to_z-of_z c.ranges.value, to_z-of_z (below-0 c).fits) (below-0 c).room)
     (λ c. simp (to_z-of_z c.ranges.value) (not-below-0 c).cast)
-    (λ c. simp (to_z-of_z c.ranges.value, to_z-of_z (below-0 c).ranges) (below-0 c).is)
+    (λ c. simp (to_z-of_z c.ranges.value, to_z-of_z (below-0 c).fits) (below-0 c).is)
     (λ c. search rules))

@@ -12,7 +12,7 @@ use Rattle.line_buffers.proofs.output.put_digits.Tie as tie
 returns : tie.Need-returns
 returns c =
     let found = c.digits_of-first in
-    let text = found.new.1.0 in
+    let text = found.new.text in
     let size : length text ≡ 20 = search rules in
     rw (
       take_all (20 - found.result) (drop found.result text) (omega (arith, length-drop found.result text)),

@@ -43,16 +43,12 @@ pub choice_of_spec : {M : Type 1} → statement M
 choice_of_spec =
     tie.close
     (tie.spec
-    (λ c. search rules)
     (λ c κs. search rules)
     returns
-    (λ c. search rules)
     (λ c κs. search rules)
     returns-2
-    (λ c. search rules)
     (λ c κs. search rules)
     returns-3
-    (λ c. search rules)
     (λ c κs. search rules)
     returns-4
     returns-5)

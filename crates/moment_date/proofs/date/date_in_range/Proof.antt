@@ -1,28 +1,27 @@
 -- `moment_date::date::date_in_range` meets its contract: each test is one of the definition's. Assumes nothing.
 use mathlib.Core.Path.{◌≡◌, ◌∙◌, sym}
-use mathlib.Core.Bool.{true, false}
+use mathlib.Core.Bool.{true}
 use borrow.Author.Rules.{rules}
 use lib.IntN.{pos}
 use mir.Facts.{to_z-of_z}
-use Rattle.moment_date.specs.Dates.{month_bit, day_bit, part_in_range, date_in_range}
+use Rattle.moment_date.specs.Dates.{month_bit, part_in_range, date_in_range}
 use Rattle.moment_date.proofs.Held.{Fitting, fitting}
-use Rattle.moment_sums.proofs.Tests.{failed, passed}
 use Rattle.moment_date.proofs.date.date_in_range.Statement.{statement}
 use Rattle.moment_date.proofs.date.date_in_range.Tie as tie
 
 has : (c : tie.Start) → Fitting c.args.r
 has c = fitting c.args.r _ c.well_formed.0
 
--- the month passed its test
+-- the month test
 month : (c : tie.Else-not-part_in_range) → let r = c.args.r in part_in_range r.set month_bit r.month (pos 12) ≡ true
 month c =
-    simp (to_z-of_z (has c.before.before.before).month) at (sym c.part_in_range.ensures ∙ passed _ c.if-not-part_in_range.false)
+    simp (to_z-of_z (has c.before.before.before).month) at (sym c.part_in_range.ensures ∙ c.if-not-part_in_range.false)
 
 -- the month is out of range
 returns : tie.Need-returns-then-not-part_in_range
 unfolding date_in_range
 returns c =
-    rw (simp (to_z-of_z (has c.before.before.before).month) at (sym c.part_in_range.ensures ∙ failed _ c.if-not-part_in_range.true))
+    rw (simp (to_z-of_z (has c.before.before.before).month) at (sym c.part_in_range.ensures ∙ c.if-not-part_in_range.true))
 
 -- the day is
 returns-2 : tie.Need-returns-then-not-part_in_range-2
@@ -32,7 +31,7 @@ returns-2 c =
     let fits = has after-month.before.before.before in
     rw (
       month after-month,
-      simp (to_z-of_z fits.day) at (sym c.part_in_range-2.ensures ∙ failed _ c.if-not-part_in_range-2.true),
+      simp (to_z-of_z fits.day) at (sym c.part_in_range-2.ensures ∙ c.if-not-part_in_range-2.true),
     )
 
 -- both are in range: the test whether the month has the day
@@ -44,7 +43,7 @@ returns-3 c =
     let fits = has after-month.before.before.before in
     rw (
       month after-month,
-      simp (to_z-of_z fits.day) at (sym after-day.part_in_range-2.ensures ∙ passed _ after-day.if-not-part_in_range-2.false),
+      simp (to_z-of_z fits.day) at (sym after-day.part_in_range-2.ensures ∙ after-day.if-not-part_in_range-2.false),
     )
     c.day_in_month.ensures
 

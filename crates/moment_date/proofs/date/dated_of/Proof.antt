@@ -20,7 +20,7 @@ week c e =
     let after-julian = c.before in
     let after-begun = after-julian.before in
     let year-known = after-begun.before in
-    let year-back = back year-known.in-Is.year year-known.known_told-1.given.0.1 in
+    let year-back = back year-known.in-Is.year (search rules) in
     sym (simp (after-julian.with_julian.ensures, after-begun.begun.ensures, year-back) at c.with_week.ensures) ∙ e
 
 month-week : (c : tie.After-with_month_week) {v : Dated} → c.with_month_week.result ≡ v

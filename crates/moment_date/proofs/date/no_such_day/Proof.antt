@@ -8,13 +8,12 @@ use lib.Dec.{eqb}
 use mir.Facts.{to_z-of_z}
 use Rattle.base_wrapping.proofs.Fits.{returned}
 use Rattle.moment_date.specs.Dates.{no_such_day}
-use Rattle.moment_sums.proofs.Tests.{failed, passed}
 use Rattle.moment_date.proofs.date.no_such_day.Statement.{statement}
 use Rattle.moment_date.proofs.date.no_such_day.Tie as tie
 
 -- the switch is off
 returns : tie.Need-returns-then-not-strict
-returns c = rw (failed c.args.strict c.if-not-strict.true)
+returns c = rw c.if-not-strict.true
 
 -- other marks than those of month and day
 returns-2 : tie.Need-returns-then-set
@@ -22,7 +21,7 @@ unfolding no_such_day
 returns-2 c =
     let at-start = c.args in
     let others : eqb at-start.set 6 ≡ false = ne_eqb _ _ c.if-set.true in
-    rw (passed at-start.strict c.if-not-strict.false, others)
+    rw (c.if-not-strict.false, others)
 
 -- these two: the test of the day
 returns-3 : tie.Need-returns
@@ -32,7 +31,7 @@ returns-3 c =
     let at-start = two-set.before.before in
     let fits = at-start.ranges in
     simp (
-      passed at-start.args.strict two-set.if-not-strict.false,
+      two-set.if-not-strict.false,
       eq-eqb _ _ two-set.if-set.false,
       to_z-of_z fits.day,
       returned c.month_length.type_inv c.month_length.ensures,

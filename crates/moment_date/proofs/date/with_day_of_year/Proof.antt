@@ -6,7 +6,7 @@ use lib.Dec.{lit<}
 use Rattle.read_fields.specs.Fields.{mode}
 use Rattle.moment_date.specs.Dates.{counts_day_of_year, lacks_year, with_day_of_year}
 use Rattle.moment_sums.proofs.Known.{Known, known}
-use Rattle.moment_sums.proofs.Tests.{equal, unequal, failed, passed}
+use Rattle.moment_sums.proofs.Tests.{equal, unequal}
 use Rattle.moment_date.proofs.date.with_day_of_year.Statement.{statement}
 use Rattle.moment_date.proofs.date.with_day_of_year.Tie as tie
 
@@ -15,7 +15,7 @@ has c = known c.args.f _ c.well_formed.0
 
 -- past the first test the day of the year counts, past the second there is a year
 counts : (c : tie.Else-not-counts_day_of_year) → counts_day_of_year c.args.r ≡ true
-counts c = sym c.counts_day_of_year.ensures ∙ passed _ c.if-not-counts_day_of_year.false
+counts c = sym c.counts_day_of_year.ensures ∙ c.if-not-counts_day_of_year.false
 
 has-year : (c : tie.Else-lacks_year) → let args = c.args in lacks_year args.f args.r ≡ false
 has-year c = sym c.lacks_year.ensures ∙ c.if-lacks_year.false
@@ -23,7 +23,7 @@ has-year c = sym c.lacks_year.ensures ∙ c.if-lacks_year.false
 -- the day of the year does not count
 returns : tie.Need-returns-then-not-counts_day_of_year
 unfolding with_day_of_year
-returns c = simp (sym c.counts_day_of_year.ensures ∙ failed _ c.if-not-counts_day_of_year.true)
+returns c = simp (sym c.counts_day_of_year.ensures ∙ c.if-not-counts_day_of_year.true)
 
 -- there is no year
 returns-2 : tie.Need-returns-then-lacks_year

@@ -36,9 +36,9 @@ returns-2 c =
     let at-start = has-week.before.before in
     let fits = fitting at-start.args.r _ at-start.well_formed.1.0 in
     simp (
-      present ((has at-start).ranges w) has-week.if-week-eq0.false,
+      present ((has at-start).fits w) has-week.if-week-eq0.false,
       first after_first at-day.in-Is.is,
-      back at-day.in-Is.dd day-known.known_told-1.given.0.1,
+      back at-day.in-Is.dd (search rules),
       to_z-of_z fits.year,
       to_z-of_z fits.month,
       to_z-of_z fits.day,

@@ -66,7 +66,7 @@ returns-3 c =
       present (fields.fits ww) has-week.if-week-eq0.false,
       unequal (fields.fits mode) other-weeks.if-f-eq-ISO_WEEKS.false,
       first after_first at-day.in-Is.is,
-      back at-day.in-Is.ddd day-known.known_told-1.given.0.1,
+      back at-day.in-Is.ddd (search rules),
       to_z-of_z fits.year,
       to_z-of_z fits.month,
       to_z-of_z fits.day,

@@ -1,13 +1,12 @@
 -- `moment_parts::plain::has_plain_moment` meets its contract: its tests are the definition's, in the same order.
 -- Assumes nothing.
-use mathlib.Core.Path.{◌≡◌, ◌∙◌, sym, ap}
-use mathlib.Core.Bool.{Bool, true, false, not}
+use mathlib.Core.Path.{◌≡◌, ◌∙◌, sym}
+use mathlib.Core.Bool.{Bool, true}
 use borrow.Author.Rules.{rules}
 use lib.IntN.{pos}
 use lib.Signed.{lt_z}
 use Rattle.base_wrapping.proofs.Fits.{read, returned}
 use Rattle.read_fields.specs.Fields.{fields_of, get, dd, mm, year}
-use Rattle.moment_sums.proofs.Tests.{failed, passed}
 use Rattle.moment_parts.specs.Plain.{has_day, has_plain_moment, is_plain, or_first}
 use Rattle.moment_parts.proofs.plain.has_plain_moment.Statement.{statement}
 use Rattle.moment_parts.proofs.plain.has_plain_moment.Tie as tie
@@ -15,11 +14,11 @@ use Rattle.moment_parts.proofs.plain.has_plain_moment.Tie as tie
 -- the fields are not plain
 returns : tie.Need-returns-then-not-is_plain
 unfolding has_plain_moment
-returns c = simp (sym c.is_plain.ensures ∙ failed _ c.if-not-is_plain.true)
+returns c = simp (sym c.is_plain.ensures ∙ c.if-not-is_plain.true)
 
 -- they are
 plain : (c : tie.Else-not-is_plain) → is_plain (fields_of c.args.f.now) ≡ true
-plain c = sym c.is_plain.ensures ∙ passed _ c.if-not-is_plain.false
+plain c = sym c.is_plain.ensures ∙ c.if-not-is_plain.false
 
 -- the test of the year
 year-test : (c : tie.After-get-year) {b : Bool} → lt_z (read c.get-year.result) (pos 1) ≡ b
@@ -53,7 +52,7 @@ returns-3 : tie.Need-returns-then-not-has_day
 unfolding has_plain_moment
 returns-3 c =
     let above = c.before.before.before.before.before.before in
-    simp (plain above.before.before, year-test above.before above.if-year-lt1.false, day-test c.before (failed _ c.if-not-has_day.true))
+    simp (plain above.before.before, year-test above.before above.if-year-lt1.false, day-test c.before c.if-not-has_day.true)
 
 -- the test of the time
 returns-4 : tie.Need-returns
@@ -68,7 +67,7 @@ returns-4 c =
     simp (
       plain above.before.before,
       year-test above.before above.if-year-lt1.false,
-      day-test dated.before (passed _ dated.if-not-has_day.false),
+      day-test dated.before dated.if-not-has_day.false,
       c.time_in_range.ensures,
       returned g4.type_inv g4.ensures,
       returned g5.type_inv g5.ensures,

@@ -23,14 +23,14 @@ tested c =
 -- what was read
 is : (c : tie.After-performed-r) →
     let args = c.args in
-    read_into c.performed-r.result c.performed-r.new.1.1.1.1.0
+    read_into c.performed-r.result c.performed-r.new.f
     ≡ performed args.s.now args.n (is_free args.t.now args.n args.next) (task_of args.n.pattern)
     (with_mode (pattern_of args.n.pattern).mode (fields_of args.f.now)) args.p
 is c =
     let after-mode = c.before.before in
     let after_free = after-mode.before.before in
-    let at-mode = after_free.before.before.before.before.before in
-    let at-start = at-mode.before.before in
+    let at-mode = after_free.before.before.before.before in
+    let at-start = at-mode.before.before.before in
     rw (← after_free.is_free-free.ensures, ← at-start.requires.0.is, ← at-mode.mode_at-mode.ensures, ← after-mode.with_mode.ensures) c.performed-r.ensures
 
 -- where the date mode was tested: it is not mixed with another
@@ -50,7 +50,7 @@ returns-2 c =
     let at_test = not-mixed after_read in
     let args = at_test.args in
     verdict-refused c.refuse-in-Refused.ensures
-    (stopped args.t.now args.s.now args.n args.next (fields_of args.f.now) args.p (sym (tested at_test.before) ∙ at_test.if-mixes.left) _ (is after_read) _
+    (stopped args.t.now args.s.now args.n args.next (fields_of args.f.now) args.p (sym (tested at_test.before) ∙ at_test.if-mixes.false) _ (is after_read) _
     at-verdict.in-Refused.is)
 
 -- it is read: past the spaces after the field
@@ -62,7 +62,7 @@ returns-3 c =
     let args = at_test.args in
     verdict-read
     (rw (c.read.ensures, c.past_field.ensures)
-    (passed args.t.now args.s.now args.n args.next (fields_of args.f.now) args.p (sym (tested at_test.before) ∙ at_test.if-mixes.left) _ (is after_read)
+    (passed args.t.now args.s.now args.n args.next (fields_of args.f.now) args.p (sym (tested at_test.before) ∙ at_test.if-mixes.false) _ (is after_read)
     at-verdict.in-Read.is))
 
 pub action_read_spec : {M : Type 1} → statement M

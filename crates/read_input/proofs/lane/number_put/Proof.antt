@@ -34,18 +34,18 @@ module _ (c : tie.After-with_mode) where
   not-other = c.before.before
 
   abbrev not-mixed : tie.Else-mixes
-  not-mixed = not-other.before.before.before
+  not-mixed = not-other.before.before
 
   abbrev at-start : tie.Start
-  at-start = not-mixed.before.before.before.before
+  at-start = not-mixed.before.before.before
 
-  then-number : {after : List ℤ} → fields_of after ≡ with_number at-start.args.task at-start.args.z at-start.args.n (fields_of c.with_mode.new.1.0)
+  then-number : {after : List ℤ} → fields_of after ≡ with_number at-start.args.task at-start.args.z at-start.args.n (fields_of c.with_mode.new.f)
       → NumberPut at-start.args.mode at-start.args.task at-start.args.z at-start.args.n at-start.args.f.now true after
   then-number is =
       record {
         left = λ e. absurd (true≢false e);
-        unmixed = λ e. sym (tested not-mixed.before) ∙ not-mixed.if1.left;
-        alone = λ e. answered at-start.args.f.now at-start.args.task.field at-start.fits.z not-other.before.holds-other.ensures not-other.if2.left;
+        unmixed = λ e. sym (tested not-mixed.before) ∙ not-mixed.if-mixes.false;
+        alone = λ e. answered at-start.args.f.now at-start.args.task.field at-start.ranges.z not-other.before.holds_other.ensures not-other.if-holds_other.false;
         put = λ e. is ∙ ap (with_number at-start.args.task at-start.args.z at-start.args.n) c.with_mode.ensures;
       }
 
@@ -57,7 +57,7 @@ returns-3 c =
     let args = (at-start after-mode).args in
     then-number after-mode
     (rw (to_z-of_z (at-start after-mode).ranges.z) at c.put.ensures
-    ∙ plain args.task args.z args.n (fields_of after-mode.with_mode.new.1.0) is_plain.if-task-eq-PLAIN.true)
+    ∙ plain args.task args.z args.n (fields_of after-mode.with_mode.new.f) is_plain.if-task-eq-PLAIN.true)
 
 -- any other
 returns-4 : tie.Need-returns

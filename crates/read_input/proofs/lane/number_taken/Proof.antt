@@ -5,7 +5,7 @@ use mathlib.Core.Bool.{true, false, true≢false}
 use Prim.Native.Nat.{◌-◌, ◌<◌, ◌≤◌}
 use native.Mathlib.Omega.{arith}
 use borrow.Author.Rules.{rules}
-use borrow.Author.Tests.{eqb-true, not-false, not-true}
+use borrow.Author.Tests.{eqb-true}
 use lib.IntN.{pos}
 use mir.Facts.{to_z_pos}
 use mir.Val.{to_z}
@@ -51,7 +51,7 @@ returns-4 c =
       taken = λ e.
           is-taken _ _ _ _ _ _ after-short.short_number-digits.ensures pre.2.is after-mode.mode_at.ensures pre.3 pre.4 pre.5 some.if-end-at.false
           (sym after-takes.takes.ensures ∙ wide.if-not-takes.false)
-          (rw (as_is after-short) at after-put.number_put.ensures) (not-false _ not_left.if-not-number_put.false) c.past_field-place.ensures;
+          (rw (as_is after-short) at after-put.number_put.ensures) not_left.if-not-number_put.false c.past_field-place.ensures;
     }
 
 pub number_taken_spec : {M : Type 1} → statement M

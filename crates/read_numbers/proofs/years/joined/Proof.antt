@@ -38,7 +38,7 @@ module _ (c : tie.Else-thousands-gt2147483) where
 
   whole_is : fits32 whole ≡ true
   whole_is =
-      let fits = start.ranges.pattern.fits.thousands in
+      let fits = start.ranges.thousands in
       thousands-fit start.args.thousands (simp (to_z-of_z fits) at c.if-thousands-ltminus2147483.false) (simp (to_z-of_z fits) at c.if-thousands-gt2147483.false)
 
   whole-fits : SFits w32 whole

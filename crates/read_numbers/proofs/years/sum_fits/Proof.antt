@@ -19,11 +19,11 @@ pub sum_fits_spec : {M : Type 1} → statement M
 sum_fits_spec =
     tie.close
     (tie.spec
-    (λ c. simp (to_z-of_z c.ranges.a) (below c).ranges)
+    (λ c. simp (to_z-of_z c.ranges.a) (below c).fits)
     (λ c.
     let at-start = c.before in
-    simp (to_z-of_z at-start.ranges.a, to_z-of_z (below c).ranges, to_z-of_z at-start.ranges.b) ((below c).tells _ at-start.ranges.b))
-    (λ c. simp (to_z-of_z c.ranges.a) (above c).ranges)
+    simp (to_z-of_z at-start.ranges.a, to_z-of_z (below c).fits, to_z-of_z at-start.ranges.b) ((below c).tells _ at-start.ranges.b))
+    (λ c. simp (to_z-of_z c.ranges.a) (above c).fits)
     (λ c.
     let at-start = c.before in
-    simp (to_z-of_z at-start.ranges.a, to_z-of_z (above c).ranges, to_z-of_z at-start.ranges.b) ((above c).tells _ at-start.ranges.b)))
+    simp (to_z-of_z at-start.ranges.a, to_z-of_z (above c).fits, to_z-of_z at-start.ranges.b) ((above c).tells _ at-start.ranges.b)))

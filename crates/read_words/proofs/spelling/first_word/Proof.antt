@@ -1,7 +1,6 @@
 -- `read_words::spelling::first_word` meets its contract: the invariant is that the first word is the first from row k
 -- of the list's table on. Assumes nothing.
 use mathlib.Core.Path.{◌≡◌, ◌∙◌, refl}
-use mathlib.Core.Logic.{inl, inr}
 use Prim.Native.Nat.{◌-◌, ◌*◌, ◌<◌, ◌≤◌}
 use native.Mathlib.Omega.{arith}
 use borrow.Author.Rules.{rules}
@@ -11,6 +10,7 @@ use Rattle.template_patterns.specs.declared.tables.WordList.{WordList}
 use Rattle.read_words.specs.FoldOnce.{word_in}
 use Rattle.read_words.proofs.Letters.{other-first}
 use Rattle.read_words.proofs.Words.{no-space, from, over, found, next}
+use Rattle.read_words.proofs.spelling.first_word.Lts.{then-table-k+else-n-gt0, else-table-k}
 use Rattle.read_words.proofs.spelling.first_word.Statement.{statement}
 use Rattle.read_words.proofs.spelling.first_word.Tie as tie
 
@@ -31,21 +31,21 @@ loop-holds c = (search rules, λ list e. refl)
 -- the word of row k is there
 returns-2 : tie.Need-returns-then-n-gt0 invariant-loop decreases-loop
 returns-2 c list e =
-    let in-loop = c.before.before.before.before in
+    let in-loop = c.before.before.before.before.before in
     found _ list _ _ in-loop.loop-k-test.true (rw e at c.spelled-n.ensures) c.if-n-gt0.true (in-loop.loop-k.invariant.1 list e)
 
 -- the word is not there, or its first byte is another: on to the next row
 loop-again : tie.Need-loop-k-preserved invariant-loop decreases-loop
 loop-again c =
-    let in-loop = c.before.before in
+    let in-loop = c.before.before.before in
     let at-loop = in-loop.before in
     let args = at-loop.args in
     let in_table : 9 * at-loop.loop-k.k < length args.table.now = omega arith in
     let other = other-first args.table.now at-loop.loop-k.k args.start.now in_table in (
       search rules,
       λ list e. at-loop.loop-k.invariant.1 list e ∙ (elim c.if-table-k.branch [
-        | inl w ↦ next _ list _ _ in-loop.loop-k-test.true (rw e at w.1.ensures) w.2.left
-        | inr w ↦ next _ list _ _ in-loop.loop-k-test.true (rw e at (other w.left)) (omega arith)
+        | then-table-k+else-n-gt0 w ↦ next _ list _ _ in-loop.loop-k-test.true (rw e at w.spelled-n.ensures) w.if-n-gt0.false
+        | else-table-k w ↦ next _ list _ _ in-loop.loop-k-test.true (rw e at (other w.if-table-k.false)) (omega arith)
       ]),
     )
 

@@ -29,21 +29,21 @@ inside c = omega arith
 -- the word ends at a space
 returns : tie.Need-returns-then-c-eq32 invariant-loop decreases-loop
 returns c =
-    let in-loop = c.before.before.before in
+    let in-loop = c.before.before.before.before.before in
     at-space _ _ _ _ in-loop.loop-j-test.true (inside in-loop) c.if-c-eq32.true ∙ sym in-loop.loop-j.invariant.1
 
 -- another byte is there
 returns-2 : tie.Need-returns-then-b-c invariant-loop decreases-loop
 returns-2 c =
     let no-space = c.before in
-    let in-loop = no-space.before.before.before in
+    let in-loop = no-space.before.before.before.before.before in
     other_byte _ _ _ _ in-loop.loop-j-test.true (inside in-loop) no-space.if-c-eq32.false c.if-b-c.true ∙ sym in-loop.loop-j.invariant.1
 
 -- the same byte is there: on to the next
 loop-again : tie.Need-loop-j-preserved invariant-loop decreases-loop
 loop-again c =
     let no-space = c.before in
-    let in-loop = no-space.before.before.before in (
+    let in-loop = no-space.before.before.before.before.before in (
       search rules,
       in-loop.loop-j.invariant.1 ∙ same_byte _ _ _ _ in-loop.loop-j-test.true (inside in-loop) no-space.if-c-eq32.false c.if-b-c.false,
     )

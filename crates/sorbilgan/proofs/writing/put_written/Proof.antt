@@ -1,7 +1,6 @@
 -- `sorbilgan::writing::put_written` meets its contract: in each case `put_value` stores that case's record, and a
 -- length within 63 bits keeps its value as an i64. Assumes nothing.
 use mathlib.Core.Path.{refl, ap}
-use Prim.Native.Nat.{◌<◌, ◌^◌}
 use native.Mathlib.Omega.{arith}
 use borrow.Author.Rules.{rules}
 use mir.Facts.{to_z_pos}
@@ -11,16 +10,13 @@ use Rattle.sorbilgan.specs.Writing.{written_record}
 use Rattle.sorbilgan.proofs.writing.put_written.Statement.{statement}
 use Rattle.sorbilgan.proofs.writing.put_written.Tie as tie
 
-length-fits : (c : tie.In-Length-2) → c.in-Length.len < 2 ^ 63
-length-fits c = c.requires _ c.in-Length.is
-
 -- a text was written
 returns : tie.Need-returns-in-Length
 unfolding written_record
 returns c =
     let after-alone = c.before.before in
     let at_length = after-alone.before in
-    value-recorded after-alone.alone.ensures (to_z_pos w64 (length-fits at_length)) (ap written_record at_length.in-Length.is) c.put_value.ensures
+    value-recorded after-alone.alone.ensures (to_z_pos w64 (at_length.requires _ at_length.in-Length.is)) (ap written_record at_length.in-Length.is) c.put_value.ensures
 
 -- a refusal
 returns-2 : tie.Need-returns-in-Refused
@@ -35,7 +31,7 @@ put_written_spec =
     (tie.spec
     (λ c. search rules)
     (λ c κs. search rules)
-    (λ c. omega (arith, length-fits c.before))
+    (λ c. let at_length = c.before in omega (arith, at_length.requires _ at_length.in-Length.is))
     (λ c κs. search rules)
     (λ c. search rules)
     (λ c κs. search rules)

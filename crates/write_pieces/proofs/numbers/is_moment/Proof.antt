@@ -1,7 +1,7 @@
 -- `write_pieces::numbers::is_moment` meets its contract: each test that it makes is one of the definition's.
 -- Assumes nothing.
-use mathlib.Core.Path.{◌≡◌, sym, ◌∙◌, ap}
-use mathlib.Core.Bool.{Bool, true, false, not}
+use mathlib.Core.Path.{◌≡◌, sym, ◌∙◌}
+use mathlib.Core.Bool.{Bool}
 use borrow.Author.Rules.{rules}
 use lib.IntN.{ℤ, pos, nat_abs}
 use mir.Facts.{to_z-of_z}
@@ -15,12 +15,8 @@ use Rattle.write_pieces.proofs.numbers.is_moment.Statement.{statement}
 use Rattle.write_pieces.proofs.numbers.is_moment.Tie as tie
 
 -- a test of the definition, by a result and what the code found of it
-said : {r t b : Bool} → r ≡ t → not r ≡ b → t ≡ not b
-said {r} e n = sym e ∙ by r n
-  where
-    by : (r : Bool) {b : Bool} → not r ≡ b → r ≡ not b
-    by true n = ap not n
-    by false n = ap not n
+said : {r t b : Bool} → r ≡ t → r ≡ b → t ≡ b
+said e n = sym e ∙ n
 
 -- the start, from each test
 abbrev start1 : tie.After-in_range → tie.Start

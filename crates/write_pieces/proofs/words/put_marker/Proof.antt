@@ -2,7 +2,6 @@
 -- Assumes nothing.
 use mathlib.Core.Path.{◌≡◌, ◌∙◌, ap}
 use mathlib.Core.Bool.{true, false}
-use mathlib.Core.Logic.{inl, inr}
 use Prim.Native.Nat.{◌+◌, ◌<◌}
 use native.Mathlib.Omega.{arith}
 use borrow.Author.Rules.{rules}
@@ -11,11 +10,12 @@ use Rattle.base_notation.specs.Choice.{if◌then◌else◌}
 use Rattle.write_pieces.specs.Words.{letter_in}
 use Rattle.write_pieces.proofs.Markers.{half, marker-size, marker-some, plain-put, dotted-put}
 use Rattle.write_pieces.proofs.words.put_marker.Statement.{statement}
+use Rattle.write_pieces.proofs.words.put_marker.Lts.{then-morning, else-morning}
 use Rattle.write_pieces.proofs.words.put_marker.Tie as tie
 
 -- the letter that is chosen is that of the half of the day
 chosen : (c : tie.Joined-morning) → c.if-morning.half ≡ (if c.args.morning then 65 else 80)
-chosen c = (elim c.if-morning.branch [ inl w ↦ rw w.0.taken w.1 | inr w ↦ rw w.0.left w.1 ])
+chosen c = (elim c.if-morning.branch [ then-morning w ↦ rw w.if-morning.true w.half-is | else-morning w ↦ rw w.if-morning.false w.half-is ])
 
 -- the first letter is that of the half of the day, in the case
 first : (c : tie.After-letter_in) → let args = c.args in c.letter_in.result ≡ half args.case args.morning

@@ -31,7 +31,7 @@ named c =
 -- there is room for the name
 put-word-requires : tie.Need-put_word-requires
 put-word-requires c κs =
-    let after-length = c.before.before.before in
+    let after-length = c.before.before in
     let at-start = after-length.before.before in
     omega (arith, cased-size at-start.args.case (part after-length), ap length (named after-length), at-start.requires.2)
 
@@ -39,7 +39,7 @@ put-word-requires c κs =
 returns : tie.Need-returns
 returns c =
     let after-put = c.before.before in
-    put_same (named after-put.before.before.before.before) after-put.put_word.ensures
+    put_same (named after-put.before.before.before) after-put.put_word.ensures
 
 pub put_month_spec : {M : Type 1} → statement M
 put_month_spec =
