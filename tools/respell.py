@@ -5,7 +5,8 @@ usage: tools/respell.py [FOLDER]
 
 FOLDER is the top of a checkout, this one if none is given. Below its crates/ every .rt, .antt and .edit file is
 rewritten in place, and of a text in quotes nothing. Four lemmas whose names would fall together with a definition's get
-`_lem` first. A second run changes nothing.
+`_lem` first, and the choice `if a then b else c` of base_notation becomes `when a then b else c`, since the library has one
+of that name. A second run changes nothing.
 """
 
 import os
@@ -49,6 +50,23 @@ def lemmas_apart(crates):
             write(path, outside_quotes(read(path), lambda part: bare.sub(name + "_lem", part)))
 
 
+def choice(path, text):
+    """The repository's own choice by a test has another name than the library's: `when a then b else c`."""
+    lines = []
+    for line in text.split("\n"):
+        if path.endswith(".antt"):
+            code, dashes, comment = line.partition("--")
+            if '"--' in line or "'--" in line:
+                code, dashes, comment = line, "", ""
+            turn = lambda part: re.sub(r"(?<![\w'-])if(?![\w'-])", "when", part)
+            lines.append(outside_quotes(code, turn) + dashes + comment)
+        elif "◌then◌" in line or re.search(r"\bif\b.*\bthen\b", line) and not line.lstrip().startswith("//"):
+            lines.append(outside_quotes(line, lambda part: re.sub(r"(?<![\w'-])if(?![\w'-])", "when", part)))
+        else:
+            lines.append(line)
+    return "\n".join(lines)
+
+
 def main():
     top = sys.argv[1] if len(sys.argv) > 1 else os.path.dirname(HERE)
     crates = os.path.join(top, "crates")
@@ -65,6 +83,7 @@ def main():
             path = os.path.join(folder, file)
             text = read(path)
             turned = outside_quotes(text, lambda part: names.sub(lambda it: table[it.group(1)], part))
+            turned = choice(path, turned)
             if turned != text:
                 write(path, turned)
 

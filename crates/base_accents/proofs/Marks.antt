@@ -15,7 +15,7 @@ use borrow.Author.Tests.{eqb-true, ltb-true, ltb-false, ne_eqb}
 use lib.Dec.{eqb, ltb}
 use lib.ListN.{length, take, drop, drop_of_length-le}
 use lib.Seq.{drop-cons, get_or-drop}
-use Rattle.base_notation.specs.Choice.{if◌then◌else◌}
+use Rattle.base_notation.specs.Choice.{when◌then◌else◌}
 use Rattle.base_notation.specs.Text.{byte_at}
 use Rattle.base_notation.proofs.Bytes.{byte-within}
 use Rattle.base_notation.proofs.Cases.{both}
@@ -33,7 +33,7 @@ pub record MarkBytes (b c : ℕ) : Type 0 where
 pub mark-bytes : (b c : ℕ) → is_mark b c ≡ true → MarkBytes b c
 mark-bytes b c = by (eqb b 0xcc) refl
   where
-    by : (k : Bool) → eqb b 0xcc ≡ k → (if k then c ∈ 0x80 ‥ 0xbf else eqb b 0xcd && c ∈ 0x80 ‥ 0xaf) ≡ true → MarkBytes b c
+    by : (k : Bool) → eqb b 0xcc ≡ k → (when k then c ∈ 0x80 ‥ 0xbf else eqb b 0xcd && c ∈ 0x80 ‥ 0xaf) ≡ true → MarkBytes b c
     by true k e =
         let first = eqb-true b 0xcc k in
         let second = bounds (0x80 ‥ 0xbf) c e in
@@ -50,7 +50,7 @@ marks-within [] = omega arith
 marks-within (b ∷ []) = omega arith
 marks-within (b ∷ c ∷ u) = by (is_mark b c) (marks-within u)
   where
-    by : (k : Bool) → marks u ≤ length u → (if k then suc (suc (marks u)) else 0) ≤ length (b ∷ c ∷ u)
+    by : (k : Bool) → marks u ≤ length u → (when k then suc (suc (marks u)) else 0) ≤ length (b ∷ c ∷ u)
     by true h = omega arith
     by false h = omega arith
 
@@ -59,7 +59,7 @@ unfolding marks
 marks-done [] = refl
 marks-done (b ∷ []) = refl
 marks-done (b ∷ c ∷ u) =
-    (elim (is_mark b c) as (λ k. is_mark b c ≡ k → marks (drop (if k then suc (suc (marks u)) else 0) (b ∷ c ∷ u)) ≡ 0) [
+    (elim (is_mark b c) as (λ k. is_mark b c ≡ k → marks (drop (when k then suc (suc (marks u)) else 0) (b ∷ c ∷ u)) ≡ 0) [
       | true ↦ λ k. marks-done u
       | false ↦ λ k. rw k
     ]) refl
@@ -69,7 +69,7 @@ unfolding marks
 marks-kept [] v h = h
 marks-kept (b ∷ []) v h = h
 marks-kept (b ∷ c ∷ u) v h =
-    (elim (is_mark b c) as (λ k. is_mark b c ≡ k → marks (take (if k then suc (suc (marks u)) else 0) (b ∷ c ∷ u) ++ v) ≡ (if k then suc (suc (marks u)) else 0)) [
+    (elim (is_mark b c) as (λ k. is_mark b c ≡ k → marks (take (when k then suc (suc (marks u)) else 0) (b ∷ c ∷ u) ++ v) ≡ (when k then suc (suc (marks u)) else 0)) [
       | true ↦ λ k. rw (k, marks-kept u v h)
       | false ↦ λ k. h
     ]) refl

@@ -12,7 +12,7 @@ use borrow.Author.Tests.{eqb-true}
 use lib.Dec.{eqb, ltb, lit<}
 use lib.ListN.{length, take, drop, length-append, length-take, get_or-append}
 use lib.Seq.{drop-drop, drop_at, get_or-take, take-add}
-use Rattle.base_notation.specs.Choice.{if◌then◌else◌}
+use Rattle.base_notation.specs.Choice.{when◌then◌else◌}
 use Rattle.base_notation.specs.Text.{byte_at}
 use Rattle.base_notation.proofs.Cases.{both}
 use Rattle.base_chars.specs.Character.{char_length, lead}
@@ -39,7 +39,7 @@ unfolding marks
 past-marks [] = refl
 past-marks (b ∷ []) = refl
 past-marks (b ∷ c ∷ u) =
-    (elim (is_mark b c) as (λ k. is_mark b c ≡ k → well_formed (drop (if k then suc (suc (marks u)) else 0) (b ∷ c ∷ u)) ≡ well_formed (b ∷ c ∷ u)) [
+    (elim (is_mark b c) as (λ k. is_mark b c ≡ k → well_formed (drop (when k then suc (suc (marks u)) else 0) (b ∷ c ∷ u)) ≡ well_formed (b ∷ c ∷ u)) [
       | true ↦ λ k. past-marks u ∙ past-sequence-at (b ∷ c ∷ u) 0 2 (mark-sequence b c u k)
       | false ↦ λ k. refl
     ]) refl
@@ -50,7 +50,7 @@ unfolding marks
 marks-text [] = empty-text
 marks-text (b ∷ []) = empty-text
 marks-text (b ∷ c ∷ u) =
-    (elim (is_mark b c) as (λ k. is_mark b c ≡ k → well_formed (take (if k then suc (suc (marks u)) else 0) (b ∷ c ∷ u)) ≡ true) [
+    (elim (is_mark b c) as (λ k. is_mark b c ≡ k → well_formed (take (when k then suc (suc (marks u)) else 0) (b ∷ c ∷ u)) ≡ true) [
       | true ↦ λ k. sym (past-sequence-at (b ∷ c ∷ take (marks u) u) 0 2 (mark-sequence b c (take (marks u) u) k)) ∙ marks-text u
       | false ↦ λ k. empty-text
     ]) refl
@@ -69,7 +69,7 @@ module _ (accents : Bool) (s : List ℕ) (at : ℕ) (e : well_formed (drop at s)
       with-marks : well_formed (drop (at + (n + more)) s) ≡ true
       with-marks = rw (← add_assoc at n more, ← drop-drop more (at + n) s) (past-marks (drop (at + n) s) ∙ next-boundary s at e)
 
-      by : (k : Bool) → well_formed (drop (at + (if k then n + more else n)) s) ≡ true
+      by : (k : Bool) → well_formed (drop (at + (when k then n + more else n)) s) ≡ true
       by true = with-marks
       by false = next-boundary s at e
 
@@ -82,7 +82,7 @@ module _ (accents : Bool) (s : List ℕ) (at : ℕ) (e : well_formed (drop at s)
           rw (take-add n more (drop at s), drop-drop n at s)
           (append-text (take n (drop at s)) (take more (drop (at + n) s)) (one-character s at h e) ∙ marks-text (drop (at + n) s))
 
-      by : (k : Bool) → well_formed (take (if k then n + more else n) (drop at s)) ≡ true
+      by : (k : Bool) → well_formed (take (when k then n + more else n) (drop at s)) ≡ true
       by true = with-marks
       by false = one-character s at h e
 
@@ -103,7 +103,7 @@ module _ (u w : List ℕ) (a : Alike u w) where
       two l h = a.second (omega (arith, lead-two b (omega arith) (omega arith)))
 
       by : (p q : Bool) → eqb b 0xcc ≡ p → eqb b 0xcd ≡ q
-          → (if p then byte_at w 1 ∈ 0x80 ‥ 0xbf else q && byte_at w 1 ∈ 0x80 ‥ 0xaf) ≡ (if p then byte_at u 1 ∈ 0x80 ‥ 0xbf else q && byte_at u 1 ∈ 0x80 ‥ 0xaf)
+          → (when p then byte_at w 1 ∈ 0x80 ‥ 0xbf else q && byte_at w 1 ∈ 0x80 ‥ 0xaf) ≡ (when p then byte_at u 1 ∈ 0x80 ‥ 0xbf else q && byte_at u 1 ∈ 0x80 ‥ 0xaf)
       by true q e f = rw (two (omega (arith, eqb-true b 0xcc e)) (omega (arith, eqb-true b 0xcc e)))
       by false true e f = rw (two (omega (arith, eqb-true b 0xcd f)) (omega (arith, eqb-true b 0xcd f)))
       by false false e f = refl
@@ -142,7 +142,7 @@ module _ (u v : List ℕ) (whole : lead (byte_at u 0) ≤ length u) where
       more : ℕ
       more = marks (drop (0 + k) u)
 
-      by : (c : Bool) → (accents && letter_at u 0) ≡ c → measure_of accents (take (if c then k + more else k) u ++ v) 0 ≡ (if c then k + more else k)
+      by : (c : Bool) → (accents && letter_at u 0) ≡ c → measure_of accents (take (when c then k + more else k) u ++ v) 0 ≡ (when c then k + more else k)
       by true e =
           let tests = both accents (letter_at u 0) e in
           let enough : lead (byte_at u 0) ≤ k + more = omega (arith, long) in

@@ -2,7 +2,7 @@
 -- count with it; a mark after anything else counts alone. Without the accents mode each of them counts alone.
 use Rattle.std.specs.Prelude.{◌≡◌, refl, Bool, true, false, not, ◌&&◌, List, [], ◌∷◌, ◌++◌, map, ℕ, suc, ◌+◌, ◌-◌, ◌≤◌, min, eqb, ltb, length, drop, replicate}
 use Prim.Native.Char.{code}
-use Rattle.base_notation.specs.Choice.{if◌then◌else◌}
+use Rattle.base_notation.specs.Choice.{when◌then◌else◌}
 use Rattle.base_notation.specs.Text.{byte_at, encoded, utf8}
 use Rattle.base_chars.specs.Character.{char_length, lead}
 use Rattle.base_chars.specs.Class.{class_of, is_letter}
@@ -10,7 +10,7 @@ use Rattle.base_chars.specs.Range.{◌‥◌, ◌∈◌}
 
 -- two bytes are a mark: cc 80 is U+0300, cc bf U+033F, cd 80 U+0340, cd af U+036F
 abbrev pub is_mark : ℕ → ℕ → Bool
-is_mark b c = if eqb b 0xcc then c ∈ 0x80 ‥ 0xbf else eqb b 0xcd && c ∈ 0x80 ‥ 0xaf
+is_mark b c = when eqb b 0xcc then c ∈ 0x80 ‥ 0xbf else eqb b 0xcd && c ∈ 0x80 ‥ 0xaf
 
 -- there is a mark at a place
 unfoldable pub mark_at : List ℕ → ℕ → Bool
@@ -18,19 +18,19 @@ mark_at s at = is_mark (byte_at s at) (byte_at s (at + 1))
 
 -- there is a letter at a place: one of ASCII, or a character outside ASCII that is no mark
 unfoldable pub letter_at : List ℕ → ℕ → Bool
-letter_at s at = let b = byte_at s at in if ltb b 0x80 then is_letter b else not (mark_at s at)
+letter_at s at = let b = byte_at s at in when ltb b 0x80 then is_letter b else not (mark_at s at)
 
 -- how many bytes the marks in front of a text have
 unfoldable pub marks : List ℕ → ℕ
 marks [] = 0
 marks (b ∷ []) = 0
-marks (b ∷ c ∷ s) = if is_mark b c then suc (suc (marks s)) else 0
+marks (b ∷ c ∷ s) = when is_mark b c then suc (suc (marks s)) else 0
 
 -- the length of the character at a place: in the accents mode a letter has the marks right after it
 unfoldable pub measure_of : Bool → List ℕ → ℕ → ℕ
 measure_of accents s at =
     let n = char_length s at in
-    if accents && letter_at s at then n + marks (drop (at + n) s) else n
+    when accents && letter_at s at then n + marks (drop (at + n) s) else n
 
 -- r is that length: at least 1 where a byte is left, and within the text
 pub record Counted (accents : Bool) (s : List ℕ) (at r : ℕ) : Type 0 where

@@ -11,7 +11,7 @@ use native.Mathlib.Omega.{arith}
 use borrow.Author.Tests.{ne_eqb, eqb-true}
 use lib.Dec.{eqb}
 use lib.ListN.{get_or}
-use Rattle.base_notation.specs.Choice.{if◌then◌else◌}
+use Rattle.base_notation.specs.Choice.{when◌then◌else◌}
 use Rattle.base_chars.specs.Range.{◌‥◌, ◌∈◌}
 use Rattle.base_chars.specs.Class.{Class, space, digit, letter, separator, other, class_of, rank, ◌is◌, is_space, is_digit, is_letter, is_separator}
 use Rattle.base_chars.proofs.Ranges.{inside, above, bounds}
@@ -33,7 +33,7 @@ the_class c k e = sym (of-rank c) ∙ ap numbered (eqb-true _ _ e) ∙ of-rank k
 
 -- a class by its four tests, made in order
 abbrev ordered : Bool → Bool → Bool → Bool → Class
-ordered s d l p = if s then space else if d then digit else if l then letter else if p then separator else other
+ordered s d l p = when s then space else when d then digit else when l then letter else when p then separator else other
 
 ordered-space : (s d l p : Bool) → ordered s d l p is space ≡ s
 ordered-space true d l p = refl

@@ -16,7 +16,7 @@ use lib.Dec.{ltb, lit<}
 use lib.Pow.{shr-shr}
 use lib.ListN.{length, get_or, take, drop, length-drop}
 use lib.Seq.{drop-nil, drop-drop, get_or-drop, take_all}
-use Rattle.base_notation.specs.Choice.{if◌then◌else◌}
+use Rattle.base_notation.specs.Choice.{when◌then◌else◌}
 use Rattle.base_chars.specs.Range.{◌‥◌}
 use Rattle.base_chars.specs.Utf8.{well_formed, high_bits, Passed}
 use Rattle.base_chars.proofs.Sequences.{ascii}
@@ -40,10 +40,10 @@ number zero f = 0
 number (suc n) f = number n (λ k. f (suc k)) * 256 + f 0
 
 -- the high bit of one byte
-high_bit : (b : ℕ) → b < 256 → bit_and b 0x80 ≡ (if ltb b 0x80 then 0 else 0x80)
+high_bit : (b : ℕ) → b < 256 → bit_and b 0x80 ≡ (when ltb b 0x80 then 0 else 0x80)
 high_bit b h = and_high b 1 7 ∙ split (ltb b 0x80) refl
   where
-    split : (t : Bool) → ltb b 0x80 ≡ t → (b / 2 ^ 7 % 2 ^ 1) * 2 ^ 7 ≡ (if t then 0 else 0x80)
+    split : (t : Bool) → ltb b 0x80 ≡ t → (b / 2 ^ 7 % 2 ^ 1) * 2 ^ 7 ≡ (when t then 0 else 0x80)
     split true e = omega (arith, ltb-true b 0x80 e)
     split false e = omega (arith, ltb-false b 0x80 e)
 
@@ -110,17 +110,17 @@ high-run (suc n) (b ∷ s) = rw (mul-suc 8 n) (split (high-run n s) (ltb b 0x80)
     rest = high_bits (take n s)
 
     split : well_formed (drop (count_trailing_zeros (8 * n) rest / 8) s) ≡ well_formed s → (t : Bool) → ltb b 0x80 ≡ t
-        → well_formed (drop (count_trailing_zeros (8 * n + 8) (rest * 256 + (if t then 0 else 0x80)) / 8) (b ∷ s)) ≡ well_formed (b ∷ s)
+        → well_formed (drop (count_trailing_zeros (8 * n + 8) (rest * 256 + (when t then 0 else 0x80)) / 8) (b ∷ s)) ≡ well_formed (b ∷ s)
     split after true e =
         let small = inside (0x00 ‥ 0x7f) b (omega arith) (omega (arith, ltb-true b 0x80 e)) in
         rw (zeros-ascii (8 * n) rest) (after ∙ past-sequence-at (b ∷ s) 0 1 (sym (ascii b s small)))
     split after false e = rw (zeros-other (8 * n) rest)
 
 -- one byte shifted out
-shifted : (b x : ℕ) → (x * 256 + (if ltb b 0x80 then 0 else 0x80)) / 2 ^ 8 ≡ x
+shifted : (b x : ℕ) → (x * 256 + (when ltb b 0x80 then 0 else 0x80)) / 2 ^ 8 ≡ x
 shifted b x = by_cases (ltb b 0x80)
   where
-    by_cases : (t : Bool) → (x * 256 + (if t then 0 else 0x80)) / 2 ^ 8 ≡ x
+    by_cases : (t : Bool) → (x * 256 + (when t then 0 else 0x80)) / 2 ^ 8 ≡ x
     by_cases true = omega arith
     by_cases false = omega arith
 

@@ -12,7 +12,7 @@ use native.Mathlib.Omega.{arith}
 use borrow.Author.Tests.{leb-true, ltb-true}
 use lib.Dec.{leb, ltb}
 use lib.ListN.{length, get_or}
-use Rattle.base_notation.specs.Choice.{if◌then◌else◌}
+use Rattle.base_notation.specs.Choice.{when◌then◌else◌}
 use Rattle.base_notation.proofs.Cases.{both}
 use Rattle.base_chars.specs.Range.{Range, ◌‥◌, ◌∈◌}
 use Rattle.base_chars.specs.Utf8.{begins, first_row}
@@ -69,7 +69,7 @@ under n ((r ∷ rs) ∷ rows) = ltb r.high n && under n rows
 module _ (b : ℕ) (s : List ℕ) where
   pub decides
       : (m : ℕ) (rows : List (List Range)) (k : ℕ) → upwards m rows ≡ true → k < length rows → b ∈ first (get_or rows k []) ≡ true
-      → first_row rows (b ∷ s) ≡ (if begins (others (get_or rows k [])) s then length (get_or rows k []) else 0)
+      → first_row rows (b ∷ s) ≡ (when begins (others (get_or rows k [])) s then length (get_or rows k []) else 0)
   decides m [] k e h q = absurd (not-suc-le-zero h)
   decides m ([] ∷ rows) k e h q = absurd (false≢true e)
   decides m ((r ∷ rs) ∷ rows) zero e h q =

@@ -16,7 +16,7 @@ use lib.ListN.{length, get_or, take, drop, replicate, drop_of_length-le}
 use lib.Seq.{drop-cons}
 use lib.Dec.{ltb, eqb, lit<}
 use borrow.Author.Tests.{ltb-true, ltb-false, eqb-true}
-use Rattle.base_notation.specs.Choice.{if◌then◌else◌}
+use Rattle.base_notation.specs.Choice.{when◌then◌else◌}
 use Rattle.base_notation.specs.Text.{byte_at}
 use Rattle.base_notation.proofs.Cases.{both, by-if}
 use Rattle.base_notation.proofs.Table.{all_from, entry}
@@ -30,7 +30,7 @@ module _ (b : ℕ) (s : List ℕ) where
   -- the row of the first byte decides
   by_Row
       : (k : ℕ) → k < 9 → b ∈ first (get_or table k []) ≡ true
-      → sequence (b ∷ s) ≡ (if begins (others (get_or table k [])) s then length (get_or table k []) else 0)
+      → sequence (b ∷ s) ≡ (when begins (others (get_or table k [])) s then length (get_or table k []) else 0)
   unfolding sequence
   by_Row k h q = decides b s 0 table k refl h q
 
@@ -136,7 +136,7 @@ begins-on r rs s at =
 module _ (s : List ℕ) (at : ℕ) (h : at < length s) where
   pub at_row
       : (k : ℕ) → k < 9 → (first (get_or table k [])).low ≤ byte_at s at → byte_at s at ≤ (first (get_or table k [])).high
-      → (if begins (others (get_or table k [])) (drop (at + 1) s) then length (get_or table k []) else 0) ≡ sequence (drop at s)
+      → (when begins (others (get_or table k [])) (drop (at + 1) s) then length (get_or table k []) else 0) ≡ sequence (drop at s)
   at_row k l from to =
       rw (add-one, drop-cons s at 0 h)
       (sym (by_Row (byte_at s at) (drop (suc at) s) k l (inside (first (get_or table k [])) (byte_at s at) from to)))

@@ -1,15 +1,15 @@
 -- A character of a text is one UTF-8 sequence, as long as its first byte says.
 use Rattle.std.specs.Prelude.{◌≡◌, refl, List, [], ◌∷◌, map, ℕ, ◌-◌, ◌≤◌, min, length, take}
-use Rattle.base_notation.specs.Choice.{if◌then◌else◌}
+use Rattle.base_notation.specs.Choice.{when◌then◌else◌}
 use Rattle.base_notation.specs.Text.{byte_at, utf8}
 use Rattle.base_chars.specs.Range.{◌‥◌, ◌∈◌}
 
 -- a character's length by its first byte: 110xxxxx begins 2 bytes, 1110xxxx 3, 11110xxx 4; any other byte counts as 1
 unfoldable pub lead : ℕ → ℕ
 lead b =
-    if b ∈ 0xc0 ‥ 0xdf then 2
-    else if b ∈ 0xe0 ‥ 0xef then 3
-    else if b ∈ 0xf0 ‥ 0xf7 then 4
+    when b ∈ 0xc0 ‥ 0xdf then 2
+    else when b ∈ 0xe0 ‥ 0xef then 3
+    else when b ∈ 0xf0 ‥ 0xf7 then 4
     else 1
 
 -- the length of the character at a place, cut where the text ends: past the end it is 0

@@ -1,7 +1,7 @@
 -- The class of a byte in C's locale. Each byte has one, so no byte passes two of the tests.
 use Rattle.std.specs.Prelude.{◌≡◌, refl, Bool, ◌||◌, [], ◌∷◌, map, ℕ, eqb}
 use Prim.Native.Char.{code}
-use Rattle.base_notation.specs.Choice.{if◌then◌else◌}
+use Rattle.base_notation.specs.Choice.{when◌then◌else◌}
 use Rattle.base_chars.specs.Range.{◌‥◌, ◌∈◌}
 
 pub data Class : Type 0 where
@@ -10,10 +10,10 @@ pub data Class : Type 0 where
 -- 9 to 13 are tab, newline, vertical tab, form feed and return; a separator is what else ASCII prints
 unfoldable pub class_of : ℕ → Class
 class_of b =
-    if b ∈ 9 ‥ 13 || eqb b (code " ") then space
-    else if b ∈ code "0" ‥ code "9" then digit
-    else if b ∈ code "A" ‥ code "Z" || b ∈ code "a" ‥ code "z" then letter
-    else if b ∈ code "!" ‥ code "~" then separator
+    when b ∈ 9 ‥ 13 || eqb b (code " ") then space
+    else when b ∈ code "0" ‥ code "9" then digit
+    else when b ∈ code "A" ‥ code "Z" || b ∈ code "a" ‥ code "z" then letter
+    else when b ∈ code "!" ‥ code "~" then separator
     else other
 
 -- the classes by number

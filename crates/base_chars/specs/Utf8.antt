@@ -1,6 +1,6 @@
 -- Well-formed UTF-8, by the Unicode Standard's table of well-formed byte sequences (Table 3-7).
 use Rattle.std.specs.Prelude.{◌≡◌, refl, Bool, true, false, ◌&&◌, List, [], ◌∷◌, map, ℕ, zero, suc, pred, ◌+◌, ◌*◌, ◌≤◌, ltb, length, drop, replicate}
-use Rattle.base_notation.specs.Choice.{if◌then◌else◌}
+use Rattle.base_notation.specs.Choice.{when◌then◌else◌}
 use Rattle.base_notation.specs.Text.{utf8}
 use Rattle.base_chars.specs.Range.{Range, ◌‥◌, ◌∈◌}
 
@@ -27,7 +27,7 @@ begins (r ∷ rs) (b ∷ s) = b ∈ r && begins rs s
 -- the length of the first row that the list begins with, 0 where there is none
 abbrev pub first_row : List (List Range) → List ℕ → ℕ
 first_row [] s = 0
-first_row (row ∷ rows) s = if begins row s then length row else first_row rows s
+first_row (row ∷ rows) s = when begins row s then length row else first_row rows s
 
 -- the length of the sequence that the list begins with, 0 where there is none
 unfoldable pub sequence : List ℕ → ℕ
@@ -52,7 +52,7 @@ pub record Passed (s : List ℕ) (from at : ℕ) : Type 0 where
 -- the bytes as one number, the first the lowest, each 0x80 if its high bit is set and 0 if it is ASCII
 unfoldable pub high_bits : List ℕ → ℕ
 high_bits [] = 0
-high_bits (b ∷ s) = high_bits s * 256 + (if ltb b 0x80 then 0 else 0x80)
+high_bits (b ∷ s) = high_bits s * 256 + (when ltb b 0x80 then 0 else 0x80)
 
 pub second-and-third : high_bits (utf8 "gà ") ≡ 0x808000
 unfolding high_bits

@@ -3,7 +3,7 @@
 
 ghost use Rattle.std.specs.Prelude.{[], ◌∷◌, ◌≡◌, ◌||◌, ◌+◌, ◌/◌, ◌<◌, ◌≤◌, length, take, drop};
 ghost use Rattle.std.specs.Int.Count.{count_trailing_zeros};
-ghost use Rattle.base_notation.specs.Choice.{if◌then◌else◌};
+ghost use Rattle.base_notation.specs.Choice.{when◌then◌else◌};
 ghost use Rattle.base_chars.specs.Character.{lead, Measured};
 ghost use Rattle.base_chars.specs.Class.{is_space, is_digit, is_letter, is_separator};
 ghost use Rattle.base_chars.specs.Fold.{folded as folded_byte, raised as raised_byte};
@@ -145,7 +145,7 @@ fn in_range(s: &[u8], at: usize, lo: u8, hi: u8) -> bool
 // The length of a sequence of two bytes whose first is at a place: 0 unless a continuation follows.
 fn two(s: &[u8], at: usize) -> usize
     requires { at < length s.now }
-    ensures { result ≡ (if begins (0x80 ‥ 0xbf ∷ []) (drop (at + 1) s.now) then 2 else 0) }
+    ensures { result ≡ (when begins (0x80 ‥ 0xbf ∷ []) (drop (at + 1) s.now) then 2 else 0) }
 {
     if in_range(s, at + 1, 0x80, 0xbf) {
         2
@@ -157,7 +157,7 @@ fn two(s: &[u8], at: usize) -> usize
 // The same for three bytes, the second from `lo` to `hi`.
 fn three(s: &[u8], at: usize, lo: u8, hi: u8) -> usize
     requires { at < length s.now }
-    ensures { result ≡ (if begins (lo ‥ hi ∷ 0x80 ‥ 0xbf ∷ []) (drop (at + 1) s.now) then 3 else 0) }
+    ensures { result ≡ (when begins (lo ‥ hi ∷ 0x80 ‥ 0xbf ∷ []) (drop (at + 1) s.now) then 3 else 0) }
 {
     if in_range(s, at + 1, lo, hi) {
         if in_range(s, at + 2, 0x80, 0xbf) {
@@ -170,7 +170,7 @@ fn three(s: &[u8], at: usize, lo: u8, hi: u8) -> usize
 // The same for four bytes.
 fn four(s: &[u8], at: usize, lo: u8, hi: u8) -> usize
     requires { at < length s.now }
-    ensures { result ≡ (if begins (lo ‥ hi ∷ 0x80 ‥ 0xbf ∷ 0x80 ‥ 0xbf ∷ []) (drop (at + 1) s.now) then 4 else 0) }
+    ensures { result ≡ (when begins (lo ‥ hi ∷ 0x80 ‥ 0xbf ∷ 0x80 ‥ 0xbf ∷ []) (drop (at + 1) s.now) then 4 else 0) }
 {
     if in_range(s, at + 1, lo, hi) {
         if in_range(s, at + 2, 0x80, 0xbf) {

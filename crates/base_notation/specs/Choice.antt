@@ -1,7 +1,7 @@
 -- A choice by a test, as definitions write it.
 use Rattle.std.specs.Prelude.{Bool, true, false}
 
-infixr 20 if◌then◌else◌
-abbrev pub if◌then◌else◌ : {A : Type 0} → Bool → A → A → A
-if true then a else b = a
-if false then a else b = b
+infixr 20 when◌then◌else◌
+abbrev pub when◌then◌else◌ : {A : Type 0} → Bool → A → A → A
+when true then a else b = a
+when false then a else b = b

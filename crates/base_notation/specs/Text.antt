@@ -2,14 +2,14 @@
 use Rattle.std.specs.Prelude.{◌≡◌, refl, List, [], ◌∷◌, ◌++◌, ℕ, ◌+◌, ◌/◌, ◌%◌, ltb, get_or}
 use Prim.Native.Char.{code}
 use Prim.Native.String.{String, [] as []ˢ, ◌∷◌ as ◌∷ˢ◌}
-use Rattle.base_notation.specs.Choice.{if◌then◌else◌}
+use Rattle.base_notation.specs.Choice.{when◌then◌else◌}
 
 -- the bytes of one character in UTF-8, by its code point
 abbrev pub encoded : ℕ → List ℕ
 encoded c =
-    if ltb c 0x80 then c ∷ []
-    else if ltb c 0x800 then (0xc0 + c / 64) ∷ (0x80 + c % 64) ∷ []
-    else if ltb c 0x10000 then (0xe0 + c / 4096) ∷ (0x80 + c / 64 % 64) ∷ (0x80 + c % 64) ∷ []
+    when ltb c 0x80 then c ∷ []
+    else when ltb c 0x800 then (0xc0 + c / 64) ∷ (0x80 + c % 64) ∷ []
+    else when ltb c 0x10000 then (0xe0 + c / 4096) ∷ (0x80 + c / 64 % 64) ∷ (0x80 + c % 64) ∷ []
     else (0xf0 + c / 262144) ∷ (0x80 + c / 4096 % 64) ∷ (0x80 + c / 64 % 64) ∷ (0x80 + c % 64) ∷ []
 
 -- the bytes of a text in UTF-8

@@ -1,7 +1,7 @@
 -- Settings as the bits of a number, as other languages give them.
 use Rattle.std.specs.Prelude.{◌≡◌, refl, Bool, true, not, ℕ, eqb}
 use Rattle.std.specs.Int.Bits.{bit_and}
-use Rattle.base_notation.specs.Choice.{if◌then◌else◌}
+use Rattle.base_notation.specs.Choice.{when◌then◌else◌}
 use Rattle.base_settings.specs.Accents.{with_accents}
 use Rattle.base_settings.specs.Limits.{card_limits, cards, page_limits, pages}
 use Rattle.base_settings.specs.Strict.{with_strict}
@@ -19,7 +19,7 @@ abbrev pub cards_bit : ℕ
 cards_bit = 4
 
 abbrev pub limits_of : ℕ → Limits
-limits_of bits = if eqb (bit_and bits cards_bit) 0 then page_limits else card_limits
+limits_of bits = when eqb (bit_and bits cards_bit) 0 then page_limits else card_limits
 
 abbrev pub strict_of : ℕ → Bool
 strict_of bits = not (eqb (bit_and bits strict_bit) 0)

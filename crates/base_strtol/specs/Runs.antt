@@ -1,14 +1,14 @@
 -- Spaces and digits in front of a text.
 use Rattle.std.specs.Prelude.{◌≡◌, refl, Bool, List, [], ◌∷◌, ℕ, suc, ◌+◌, ◌-◌, ◌*◌}
 use Prim.Native.Char.{code}
-use Rattle.base_notation.specs.Choice.{if◌then◌else◌}
+use Rattle.base_notation.specs.Choice.{when◌then◌else◌}
 use Rattle.base_notation.specs.Text.{utf8}
 use Rattle.base_chars.specs.Class.{class_of, is_space, is_digit}
 
 -- how many bytes in front pass a test
 unfoldable pub leading : (ℕ → Bool) → List ℕ → ℕ
 leading test [] = 0
-leading test (b ∷ s) = if test b then suc (leading test s) else 0
+leading test (b ∷ s) = when test b then suc (leading test s) else 0
 
 -- how many spaces are in front
 abbrev pub spaces : List ℕ → ℕ
@@ -21,7 +21,7 @@ digits s = leading is_digit s
 -- the number n with the digits in front written after its own
 unfoldable pub number_from : ℕ → List ℕ → ℕ
 number_from n [] = n
-number_from n (b ∷ s) = if is_digit b then number_from (n * 10 + (b - code "0")) s else n
+number_from n (b ∷ s) = when is_digit b then number_from (n * 10 + (b - code "0")) s else n
 
 -- the number that the digits in front are, however long
 abbrev pub number : List ℕ → ℕ

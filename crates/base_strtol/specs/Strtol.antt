@@ -1,7 +1,7 @@
 -- C's strtol in base 10, with a `long` of 64 bits, on the text from a place on.
 use Rattle.std.specs.Prelude.{◌≡◌, refl, Bool, true, false, ◌||◌, List, [], ℕ, ◌+◌, ◌-◌, ◌^◌, ◌<◌, min, eqb, ltb, ℤ, pos, negsuc, neg_ℤ, length, drop}
 use Prim.Native.Char.{code}
-use Rattle.base_notation.specs.Choice.{if◌then◌else◌}
+use Rattle.base_notation.specs.Choice.{when◌then◌else◌}
 use Rattle.base_notation.specs.Text.{byte_at, utf8}
 use Rattle.base_chars.specs.Class.{class_of, is_digit}
 use Rattle.base_strtol.specs.Runs.{leading, spaces, digits, number, number_from}
@@ -19,7 +19,7 @@ minus s = eqb (byte_at s 0) (code "-")
 
 -- how many signs are read: one plus or minus sign, or none
 abbrev pub signs : List ℕ → ℕ
-signs s = if minus s || eqb (byte_at s 0) (code "+") then 1 else 0
+signs s = when minus s || eqb (byte_at s 0) (code "+") then 1 else 0
 
 -- the text after its spaces and a sign
 abbrev pub unsigned : List ℕ → List ℕ
@@ -27,11 +27,11 @@ unsigned s = drop (signs (trimmed s)) (trimmed s)
 
 -- how far from 0 a signed 64-bit number can be: 2 ^ 63 - 1, after a minus sign 2 ^ 63
 abbrev pub limit : Bool → ℕ
-limit neg = if neg then 2 ^ 63 else 2 ^ 63 - 1
+limit neg = when neg then 2 ^ 63 else 2 ^ 63 - 1
 
 -- a number with its sign
 abbrev pub signed : Bool → ℕ → ℤ
-signed neg n = if neg then neg_ℤ (pos n) else pos n
+signed neg n = when neg then neg_ℤ (pos n) else pos n
 
 -- the digits in front of a text that begins at a place: their number, or the limit where it is beyond that;
 -- the place after them; whether the number is beyond the limit
@@ -48,14 +48,14 @@ strtol s start =
     let t = drop start s in
     let neg = minus (trimmed t) in
     let run = digits_read (limit neg) (start + spaces t + signs (trimmed t)) (unsigned t) in
-    if eqb (digits (unsigned t)) 0 then answer (pos 0) start false
+    when eqb (digits (unsigned t)) 0 then answer (pos 0) start false
     else answer (signed neg run.value) run.end run.over
 
 -- the digits right at a place, where their number is below 1,000,000,000; otherwise none
 unfoldable pub short_at : List ℕ → ℕ → Short
 short_at s at =
     let t = drop at s in
-    if ltb (number t) 1000000000 then record { value = number t; end = at + digits t } else record { value = 0; end = at }
+    when ltb (number t) 1000000000 then record { value = number t; end = at + digits t } else record { value = 0; end = at }
 
 -- two digits are at a place, and then a byte that is no digit
 abbrev pub Pair : List ℕ → ℕ → Type 0

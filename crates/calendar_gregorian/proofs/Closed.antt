@@ -13,12 +13,12 @@ use native.Mathlib.Omega.{arith}
 use borrow.Author.Tests.{ltb-true, ltb-false, eq-eqb, ne_eqb, eqb-true}
 use lib.Arith.{digits_div, digits_mod}
 use lib.Dec.{ltb, eqb, lit<}
-use Rattle.base_notation.specs.Choice.{if◌then◌else◌}
+use Rattle.base_notation.specs.Choice.{when◌then◌else◌}
 use Rattle.calendar_gregorian.specs.Gregorian.{multiple, is_leap, leap, before_year}
 
 -- 1 where a test passes
 abbrev one-if : Bool → ℕ
-one-if b = if b then 1 else 0
+one-if b = when b then 1 else 0
 
 one-if-le : (b : Bool) → one-if b ≤ 1
 one-if-le true = omega arith

@@ -12,7 +12,7 @@ use lib.IntN.{ℤ, pos}
 use lib.ListN.{take, drop}
 use lib.Seq.{drop-cons}
 use lib.Signed.{le_z}
-use Rattle.base_notation.specs.Choice.{if◌then◌else◌}
+use Rattle.base_notation.specs.Choice.{when◌then◌else◌}
 use Rattle.calendar_gregorian.specs.Gregorian.{sum}
 use Rattle.calendar_gregorian.specs.Civil.{lengths_in, ended_before, month_of_day}
 use Rattle.calendar_gregorian.proofs.Lengths.{sum-suc}
@@ -33,7 +33,7 @@ module _ (in_leap : Bool) (n : ℤ) where
   -- the search at a month that ends after y days
   module _ (i : ℕ) (h : i < 12) {y : ℤ} (p : y ≡ pos (sum (take (i + 1) (lengths_in in_leap)))) where
     at : ended in_leap i n
-        ≡ i + (if le_z n y then 0 else suc (ended_before (sum (take (i + 1) (lengths_in in_leap))) (drop (i + 1) (lengths_in in_leap)) n))
+        ≡ i + (when le_z n y then 0 else suc (ended_before (sum (take (i + 1) (lengths_in in_leap))) (drop (i + 1) (lengths_in in_leap)) n))
     unfolding ended ended_before
     at = rw (p, drop-cons (lengths_in in_leap) i 0 h, ← sum-suc (lengths_in in_leap) i h, add-one)
 

@@ -1,12 +1,12 @@
 -- The calendar over every whole number: years, months and days as the code takes them.
 use Rattle.std.specs.Prelude.{◌≡◌, refl, Bool, true, false, List, [], ◌∷◌, ℕ, zero, suc, ◌+◌, ℤ, pos, negsuc, nat_abs, ◌+ℤ◌, ◌-ℤ◌, get_or}
 use Rattle.std.specs.Int.Signed.{le_z}
-use Rattle.base_notation.specs.Choice.{if◌then◌else◌}
+use Rattle.base_notation.specs.Choice.{when◌then◌else◌}
 use Rattle.calendar_gregorian.specs.Gregorian.{is_leap, leap, lengths, before_month, before_year, back_to, day_number_ℤ}
 
 -- the leap days of a year, by whether it is a leap year
 abbrev pub leap_days : Bool → ℕ
-leap_days in_leap = if in_leap then 1 else 0
+leap_days in_leap = when in_leap then 1 else 0
 
 -- the lengths of the months of such a year
 abbrev pub lengths_in : Bool → List ℕ
@@ -34,7 +34,7 @@ day_of_year_ℤ y m d = pos (days_before (is_leap (nat_abs y)) m) +ℤ d
 -- how many months end before the day n: xs are their lengths, and the first begins after e days
 unfoldable pub ended_before : ℕ → List ℕ → ℤ → ℕ
 ended_before e [] n = 0
-ended_before e (x ∷ xs) n = if le_z n (pos (e + x)) then 0 else suc (ended_before (e + x) xs n)
+ended_before e (x ∷ xs) n = when le_z n (pos (e + x)) then 0 else suc (ended_before (e + x) xs n)
 
 -- the month of the day n of the year: the first that does not end before it, and 13 past the year's end
 unfoldable pub month_of_day : Bool → ℤ → ℕ

@@ -1,7 +1,7 @@
 -- The proleptic Gregorian calendar, by its own rules. Years are astronomical: year 0 is 1 BC.
 -- Year -n is a leap year exactly if n is one.
 use Rattle.std.specs.Prelude.{◌≡◌, refl, Bool, true, false, not, ◌&&◌, ◌||◌, List, [], ◌∷◌, ℕ, zero, suc, ◌+◌, ◌-◌, ◌%◌, ◌≤◌, eqb, ℤ, pos, negsuc, ◌-ℤ◌, get_or, take}
-use Rattle.base_notation.specs.Choice.{if◌then◌else◌}
+use Rattle.base_notation.specs.Choice.{when◌then◌else◌}
 
 -- the year is a multiple of k
 abbrev pub multiple : ℕ → ℕ → Bool
@@ -13,7 +13,7 @@ is_leap y = multiple 4 y && (not (multiple 100 y) || multiple 400 y)
 
 -- the leap days of a year: 1 in a leap year, else 0
 unfoldable pub leap : ℕ → ℕ
-leap y = if is_leap y then 1 else 0
+leap y = when is_leap y then 1 else 0
 
 -- the lengths of the months of a year with l leap days
 abbrev pub lengths : ℕ → List ℕ

@@ -1,6 +1,6 @@
 -- ISO 8601 weeks: a week begins on Monday, and week 1 of a year is the one with January 4.
 use Rattle.std.specs.Prelude.{◌≡◌, refl, ℕ, ◌+◌, ◌-◌, ◌*◌, ◌/◌, ◌%◌, ltb}
-use Rattle.base_notation.specs.Choice.{if◌then◌else◌}
+use Rattle.base_notation.specs.Choice.{when◌then◌else◌}
 use Rattle.calendar_gregorian.specs.Gregorian.{leap, before_year, day_number}
 
 -- the weekday of a Julian day, Monday 1 to Sunday 7: day 0 was a Monday
@@ -18,8 +18,8 @@ iso_monday y w = monday (day_number y 1 4) + 7 * (w - 1)
 -- the ISO year of a date: the date's own year, or the one before or after it, by where week 1 begins
 unfoldable pub iso_year : ℕ → ℕ → ℕ → ℕ
 iso_year y m d =
-    if ltb (day_number y m d) (iso_monday y 1) then y - 1
-    else if ltb (day_number y m d) (iso_monday (y + 1) 1) then y
+    when ltb (day_number y m d) (iso_monday y 1) then y - 1
+    else when ltb (day_number y m d) (iso_monday (y + 1) 1) then y
     else y + 1
 
 -- the ISO week of a date, from 1

@@ -4,7 +4,7 @@
 -- `base`: the days of the years from March, where nothing wraps.
 -- `early-days`, `late-days`: with the days of the months it is the day number, to February and from March on.
 use Rattle.std.proofs.Common.{◌≡◌, ℕ, zero, suc, ◌+◌, ◌-◌, ◌*◌, ◌/◌, ◌≤◌, Bool, true, false, ltb, pos, sym, refl, ap, ◌∙◌, add-one, arith, ltb-false, ltb-true}
-use Rattle.base_notation.specs.Choice.{if◌then◌else◌}
+use Rattle.base_notation.specs.Choice.{when◌then◌else◌}
 use Rattle.base_wrapping.specs.Wrap.{◌⊕◌}
 use Rattle.base_wrapping.proofs.Small.{wrap-pos, sub-pos}
 use Rattle.calendar_gregorian.specs.Gregorian.{leap, before_year, day_number, Valid}
@@ -80,7 +80,7 @@ module _ (y m d : ℕ) (year : y ≤ 1000000) (from : 1 ≤ m) (to : m ≤ 12) (
   date2j-is = by (ltb 2 m) refl
     where
       by : (t : Bool) → ltb 2 m ≡ t
-          → (if t then from_march (pos y ⊕ pos 4800) (pos m ⊕ pos 1) (pos d) else from_march (pos y ⊕ pos 4799) (pos m ⊕ pos 13) (pos d)) ≡ pos (day_number y m d)
+          → (when t then from_march (pos y ⊕ pos 4800) (pos m ⊕ pos 1) (pos d) else from_march (pos y ⊕ pos 4799) (pos m ⊕ pos 13) (pos d)) ≡ pos (day_number y m d)
       by true e =
           rw (wrap-pos (y + 4800) (omega arith), wrap-pos (m + 1) (omega arith))
           (days-is (y + 4800) (m + 1) d (omega arith) (omega arith) (omega arith) day ∙ ap pos (late-days y d m (ltb-true 2 m e) to))

@@ -4,7 +4,7 @@
 -- `one-date`: two dates with one day number are the same.
 use Rattle.std.proofs.Common.{◌≡◌, ℕ, ◌+◌, ◌-◌, ◌*◌, ◌/◌, ◌%◌, ◌<◌, ◌≤◌, Bool, true, false, not, ◌&&◌, ◌||◌, ltb, pos, nat_abs, sym, refl, ap, ◌∙◌, subst, arith, ltb-false, ltb-true, eqb-true}
 use borrow.Author.Tests.{eqb-false}
-use Rattle.base_notation.specs.Choice.{if◌then◌else◌}
+use Rattle.base_notation.specs.Choice.{when◌then◌else◌}
 use Rattle.base_wrapping.proofs.Small.{sub-pos}
 use Rattle.calendar_gregorian.specs.Gregorian.{multiple, leap, month_length, day_number, Valid}
 use Rattle.calendar_gregorian.proofs.Closed.{leap-le}
@@ -46,7 +46,7 @@ module _ (y : ℕ) where
   no-leap e = record { fourth = rw e (omega arith); century = rw e (common _ _ below) }
 
   leap-by : (p q r : Bool) → multiple 4 y ≡ p → multiple 100 y ≡ q → multiple 400 y ≡ r
-      → leap y ≡ (if p && (not q || r) then 1 else 0) → Leap y
+      → leap y ≡ (when p && (not q || r) then 1 else 0) → Leap y
   leap-by false q r a b c e = no-leap e
   leap-by true false r a b c e =
       record {

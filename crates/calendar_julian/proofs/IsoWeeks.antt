@@ -4,7 +4,7 @@
 -- `date2isoyear-is`, `date2isoweek-is`: the ISO year and week of a date of the years 1 to 9999.
 use Rattle.std.proofs.Common.{◌≡◌, ℕ, ◌+◌, ◌-◌, ◌*◌, ◌/◌, ◌%◌, ◌<◌, ◌≤◌, Bool, true, false, ℤ, pos, refl, ap, ◌∙◌, arith, le-ltb, lt-ltb}
 use lib.Signed.{lt_z}
-use Rattle.base_notation.specs.Choice.{if◌then◌else◌}
+use Rattle.base_notation.specs.Choice.{when◌then◌else◌}
 use Rattle.base_wrapping.specs.Wrap.{◌⊖◌}
 use Rattle.base_wrapping.proofs.Small.{wrap-pos, sub-pos}
 use Rattle.calendar_gregorian.specs.Gregorian.{day_number, Valid}
@@ -77,7 +77,7 @@ not_yet : (j k : ℕ) (from : ℤ) → k ≤ 1000000 → j < iso_monday k 1 → 
 unfolding week_year
 not_yet j k from h l = rw (week_one-is k h, lt-ltb j (iso_monday k 1) l) (either_way (lt_z (week_of (pos j) from) (pos 52)))
   where
-    either_way : (t : Bool) → (if t then from else from) ≡ from
+    either_way : (t : Bool) → (when t then from else from) ≡ from
     either_way true = refl
     either_way false = refl
 

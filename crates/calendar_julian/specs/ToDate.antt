@@ -1,6 +1,6 @@
 -- What j2date computes: the date of a Julian day, in 32-bit arithmetic that wraps.
 use Rattle.std.specs.Prelude.{◌≡◌, ℕ, ◌+◌, ◌-◌, ◌*◌, ◌/◌, ◌%◌, ◌^◌, ℤ, pos, negsuc, ◌-ℤ◌, nat_eq, refl}
-use Rattle.base_notation.specs.Choice.{if◌then◌else◌}
+use Rattle.base_notation.specs.Choice.{when◌then◌else◌}
 use Rattle.base_wrapping.specs.Wrap.{low32}
 use Rattle.calendar_julian.specs.declared.Date.{Date}
 
@@ -22,7 +22,7 @@ year_of_four day = day * 4 / 1461
 
 -- a day of four years as a day from March 1 of its year, plus 123
 unfoldable pub day_from_march : ℕ → ℕ
-day_from_march day = (if nat_eq (year_of_four day) 0 then (day + 306) % 366 else (day + 305) % 365) + 123
+day_from_march day = (when nat_eq (year_of_four day) 0 then (day + 306) % 366 else (day + 305) % 365) + 123
 
 -- the month of such a day: March is 4, February 15
 abbrev pub month_from_march : ℕ → ℕ

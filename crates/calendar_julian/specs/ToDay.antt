@@ -1,6 +1,6 @@
 -- What date2j computes: the Julian day of a date, in 32-bit arithmetic that wraps.
 use Rattle.std.specs.Prelude.{◌≡◌, ℤ, pos, int_lt, refl}
-use Rattle.base_notation.specs.Choice.{if◌then◌else◌}
+use Rattle.base_notation.specs.Choice.{when◌then◌else◌}
 use Rattle.base_wrapping.specs.Wrap.{wrap32, ◌⊕◌, ◌⊖◌, ◌⊗◌, ◌÷◌}
 
 -- the Julian day of a date whose year begins in March and is 4800 years on; March is month 4, February month 15
@@ -11,7 +11,7 @@ from_march y m d =
 -- the Julian day of a date: January and February belong to the year before
 unfoldable pub date2j : ℤ → ℤ → ℤ → ℤ
 date2j y m d =
-    if int_lt (pos 2) m then from_march (y ⊕ pos 4800) (m ⊕ pos 1) d
+    when int_lt (pos 2) m then from_march (y ⊕ pos 4800) (m ⊕ pos 1) d
     else from_march (y ⊕ pos 4799) (m ⊕ pos 13) d
 
 -- January 1 of 2000

@@ -1,13 +1,13 @@
 -- What j2day, isoweek2j, date2isoweek and date2isoyear compute, in 32-bit arithmetic that wraps.
 use Rattle.std.specs.Prelude.{◌≡◌, ℕ, ℤ, pos, ◌+ℤ◌, int_lt, int_rem, refl}
-use Rattle.base_notation.specs.Choice.{if◌then◌else◌}
+use Rattle.base_notation.specs.Choice.{when◌then◌else◌}
 use Rattle.base_wrapping.specs.Wrap.{wrap32, ◌⊕◌, ◌⊖◌, ◌⊗◌, ◌÷◌}
 use Rattle.calendar_julian.specs.ToDate.{shifted, with_skipped, day_from_march, j2date}
 use Rattle.calendar_julian.specs.ToDay.{from_march, date2j}
 
 -- the remainder by seven, never negative
 abbrev pub mod7 : ℤ → ℤ
-mod7 z = if int_lt (int_rem z (pos 7)) (pos 0) then int_rem z (pos 7) +ℤ pos 7 else int_rem z (pos 7)
+mod7 z = when int_lt (int_rem z (pos 7)) (pos 0) then int_rem z (pos 7) +ℤ pos 7 else int_rem z (pos 7)
 
 -- the weekday of a Julian day, Sunday 0 to Saturday 6
 unfoldable pub j2day : ℤ → ℤ
@@ -23,7 +23,7 @@ isoweek2j year week = (week ⊖ pos 1) ⊗ pos 7 ⊕ week_one year
 
 -- the year from whose week 1 a day is counted: the year before, if the day is before week 1
 unfoldable pub counted_from : ℤ → ℤ → ℤ
-counted_from day year = if int_lt day (week_one year) then year ⊖ pos 1 else year
+counted_from day year = when int_lt day (week_one year) then year ⊖ pos 1 else year
 
 -- the week of a day, counted from week 1 of a year
 unfoldable pub week_of : ℤ → ℤ → ℤ
@@ -33,8 +33,8 @@ week_of day year = (day ⊖ week_one year) ÷ pos 7 +ℤ pos 1
 -- week 1 of `next`
 unfoldable pub week_year : ℤ → ℤ → ℤ → ℤ
 week_year day from next =
-    if int_lt (week_of day from) (pos 52) then from
-    else if int_lt day (week_one next) then from
+    when int_lt (week_of day from) (pos 52) then from
+    else when int_lt day (week_one next) then from
     else next
 
 -- the ISO week of a date

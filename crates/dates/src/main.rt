@@ -86,7 +86,13 @@ fn write_out(rt: &(impl Print + Eprint), answers: &[u8]) -> bool {
 }
 
 // Answers the lines that end in a text, a buffer full of answers at a time. Unless it fails, none of them is left.
-fn answer_text(rt: &(impl Print + Eprint), mode: Mode, text: &[u8], long: bool, out: &mut [u8]) -> Rest
+fn answer_text(
+    rt: &(impl Print + Eprint),
+    mode: Mode,
+    text: &[u8],
+    long: bool,
+    out: &mut [u8],
+) -> Rest
     requires { longest ≤ length out.old }
     ensures { result.failed ≡ false → NoneLeft (drop result.from text.now) }
 {
@@ -116,7 +122,14 @@ fn answer_text(rt: &(impl Print + Eprint), mode: Mode, text: &[u8], long: bool, 
 
 // Reads once and answers the lines that end there. At the end of the input, and where something failed, no read is
 // left.
-fn turn(rt: &(impl Print + Eprint), reader: &mut impl Read, mode: Mode, input: &mut [u8], out: &mut [u8], s: State) -> State
+fn turn(
+    rt: &(impl Print + Eprint),
+    reader: &mut impl Read,
+    mode: Mode,
+    input: &mut [u8],
+    out: &mut [u8],
+    s: State,
+) -> State
     requires { (s.kept ≤ length input.old) × (longest ≤ length out.old) × (0 < s.reads) }
     ensures { (result.kept ≤ length input.new) × (result.reads < s.reads) }
 {

@@ -1,7 +1,7 @@
 -- The answer to a line, without the newline at its end.
 use Rattle.std.specs.Prelude.{◌≡◌, refl, List, ℕ, ◌+◌, ◌-◌, ◌≤◌, eqb, ltb, length, take, drop}
 use Prim.Native.Char.{code}
-use Rattle.base_notation.specs.Choice.{if◌then◌else◌}
+use Rattle.base_notation.specs.Choice.{when◌then◌else◌}
 use Rattle.base_notation.specs.Text.{byte_at, utf8}
 use Rattle.base_settings.specs.Limits.{pages}
 use Rattle.base_refusals.specs.Report.{report_of}
@@ -30,7 +30,7 @@ text_limit = 512
 
 -- how many bytes of a line count where a moment is written: a carriage return at the end is no part of the line
 unfoldable pub without_return : List ℕ → ℕ
-without_return line = if eqb (byte_at line (length line - 1)) (code "\r") then length line - 1 else length line
+without_return line = when eqb (byte_at line (length line - 1)) (code "\r") then length line - 1 else length line
 
 -- how many count in a mode
 unfoldable pub counted : Mode → List ℕ → ℕ
@@ -54,7 +54,7 @@ too_long_answer = report_text (report_of TooLong)
 unfoldable pub whole_answer : Mode → List ℕ → List ℕ
 whole_answer mode line =
     let cut = before (code "\t") line in
-    if ltb line_limit (length line) then too_long_answer else pair_answer mode (take cut line) (drop (cut + 1) line)
+    when ltb line_limit (length line) then too_long_answer else pair_answer mode (take cut line) (drop (cut + 1) line)
 
 -- the answer to a line
 unfoldable pub answer_line : Mode → List ℕ → List ℕ

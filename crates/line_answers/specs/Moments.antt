@@ -1,7 +1,7 @@
 -- The moment of a line to write: seven numbers with a space between two.
 use Rattle.std.specs.Prelude.{◌≡◌, refl, ◌&&◌, List, [], ◌∷◌, map, ℕ, eqb, ℤ, pos, negsuc, length, get_or, replicate}
 use Prim.Native.Char.{code}
-use Rattle.base_notation.specs.Choice.{if◌then◌else◌}
+use Rattle.base_notation.specs.Choice.{when◌then◌else◌}
 use Rattle.base_notation.specs.Text.{utf8}
 use Rattle.base_strtol.specs.Strtol.{strtol-computes}
 use Rattle.line_numbers.specs.Items.{items_of}
@@ -24,7 +24,7 @@ numbers_in (i ∷ is) = number_then (int_of i) (numbers_in is)
 unfoldable pub seven_of : List ℕ → List ℤ
 seven_of s =
     let found = numbers_in (items_of s) in
-    if eqb (length (items_of s)) 7 && eqb (length found) 7 then found else replicate 7 (pos 0)
+    when eqb (length (items_of s)) 7 && eqb (length found) 7 then found else replicate 7 (pos 0)
 
 -- the moment of the seven numbers, in this order
 unfoldable pub moment_of : List ℕ → Moment

@@ -3,7 +3,7 @@ use Rattle.std.specs.Prelude.{◌≡◌, refl, Bool, true, false, not, ◌&&◌,
 use Prim.Native.Char.{code}
 use Rattle.std.proofs.lemmas.List.Edits.{sets}
 use Rattle.std.proofs.Math.Seq.{slice}
-use Rattle.base_notation.specs.Choice.{if◌then◌else◌}
+use Rattle.base_notation.specs.Choice.{when◌then◌else◌}
 use Rattle.base_notation.specs.Text.{utf8}
 use Rattle.base_strtol.specs.Runs.{leading}
 use Rattle.line_buffers.specs.declared.input.Kept.{Kept}
@@ -24,7 +24,7 @@ too_long size from to long = long || (eqb from 0 && leb size to)
 
 -- the bytes kept of it
 abbrev pub kept : List ℕ → ℕ → ℕ → Bool → List ℕ
-kept buf from to long = if too_long (length buf) from to long then [] else slice from to buf
+kept buf from to long = when too_long (length buf) from to long then [] else slice from to buf
 
 -- the kept bytes are in front, with room after them
 pub record Keeps (buf : List ℕ) (from to : ℕ) (long : Bool) (after : List ℕ) (r : Kept) : Type 0 where

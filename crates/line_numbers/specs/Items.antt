@@ -1,7 +1,7 @@
 -- The items of a text: what is between its spaces.
 use Rattle.std.specs.Prelude.{◌≡◌, refl, List, [], ◌∷◌, ℕ, eqb}
 use Prim.Native.Char.{code}
-use Rattle.base_notation.specs.Choice.{if◌then◌else◌}
+use Rattle.base_notation.specs.Choice.{when◌then◌else◌}
 use Rattle.base_notation.specs.Text.{utf8}
 
 -- a byte in front of the first item
@@ -12,7 +12,7 @@ in_front b (i ∷ is) = (b ∷ i) ∷ is
 -- the items of a text, one more than it has spaces
 unfoldable pub items_of : List ℕ → List (List ℕ)
 items_of [] = [] ∷ []
-items_of (b ∷ s) = if eqb b (code " ") then [] ∷ items_of s else in_front b (items_of s)
+items_of (b ∷ s) = when eqb b (code " ") then [] ∷ items_of s else in_front b (items_of s)
 
 -- the items after a separator; none where the text ends
 abbrev pub items_after : List ℕ → List (List ℕ)

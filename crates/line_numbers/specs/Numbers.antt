@@ -3,7 +3,7 @@ use Rattle.std.specs.Prelude.{◌≡◌, refl, Bool, ◌&&◌, ◌||◌, not, Li
 use Prim.Native.Char.{code}
 use Rattle.std.specs.Int.Signed.{lt_z}
 use Rattle.base_strtol.specs.Strtol.{strtol-computes, strtol}
-use Rattle.base_notation.specs.Choice.{if◌then◌else◌}
+use Rattle.base_notation.specs.Choice.{when◌then◌else◌}
 use Rattle.base_notation.specs.Text.{utf8}
 use Rattle.base_chars.specs.Range.{◌‥◌, ◌∈◌}
 use Rattle.line_numbers.specs.declared.Int.{Int}
@@ -15,11 +15,11 @@ use Rattle.line_numbers.specs.declared.Number.TheVariants.{Value, Malformed}
 unfoldable pub number_of : List ℕ → Number
 number_of text =
     let n = strtol text 0 in
-    if n.overflow || eqb n.end 0 || not (eqb n.end (length text)) then Malformed else Value n.value
+    when n.overflow || eqb n.end 0 || not (eqb n.end (length text)) then Malformed else Value n.value
 
 -- a number of 32 bits, and an item that is one
 unfoldable pub narrowed : ℤ → Int
-narrowed z = if lt_z z (negsuc 2147483647) || lt_z (pos 2147483647) z then NoInt else Whole z
+narrowed z = when lt_z z (negsuc 2147483647) || lt_z (pos 2147483647) z then NoInt else Whole z
 
 unfoldable pub narrow : Number → Int
 narrow (Value z) = narrowed z
@@ -31,9 +31,9 @@ int_of text = narrow (number_of text)
 -- the value of a hexadecimal digit, 16 for any other byte
 unfoldable pub hex_digit : ℕ → ℕ
 hex_digit b =
-    if b ∈ code "0" ‥ code "9" then b - code "0"
-    else if b ∈ code "a" ‥ code "f" then b - code "a" + 10
-    else if b ∈ code "A" ‥ code "F" then b - code "A" + 10
+    when b ∈ code "0" ‥ code "9" then b - code "0"
+    else when b ∈ code "a" ‥ code "f" then b - code "a" + 10
+    else when b ∈ code "A" ‥ code "F" then b - code "A" + 10
     else 16
 
 -- each pair of hexadecimal digits is a byte, up to the first pair that is none
@@ -41,7 +41,7 @@ unfoldable pub bytes_of : List ℕ → List ℕ
 bytes_of [] = []
 bytes_of (a ∷ []) = []
 bytes_of (a ∷ b ∷ s) =
-    if ltb (hex_digit a) 16 && ltb (hex_digit b) 16 then (hex_digit a * 16 + hex_digit b) ∷ bytes_of s else []
+    when ltb (hex_digit a) 16 && ltb (hex_digit b) 16 then (hex_digit a * 16 + hex_digit b) ∷ bytes_of s else []
 
 pub numbers
     : map number_of (utf8 "2024" ∷ utf8 "-7" ∷ utf8 "" ∷ utf8 "-" ∷ utf8 "12x" ∷ utf8 "9223372036854775808" ∷ [])

@@ -14,7 +14,7 @@ use lib.ListN.{length, take, drop, get_or, length-take, length-drop}
 use lib.Signed.{lt_z, non_neg}
 use mir.Syntax.{w64}
 use mir.Val.{Fits, SFits}
-use Rattle.base_notation.specs.Choice.{if◌then◌else◌}
+use Rattle.base_notation.specs.Choice.{when◌then◌else◌}
 use Rattle.base_strtol.specs.Runs.{digits, number}
 use Rattle.base_strtol.specs.Strtol.{answer, limit, minus, signed, strtol, strtol-computes, trimmed, unsigned}
 use Rattle.line_buffers.specs.Input.{Found}
@@ -56,7 +56,7 @@ negated zero n e = sym (not-below-0 (pos 0) n e)
 negated (suc k) n e = let z : ◌≡◌ {A = ℕ} 0 1 = cc in absurd (omega arith)
 
 value-small : (none neg : Bool) (k start end : ℕ) (over : Bool) (n : ℕ)
-    → (if none then answer (pos 0) start false else answer (signed neg (min k (limit neg))) end over).value ≡ pos n → n < 2 ^ 63
+    → (when none then answer (pos 0) start false else answer (signed neg (min k (limit neg))) end over).value ≡ pos n → n < 2 ^ 63
 value-small true neg k start end over n e = let z = not-below-0 (pos 0) n e in omega arith
 value-small false false k start end over n e = let z = not-below-0 (pos (min k (2 ^ 63 - 1))) n e in omega arith
 value-small false true k start end over n e = let z = negated (min k (2 ^ 63)) n e in omega arith
@@ -68,7 +68,7 @@ strtol-small s start n e =
     value-small (eqb (digits (unsigned t)) 0) (minus (trimmed t)) (number (unsigned t)) _ _ _ n e
 
 small_at : (none : Bool) (z : ℤ) (from end : ℕ) → ((n : ℕ) → z ≡ pos n → n < 2 ^ 63)
-    → (place_of (if none then Malformed else Value z) from end).at < 2 ^ 63
+    → (place_of (when none then Malformed else Value z) from end).at < 2 ^ 63
 unfolding place_of
 small_at true z from end h = omega arith
 small_at false (pos n) from end h = h n refl

@@ -2,7 +2,7 @@
 use Rattle.std.specs.Prelude.{◌≡◌, refl, Bool, true, false, ◌&&◌, ◌||◌, List, [], ◌∷◌, ◌++◌, map, ℕ, ◌+◌, ◌-◌, ◌*◌, eqb, ltb, leb, ℤ, pos, negsuc, length, drop, get_or, replicate}
 use Prim.Native.Char.{code}
 use Rattle.std.proofs.lemmas.List.Edits.{sets}
-use Rattle.base_notation.specs.Choice.{if◌then◌else◌}
+use Rattle.base_notation.specs.Choice.{when◌then◌else◌}
 use Rattle.base_notation.specs.Text.{utf8}
 use Rattle.base_strtol.specs.Strtol.{strtol-computes}
 use Rattle.line_numbers.specs.Items.{items_of, items_after}
@@ -36,7 +36,7 @@ numbers zs = record { values = zs ++ replicate (3 - length zs) (pos 0); count = 
 
 -- none where one is no number or there are more than three
 unfoldable pub numbers_of : List Int → Numbers
-numbers_of ns = if are_numbers ns && leb (length ns) 3 then numbers (map value_of ns) else numbers []
+numbers_of ns = when are_numbers ns && leb (length ns) 3 then numbers (map value_of ns) else numbers []
 
 -- the numbers of the items from a place on
 abbrev pub numbers_at : List ℕ → ℕ → Numbers
@@ -75,7 +75,7 @@ text_at line from = bytes_of (drop (from + 1) line)
 -- how many they are; malformed where there is no item, where it is not hexadecimal, and where they do not fit the room
 unfoldable pub bytes_at : List ℕ → ℕ → ℕ → Bytes
 bytes_at line from room =
-    if ltb from (length line) && (is_hex (drop (from + 1) line) && leb (length (text_at line from)) room)
+    when ltb from (length line) && (is_hex (drop (from + 1) line) && leb (length (text_at line from)) room)
     then record { count = length (text_at line from); malformed = false }
     else record { count = 0; malformed = true }
 

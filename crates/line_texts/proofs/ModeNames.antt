@@ -8,7 +8,7 @@ use Prim.Native.Nat.{ℕ}
 use Prim.Native.Char.{code}
 use lib.Dec.{eqb}
 use lib.ListN.{get_or}
-use Rattle.base_notation.specs.Choice.{if◌then◌else◌}
+use Rattle.base_notation.specs.Choice.{when◌then◌else◌}
 use Rattle.line_answers.specs.declared.Mode.{Mode}
 use Rattle.line_answers.specs.declared.Mode.TheVariants.{Parts, Instant, Date, Write}
 use Rattle.line_texts.specs.Modes.{mode_name, Chosen}
@@ -17,7 +17,7 @@ use Rattle.line_texts.specs.declared.modes.Choice.TheVariants.{Of, Unknown}
 
 -- a mode by the first letter of its name
 abbrev by_letter : ℕ → Mode
-by_letter b = if eqb b (code "p") then Parts else if eqb b (code "i") then Instant else if eqb b (code "d") then Date else Write
+by_letter b = when eqb b (code "p") then Parts else when eqb b (code "i") then Instant else when eqb b (code "d") then Date else Write
 
 letter-back : (m : Mode) → by_letter (get_or (mode_name m) 0 0) ≡ m
 letter-back Parts = refl

@@ -14,7 +14,7 @@ use native.Mathlib.Numerals.{add-one}
 use lib.Dec.{eqb}
 use lib.ListN.{length, take, drop, length-append, length-drop, drop_of_length-le}
 use lib.Seq.{drop-drop, take_all}
-use Rattle.base_notation.specs.Choice.{if◌then◌else◌}
+use Rattle.base_notation.specs.Choice.{when◌then◌else◌}
 use Rattle.base_strtol.specs.Runs.{leading}
 use Rattle.line_answers.specs.Lines.{Answered, answer_line, too_long_answer}
 use Rattle.line_answers.specs.declared.Mode.{Mode}

@@ -1,7 +1,7 @@
 -- The answers to the lines of a text, each with its newline.
 use Rattle.std.specs.Prelude.{◌≡◌, refl, Bool, true, false, List, [], ◌∷◌, ◌++◌, ℕ, ◌≤◌, eqb, length, drop}
 use Prim.Native.Char.{code}
-use Rattle.base_notation.specs.Choice.{if◌then◌else◌}
+use Rattle.base_notation.specs.Choice.{when◌then◌else◌}
 use Rattle.base_notation.specs.Text.{utf8}
 use Rattle.line_answers.specs.Answers.{moment_text, parts_answer}
 use Rattle.line_answers.specs.Examples.{line-computes}
@@ -17,13 +17,13 @@ newline = code "\n"
 
 -- the answer to a line and its newline; `long` says that the line's beginning was left off
 abbrev pub answer_to : Mode → Bool → List ℕ → List ℕ
-answer_to mode long line = (if long then too_long_answer else answer_line mode line) ++ newline ∷ []
+answer_to mode long line = (when long then too_long_answer else answer_line mode line) ++ newline ∷ []
 
 -- the answers to the lines that end in a text, where the bytes before the text's first one are an unfinished line
 unfoldable pub answers_after : Mode → Bool → List ℕ → List ℕ → List ℕ
 answers_after mode long line [] = []
 answers_after mode long line (b ∷ text) =
-    if eqb b newline then answer_to mode long line ++ answers_after mode false [] text
+    when eqb b newline then answer_to mode long line ++ answers_after mode false [] text
     else answers_after mode long (line ++ b ∷ []) text
 
 -- the answers to the lines that end in a text

@@ -10,7 +10,7 @@ use native.Mathlib.Omega.{arith}
 use borrow.Author.Tests.{eqb-true}
 use lib.Dec.{eqb}
 use lib.IntN.{ℤ, pos, negsuc}
-use Rattle.base_notation.specs.Choice.{if◌then◌else◌}
+use Rattle.base_notation.specs.Choice.{when◌then◌else◌}
 use Rattle.calendar_gregorian.specs.Civil.{length_of}
 use Rattle.calendar_gregorian.proofs.Dates.{each}
 use Rattle.moment_sums.specs.Within.{Within}
@@ -29,7 +29,7 @@ longest false (negsuc n) = omega arith
 
 -- a bit of a mask, or nothing
 abbrev pub value_of : ℕ → ℕ → ℕ
-value_of bit set = if is_set bit set then bit else 0
+value_of bit set = when is_set bit set then bit else 0
 
 pub three-bits : (set : ℕ) → set < 8 → set ≡ value_of year_bit set + value_of month_bit set + value_of day_bit set
 three-bits set h =

@@ -2,7 +2,7 @@
 use Rattle.std.specs.Prelude.{◌≡◌, refl, Bool, true, false, not, ◌&&◌, ◌||◌, ℕ, ◌+◌, eqb, ℤ, pos, negsuc, nat_abs}
 use Rattle.std.specs.Int.Bits.{bit_and, bit_or}
 use Rattle.std.specs.Int.Signed.{lt_z, le_z}
-use Rattle.base_notation.specs.Choice.{if◌then◌else◌}
+use Rattle.base_notation.specs.Choice.{when◌then◌else◌}
 use Rattle.base_refusals.specs.declared.Refusal.TheVariants.{NoYear}
 use Rattle.calendar_gregorian.specs.Civil.{days_before, ended_before, length_of, month_of_day}
 use Rattle.calendar_gregorian.specs.Gregorian.{is_leap}
@@ -47,7 +47,7 @@ whole a r = days a.year a.month a.day all_bits r.dd r.ddd
 
 -- the year is set where a year or a century was read
 abbrev pub year_mask : Fields → ℕ
-year_mask f = if is_zero (get f year) && is_zero (get f cc) then 0 else year_bit
+year_mask f = when is_zero (get f year) && is_zero (get f cc) then 0 else year_bit
 
 -- at first: the year, January 1, the day of the month and of the year as they were read
 unfoldable pub begun : Fields → ℤ → Days
@@ -55,11 +55,11 @@ begun f y = days y (pos 1) (pos 1) (year_mask f) (get f dd) (get f ddd)
 
 -- a Julian day gives the date
 unfoldable pub with_julian : Fields → Days → Days
-with_julian f r = if is_zero (get f j) then r else whole (j2date (get f j)) r
+with_julian f r = when is_zero (get f j) then r else whole (j2date (get f j)) r
 
 -- the day of an ISO week: Monday if no weekday was read; Sunday is 1, Monday 2
 abbrev pub day_of_week : ℤ → ℤ → ℤ
-day_of_week monday n = if is_zero n then monday else if lt_z (pos 1) n then monday ⊕ (n ⊖ pos 2) else monday ⊕ pos 6
+day_of_week monday n = when is_zero n then monday else when lt_z (pos 1) n then monday ⊕ (n ⊖ pos 2) else monday ⊕ pos 6
 
 -- the first day of week n, counted from day 1
 unfoldable pub first_of_week : ℤ → Value
@@ -77,24 +77,24 @@ on_day_of_month r (Not why) = Refused why
 -- a week of the year: of the ISO year it gives the date, else the day of the year
 unfoldable pub with_week : Fields → Days → Dated
 with_week f r =
-    if is_zero (get f ww) then DateOf r
-    else if eq_ℤ (get f mode) (pos iso_week) then DateOf (whole (j2date (day_of_week (isoweek2j r.year (get f ww)) (get f d))) r)
+    when is_zero (get f ww) then DateOf r
+    else when eq_ℤ (get f mode) (pos iso_week) then DateOf (whole (j2date (day_of_week (isoweek2j r.year (get f ww)) (get f d))) r)
     else on_day_of_year r (first_of_week (get f ww))
 
 -- a week of the month gives the day of the month
 unfoldable pub with_month_week : Fields → Days → Dated
-with_month_week f r = if is_zero (get f w) then DateOf r else on_day_of_month r (first_of_week (get f w))
+with_month_week f r = when is_zero (get f w) then DateOf r else on_day_of_month r (first_of_week (get f w))
 
 -- the day of the month and the month
 abbrev pub with_day : Days → Days
-with_day r = if is_zero r.dd then r else days r.year r.month r.dd (bit_or r.set day_bit) r.dd r.ddd
+with_day r = when is_zero r.dd then r else days r.year r.month r.dd (bit_or r.set day_bit) r.dd r.ddd
 
 abbrev pub with_month : Fields → Days → Days
-with_month f r = if is_zero (get f mm) then r else days r.year (get f mm) r.day (bit_or r.set month_bit) r.dd r.ddd
+with_month f r = when is_zero (get f mm) then r else days r.year (get f mm) r.day (bit_or r.set month_bit) r.dd r.ddd
 
 -- a month or day above 1 stays, any other is replaced
 abbrev pub above_one : ℤ → ℤ → ℤ
-above_one z other = if le_z z (pos 1) then other else z
+above_one z other = when le_z z (pos 1) then other else z
 
 -- month and day from the day of a Gregorian year
 unfoldable pub from_day_of_year : Days → Days
@@ -118,9 +118,9 @@ lacks_year f r = is_zero r.year && is_zero (get f bc)
 
 unfoldable pub with_day_of_year : Fields → Days → Dated
 with_day_of_year f r =
-    if not (counts_day_of_year r) then DateOf r
-    else if lacks_year f r then Refused NoYear
-    else if eq_ℤ (get f mode) (pos iso_week) then DateOf (from_day_of_iso_year r)
+    when not (counts_day_of_year r) then DateOf r
+    else when lacks_year f r then Refused NoYear
+    else when eq_ℤ (get f mode) (pos iso_week) then DateOf (from_day_of_iso_year r)
     else DateOf (from_day_of_year r)
 
 -- the date that the fields make, each step refused in this order: the year, a Julian day, weeks, the day and the month,

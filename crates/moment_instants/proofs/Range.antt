@@ -16,7 +16,7 @@ use lib.IntN.{ℤ, pos, negsuc, neg_ℤ, sub_ℕ, ◌+ℤ◌, ◌-ℤ◌}
 use lib.Signed.{lt_z, mag}
 use mir.Syntax.{w32, w64}
 use mir.Val.{SFits}
-use Rattle.base_notation.specs.Choice.{if◌then◌else◌}
+use Rattle.base_notation.specs.Choice.{when◌then◌else◌}
 use Rattle.base_notation.proofs.Magnitudes.{sub_is, sub-mag}
 use Rattle.moment_instants.specs.Instant.{fits64, finite, within}
 use Rattle.moment_instants.specs.declared.epoch.Instant.{Instant}

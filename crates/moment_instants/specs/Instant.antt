@@ -2,7 +2,7 @@
 use Rattle.std.specs.Prelude.{◌≡◌, refl, Bool, true, false, not, ◌&&◌, ◌||◌, ℕ, ◌+◌, ◌-◌, ◌*◌, ◌/◌, ◌^◌, ltb, eqb, ℤ, pos, negsuc, nat_abs, neg_ℤ, ◌+ℤ◌, ◌-ℤ◌, ◌*ℤ◌}
 use Rattle.std.specs.Int.Signed.{lt_z, mag}
 use Rattle.calendar_gregorian.specs.Civil.{civil-computes, days_from_civil}
-use Rattle.base_notation.specs.Choice.{if◌then◌else◌}
+use Rattle.base_notation.specs.Choice.{when◌then◌else◌}
 use Rattle.moment_date.specs.Dates.{all_bits}
 use Rattle.moment_time.specs.declared.Offset.{Offset}
 use Rattle.moment_time.specs.declared.Offset.TheVariants.{Absent, East}
@@ -23,7 +23,7 @@ finite z = fits64 (z +ℤ pos 1) && fits64 (z -ℤ pos 1)
 
 -- the instant that a number is, if it is one
 abbrev pub within : ℤ → Instant
-within z = if finite z then Micros z else NoInstant InstantRange
+within z = when finite z then Micros z else NoInstant InstantRange
 
 -- the second of the wall clock, and its microseconds: seconds × 1,000,000 fit 64 bits before the fraction is added
 unfoldable pub seconds_of : Parts → ℤ
@@ -33,7 +33,7 @@ seconds_of p =
 unfoldable pub wall_of : Parts → Instant
 wall_of p =
     let whole = seconds_of p *ℤ pos 1000000 in
-    if fits64 whole then within (whole +ℤ p.micros) else NoInstant InstantRange
+    when fits64 whole then within (whole +ℤ p.micros) else NoInstant InstantRange
 
 -- the offset is subtracted; without one the wall clock is read as UTC
 unfoldable pub less_offset : Offset → ℤ → Instant
@@ -58,8 +58,8 @@ unfoldable pub rounded_to : ℤ → ℤ → Instant
 rounded_to precision z =
     let scale = 10 ^ (6 - nat_abs precision) in
     let count = z -ℤ epoch2000 in
-    if lt_z precision (pos 1) || lt_z (pos 5) precision then Micros z
-    else if fits64 count && ltb (nat_abs count + scale / 2) (2 ^ 63) then within (away scale count +ℤ epoch2000)
+    when lt_z precision (pos 1) || lt_z (pos 5) precision then Micros z
+    else when fits64 count && ltb (nat_abs count + scale / 2) (2 ^ 63) then within (away scale count +ℤ epoch2000)
     else NoInstant InstantRange
 
 -- what follows once the exact instant is known, and once the wall clock is
@@ -79,7 +79,7 @@ instant_of p = then_offset p (wall_of p)
 unfoldable pub day_of : Parts → Day
 day_of p =
     let n = days_from_civil p.year p.month p.day in
-    if lt_z (negsuc 2147483647) n && lt_z n (pos 2147483647) then Number n else NoDay DateRange
+    when lt_z (negsuc 2147483647) n && lt_z n (pos 2147483647) then Number n else NoDay DateRange
 
 -- parts at midnight, with all three marks
 abbrev pub parts : ℤ → ℕ → ℕ → ℕ → ℕ → Offset → Parts

@@ -11,7 +11,7 @@ use mathlib.Core.List.{List}
 use Prim.Native.Nat.{ℕ, ◌<◌, ◌≤◌}
 use borrow.Author.Tests.{lt-ltb, le-ltb}
 use lib.ListN.{length}
-use Rattle.base_notation.specs.Choice.{if◌then◌else◌}
+use Rattle.base_notation.specs.Choice.{when◌then◌else◌}
 use Rattle.base_notation.proofs.Cases.{both}
 use Rattle.base_settings.specs.Limits.{template_limit, input_limit}
 use Rattle.base_settings.specs.declared.Settings.{Settings}
@@ -39,7 +39,7 @@ module _ (set : Settings) (t s : List ℕ) where
           rw (le-ltb (template_limit set) (length t) short, le-ltb (input_limit set) (length s) small) (split (well_formed t) (well_formed s) e)
         where
           split : (a b : Bool) → (a && b) ≡ false
-              → (if not a then refused_by NotUtf8 else if not b then refused_by NotUtf8 else answer_by set.strict (nodes_by set.accents t) t s) ≡ refused_by NotUtf8
+              → (when not a then refused_by NotUtf8 else when not b then refused_by NotUtf8 else answer_by set.strict (nodes_by set.accents t) t s) ≡ refused_by NotUtf8
           split false b e = refl
           split true false e = refl
           split true true e = absurd (false≢true (sym e))

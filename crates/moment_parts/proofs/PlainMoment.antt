@@ -16,7 +16,7 @@ use Rattle.calendar_gregorian.specs.Civil.{length_of, month_of}
 use Rattle.calendar_gregorian.specs.Gregorian.{is_leap}
 use Rattle.calendar_gregorian.proofs.Dates.{each}
 use Rattle.calendar_gregorian.proofs.Months.{of-twelve}
-use Rattle.base_notation.specs.Choice.{if◌then◌else◌}
+use Rattle.base_notation.specs.Choice.{when◌then◌else◌}
 use Rattle.base_notation.proofs.Cases.{both}
 use Rattle.base_wrapping.specs.Wrap.{wrap32, ◌⊕◌}
 use Rattle.read_fields.specs.Fields.{get, is_zero, hh, mi, ss, ssss, dd, ddd, mm, ms, year, bc, ww, w, cc, j, us, clock, tzsign}
@@ -71,7 +71,7 @@ plain f e =
 or-zero : (z : ℤ) → (z or pos 0) ≡ z
 or-zero z = split (is_zero z) refl
   where
-    split : (b : Bool) → is_zero z ≡ b → (if b then pos 0 else z) ≡ z
+    split : (b : Bool) → is_zero z ≡ b → (when b then pos 0 else z) ≡ z
     split true e = sym (zero_is z e)
     split false e = refl
 
@@ -86,7 +86,7 @@ unfolding no_such_day plain_marks
 with-year m n month day = split (is_zero m) (is_zero n)
   where
     split : (a b : Bool)
-        → (eqb (if a then (if b then 1 else 5) else if b then 3 else 7) 6 && lt_z (pos (length_of true month)) day) ≡ false
+        → (eqb (when a then (when b then 1 else 5) else when b then 3 else 7) 6 && lt_z (pos (length_of true month)) day) ≡ false
     split true true = refl
     split true false = refl
     split false true = refl

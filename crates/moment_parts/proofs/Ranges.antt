@@ -16,7 +16,7 @@ use lib.Dec.{ltb}
 use lib.IntN.{ℤ, pos, neg_ℤ, nat_abs}
 use lib.ListN.{length}
 use lib.Signed.{lt_z}
-use Rattle.base_notation.specs.Choice.{if◌then◌else◌}
+use Rattle.base_notation.specs.Choice.{when◌then◌else◌}
 use Rattle.base_notation.proofs.Cases.{by-if, both}
 use Rattle.base_settings.specs.Limits.{template_limit, input_limit}
 use Rattle.base_settings.specs.declared.Settings.{Settings}
@@ -92,7 +92,7 @@ offset-within : (f : Fields) → offset_in_range f ≡ true → OffsetWithin (of
 unfolding offset_in_range offset_of
 offset-within f e = split (is_zero (get f tzsign)) e
   where
-    split : (b : Bool) → (b || below (get f tzh) 16 && below (get f tzm) 60) ≡ true → OffsetWithin (if b then Absent else East (east_of f))
+    split : (b : Bool) → (b || below (get f tzh) 16 && below (get f tzm) 60) ≡ true → OffsetWithin (when b then Absent else East (east_of f))
     split true e = tt
     split false e =
         let tests = both (below (get f tzh) 16) (below (get f tzm) 60) e in
@@ -138,7 +138,7 @@ module _ (r : Days) (marks : Marked r) (month : Within 1 12 r.month) (day : With
       has_first true r marks month day
       (λ m d. split (is_set year_bit r.set) (rw (m, d) at (three-bits r.set marks.mask)) refl)
     where
-      split : (y : Bool) → r.set ≡ (if is_set year_bit r.set then 1 else 0) + 2 + 4 → is_set year_bit r.set ≡ y → Within 1 (length_of true r.month) r.day
+      split : (y : Bool) → r.set ≡ (when is_set year_bit r.set then 1 else 0) + 2 + 4 → is_set year_bit r.set ≡ y → Within 1 (length_of true r.month) r.day
       split true is y =
           let has = whole (rw y at is) in
           record { at = has.at; is = has.is; from = has.from; to = omega (arith, has.to, longest (is_leap (nat_abs r.year)) r.month) }

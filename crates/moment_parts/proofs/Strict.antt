@@ -9,7 +9,7 @@ use Prim.Native.Nat.{ℕ}
 use lib.Dec.{ltb}
 use lib.IntN.{ℤ}
 use lib.ListN.{length}
-use Rattle.base_notation.specs.Choice.{if◌then◌else◌}
+use Rattle.base_notation.specs.Choice.{when◌then◌else◌}
 use Rattle.base_settings.specs.Limits.{input_limit, limits-compute, template_limit}
 use Rattle.base_settings.specs.Strict.{with_strict}
 use Rattle.base_settings.specs.declared.Settings.{Settings}
@@ -73,7 +73,7 @@ then-fields Read f = then-date f (clock_hour f)
 then-fields (Stopped why) f = stays why
 
 -- a test that both make
-same_test : (b : Bool) (x y x' y' : Answer) → Strictly x x' → Strictly y y' → Strictly (if b then x else y) (if b then x' else y')
+same_test : (b : Bool) (x y x' y' : Answer) → Strictly x x' → Strictly y y' → Strictly (when b then x else y) (when b then x' else y')
 same_test true x y x' y' h k = h
 same_test false x y x' y' h k = k
 

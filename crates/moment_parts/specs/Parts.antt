@@ -1,6 +1,6 @@
 -- The parts answer: limits and UTF-8 first, then the fields that are read, then the moment that they make.
 use Rattle.std.specs.Prelude.{◌≡◌, Bool, true, false, not, ◌&&◌, ◌||◌, List, [], ℕ, ltb, ℤ, pos, length}
-use Rattle.base_notation.specs.Choice.{if◌then◌else◌}
+use Rattle.base_notation.specs.Choice.{when◌then◌else◌}
 use Rattle.base_settings.specs.Limits.{template_limit, input_limit}
 use Rattle.base_settings.specs.declared.Settings.{Settings}
 use Rattle.base_refusals.specs.declared.Refusal.{Refusal}
@@ -53,9 +53,9 @@ with_offset f r hour us (At offset) =
 -- year, time, offset
 unfoldable pub checked_moment : Bool → Fields → Days → ℤ → ℤ → Answer
 checked_moment strict f r hour us =
-    if not (date_in_range r) then refused_by FieldOverflow
-    else if strict && no_such_day r.set r.month r.day then Refused NoSuchDay
-    else if not (time_in_range hour (minute_of f) (second_of f) us) then refused_by FieldOverflow
+    when not (date_in_range r) then refused_by FieldOverflow
+    else when strict && no_such_day r.set r.month r.day then Refused NoSuchDay
+    else when not (time_in_range hour (minute_of f) (second_of f) us) then refused_by FieldOverflow
     else with_offset f r hour us (checked_offset f)
 
 -- what follows once the fraction is known, once the date is, and once the hour is
@@ -90,15 +90,15 @@ Makes verdict f ns t s = (strict : Bool) → then_fields strict verdict f ≡ an
 
 -- the parts of an input within its limit
 unfoldable pub parts_read : Bool → List Node → List ℕ → List ℕ → Answer
-parts_read strict ns t s = if not (well_formed s) then refused_by NotUtf8 else answer_by strict ns t s
+parts_read strict ns t s = when not (well_formed s) then refused_by NotUtf8 else answer_by strict ns t s
 
 -- the parts of an input by these nodes, for a caller with settings; the nodes have their own mode
 unfoldable pub parts_by : Settings → List Node → List ℕ → List ℕ → Answer
-parts_by set ns t s = if ltb (input_limit set) (length s) then refused_by TooLong else parts_read set.strict ns t s
+parts_by set ns t s = when ltb (input_limit set) (length s) then refused_by TooLong else parts_read set.strict ns t s
 
 -- the parts of an input by a template, which is compiled in the caller's mode
 unfoldable pub parts_of : Settings → List ℕ → List ℕ → Answer
 parts_of set t s =
-    if ltb (template_limit set) (length t) || ltb (input_limit set) (length s) then refused_by TooLong
-    else if not (well_formed t) then refused_by NotUtf8
+    when ltb (template_limit set) (length t) || ltb (input_limit set) (length s) then refused_by TooLong
+    else when not (well_formed t) then refused_by NotUtf8
     else parts_read set.strict (nodes_by set.accents t) t s

@@ -1,7 +1,7 @@
 -- Which pattern a refusal names: none, or one of the template's.
 use Rattle.std.specs.Prelude.{◌≡◌, refl, List, [], ◌∷◌, ◌⊎◌, ℕ, ltb}
 use Rattle.std.proofs.Common.{inl, inr, ⊎_elim, arith}
-use Rattle.base_notation.specs.Choice.{if◌then◌else◌}
+use Rattle.base_notation.specs.Choice.{when◌then◌else◌}
 use Rattle.base_notation.specs.Text.{utf8}
 use Rattle.base_refusals.specs.Report.{no_pattern, report_of}
 use Rattle.base_refusals.specs.declared.Refusal.TheVariants.{NoYear, Short}
@@ -17,7 +17,7 @@ use Rattle.moment_parts.specs.declared.Unread.TheVariants.{By, NoSuchDay}
 
 -- a pattern by its name, or - for none
 unfoldable pub pattern_name : ℕ → List ℕ
-pattern_name p = if ltb p no_pattern then name_of p else utf8 "-"
+pattern_name p = when ltb p no_pattern then name_of p else utf8 "-"
 
 -- a number is that of a pattern among nodes
 abbrev pub PatternIn : List Node → ℕ → Type 0

@@ -2,7 +2,7 @@
 -- microsecond.
 use Rattle.std.specs.Prelude.{◌≡◌, refl, Bool, true, false, not, ◌&&◌, List, [], ◌∷◌, ℕ, ℤ, pos, nat_abs}
 use Rattle.std.specs.Int.Signed.{lt_z}
-use Rattle.base_notation.specs.Choice.{if◌then◌else◌}
+use Rattle.base_notation.specs.Choice.{when◌then◌else◌}
 use Rattle.calendar_gregorian.specs.Civil.{length_of}
 use Rattle.calendar_gregorian.specs.Gregorian.{is_leap}
 use Rattle.read_fields.specs.Fields.{get, put, no_fields, is_zero, hh, mi, ss, ssss, dd, ddd, mm, ms, year, bc, ww, w, cc, j, us, clock, tzsign, ff}
@@ -27,7 +27,7 @@ or_first z = z or pos 1
 
 -- the marks of a date with a year: 1 for it, 2 for a month and 4 for a day
 unfoldable pub plain_marks : ℤ → ℤ → ℕ
-plain_marks m n = if is_zero m then (if is_zero n then 1 else 5) else if is_zero n then 3 else 7
+plain_marks m n = when is_zero m then (when is_zero n then 1 else 5) else when is_zero n then 3 else 7
 
 -- the month has the day in that year; no other number than 1 to 12 has one
 unfoldable pub has_day : ℤ → ℤ → ℤ → Bool

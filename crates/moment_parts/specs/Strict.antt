@@ -1,6 +1,6 @@
 -- What the strict switch changes: a day that its month never has is refused, and nothing else.
 use Rattle.std.specs.Prelude.{◌≡◌, refl, Bool, true, false, List, ◌⊎◌, ℕ, ◌≤◌, ℤ}
-use Rattle.base_notation.specs.Choice.{if◌then◌else◌}
+use Rattle.base_notation.specs.Choice.{when◌then◌else◌}
 use Rattle.base_settings.specs.Strict.{with_strict}
 use Rattle.base_settings.specs.declared.Settings.{Settings}
 use Rattle.base_refusals.specs.declared.Refusal.TheVariants.{FieldOverflow, OffsetRange}
@@ -16,7 +16,7 @@ use Rattle.moment_parts.specs.declared.Unread.TheVariants.{By, NoSuchDay}
 -- what the strict answer a is where the other one is given: a moment stays, unless its month never has its day; a
 -- refusal stays, but 15 and 16 may come after such a day
 abbrev pub Strictly : (other a : Answer) → Type 0
-Strictly (Moment p) a = a ≡ (if no_such_day p.marks p.month p.day then Refused NoSuchDay else Moment p)
+Strictly (Moment p) a = a ≡ (when no_such_day p.marks p.month p.day then Refused NoSuchDay else Moment p)
 Strictly (Refused why) a =
     (a ≡ Refused why) ⊎ ((a ≡ Refused NoSuchDay) × ((why ≡ By FieldOverflow) ⊎ (why ≡ By OffsetRange)))
 

@@ -1,6 +1,6 @@
 -- Sums and products that are refused outside 32 bits.
 use Rattle.std.specs.Prelude.{◌≡◌, refl, ℕ, ℤ, pos, negsuc, ◌+ℤ◌, ◌*ℤ◌}
-use Rattle.base_notation.specs.Choice.{if◌then◌else◌}
+use Rattle.base_notation.specs.Choice.{when◌then◌else◌}
 use Rattle.base_refusals.specs.declared.Refusal.TheVariants.{FieldOverflow}
 use Rattle.read_integers.specs.Number.{fits32}
 use Rattle.moment_sums.specs.declared.Value.{Value}
@@ -8,7 +8,7 @@ use Rattle.moment_sums.specs.declared.Value.TheVariants.{Is, Not}
 
 -- the number, if it is one of 32 bits
 abbrev pub checked : ℤ → Value
-checked z = if fits32 z then Is z else Not FieldOverflow
+checked z = when fits32 z then Is z else Not FieldOverflow
 
 -- the sum and the product with a number that was not refused
 infixl 60 ◌plus◌

@@ -1,7 +1,7 @@
 -- The time of day, its fraction and the offset, from the fields that were read.
 use Rattle.std.specs.Prelude.{◌≡◌, refl, Bool, true, false, not, ◌&&◌, ◌||◌, ℕ, ℤ, pos, negsuc, neg_ℤ, ◌+ℤ◌, ◌*ℤ◌}
 use Rattle.std.specs.Int.Signed.{lt_z, quot_z, rem_z}
-use Rattle.base_notation.specs.Choice.{if◌then◌else◌}
+use Rattle.base_notation.specs.Choice.{when◌then◌else◌}
 use Rattle.base_refusals.specs.declared.Refusal.TheVariants.{HourOfTwelve, OffsetRange}
 use Rattle.read_fields.specs.Fields.{get, put, no_fields, is_zero, eq_ℤ, hh, pm, mi, ss, ssss, ms, us, clock, tzsign, tzh, tzm}
 use Rattle.read_fields.specs.declared.Fields.{Fields}
@@ -18,7 +18,7 @@ use Rattle.moment_sums.specs.declared.Value.TheVariants.{Is, Not}
 -- a field, or another number where it is absent
 infixr 30 ◌or◌
 abbrev pub ◌or◌ : ℤ → ℤ → ℤ
-z or other = if is_zero z then other else z
+z or other = when is_zero z then other else z
 
 -- hour, minute and second: their own fields, or by the second of the day
 unfoldable pub hour_of : Fields → ℤ
@@ -33,13 +33,13 @@ second_of f = get f ss or rem_z (rem_z (get f ssss) (pos 3600)) (pos 60)
 -- an hour of the 12-hour clock, in the second half of the day if it is PM: 12 AM is 0, 12 PM is 12
 unfoldable pub hour_of_twelve : ℤ → ℤ → Value
 hour_of_twelve is_pm h =
-    if lt_z h (pos 1) || lt_z (pos 12) h then Not (HourOfTwelve h)
-    else if not (is_zero is_pm) && lt_z h (pos 12) then Is (h +ℤ pos 12)
-    else if is_zero is_pm && eq_ℤ h (pos 12) then Is (pos 0)
+    when lt_z h (pos 1) || lt_z (pos 12) h then Not (HourOfTwelve h)
+    else when not (is_zero is_pm) && lt_z h (pos 12) then Is (h +ℤ pos 12)
+    else when is_zero is_pm && eq_ℤ h (pos 12) then Is (pos 0)
     else Is h
 
 unfoldable pub clock_hour : Fields → Value
-clock_hour f = if eq_ℤ (get f clock) (pos 12) then hour_of_twelve (get f pm) (hour_of f) else Is (hour_of f)
+clock_hour f = when eq_ℤ (get f clock) (pos 12) then hour_of_twelve (get f pm) (hour_of f) else Is (hour_of f)
 
 -- microseconds: milliseconds and microseconds together
 abbrev pub with_micros : Value → ℤ → Value
@@ -57,11 +57,11 @@ time_in_range h m s us = below h 24 && below m 60 && below s 60 && below us 1000
 unfoldable pub east_of : Fields → ℤ
 east_of f =
     let east = (get f tzh *ℤ pos 60 +ℤ get f tzm) *ℤ pos 60 in
-    if lt_z (get f tzsign) (pos 0) then neg_ℤ east else east
+    when lt_z (get f tzsign) (pos 0) then neg_ℤ east else east
 
 -- the offset is given where a sign was set
 unfoldable pub offset_of : Fields → Offset
-offset_of f = if is_zero (get f tzsign) then Absent else East (east_of f)
+offset_of f = when is_zero (get f tzsign) then Absent else East (east_of f)
 
 -- its hours are 0 to 15 and its minutes 0 to 59, or it is absent
 unfoldable pub offset_in_range : Fields → Bool
@@ -69,7 +69,7 @@ offset_in_range f = is_zero (get f tzsign) || below (get f tzh) 16 && below (get
 
 -- the offset, refused out of its range
 unfoldable pub checked_offset : Fields → Zoned
-checked_offset f = if offset_in_range f then At (offset_of f) else Refused OffsetRange
+checked_offset f = when offset_in_range f then At (offset_of f) else Refused OffsetRange
 
 -- unfolds all that a time and an offset are computed by, for worked examples
 unfoldable pub time-computes : ℕ

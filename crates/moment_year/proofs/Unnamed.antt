@@ -4,7 +4,7 @@ use mathlib.Core.Bool.{not, ◌&&◌}
 use Prim.Native.Nat.{ℕ}
 use lib.IntN.{ℤ, pos, neg_ℤ}
 use lib.Signed.{lt_z, rem_z}
-use Rattle.base_notation.specs.Choice.{if◌then◌else◌}
+use Rattle.base_notation.specs.Choice.{when◌then◌else◌}
 use Rattle.base_notation.proofs.Cases.{by-if}
 use Rattle.base_refusals.specs.Report.{no_pattern}
 use Rattle.read_fields.specs.Fields.{get, is_zero, year, bc, cc, yysz}
@@ -30,7 +30,7 @@ module _ (P : ℕ → Type 0) (none : P no_pattern) where
 
   first-unnamed : (century : ℤ) → ValueNames P (first_of_century century)
   unfolding first_of_century
-  first-unnamed century = sum-unnamed (if lt_z century (pos 0) then century else century ⊖ pos 1) (pos 1)
+  first-unnamed century = sum-unnamed (when lt_z century (pos 0) then century else century ⊖ pos 1) (pos 1)
 
   pub year-unnamed : (f : Fields) → ValueNames P (year_of f)
   unfolding year_of

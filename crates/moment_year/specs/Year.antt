@@ -1,7 +1,7 @@
 -- The year, from the year, the century and AD or BC. Year 0 is 1 BC.
 use Rattle.std.specs.Prelude.{◌≡◌, refl, Bool, true, false, not, ◌&&◌, ℕ, ℤ, pos, negsuc, neg_ℤ, ◌+ℤ◌}
 use Rattle.std.specs.Int.Signed.{lt_z, rem_z}
-use Rattle.base_notation.specs.Choice.{if◌then◌else◌}
+use Rattle.base_notation.specs.Choice.{when◌then◌else◌}
 use Rattle.read_fields.specs.Fields.{get, is_zero, year, bc, cc, yysz}
 use Rattle.read_fields.specs.declared.Fields.{Fields}
 use Rattle.base_wrapping.specs.Wrap.{wrap32, ◌⊕◌, ◌⊖◌, ◌⊗◌}
@@ -11,30 +11,30 @@ use Rattle.moment_sums.specs.declared.Value.TheVariants.{Is}
 
 -- a number with the other sign, before Christ
 abbrev pub signed_by : ℤ → ℤ → ℤ
-signed_by is_bc z = if is_zero is_bc then z else pos 0 ⊖ z
+signed_by is_bc z = when is_zero is_bc then z else pos 0 ⊖ z
 
 -- the last two digits of a year in a century; before Christ the centuries count backwards
 unfoldable pub year_in_century : ℤ → ℤ → Value
 year_in_century century y =
-    if is_zero y then Is (century ⊗ pos 100 ⊕ (if lt_z century (pos 0) then pos 1 else pos 0))
-    else if lt_z century (pos 0) then Is (century ⊕ pos 1) times 100 plus neg_ℤ y plus pos 1
+    when is_zero y then Is (century ⊗ pos 100 ⊕ (when lt_z century (pos 0) then pos 1 else pos 0))
+    else when lt_z century (pos 0) then Is (century ⊕ pos 1) times 100 plus neg_ℤ y plus pos 1
     else Is (century ⊖ pos 1) times 100 plus y
 
 -- a year by itself: 1 BC is year 0
 abbrev pub plain_year : ℤ → ℤ
-plain_year y = if lt_z y (pos 0) then y +ℤ pos 1 else y
+plain_year y = when lt_z y (pos 0) then y +ℤ pos 1 else y
 
 -- the first year of a century
 unfoldable pub first_of_century : ℤ → Value
-first_of_century century = Is (if lt_z century (pos 0) then century else century ⊖ pos 1) times 100 plus pos 1
+first_of_century century = Is (when lt_z century (pos 0) then century else century ⊖ pos 1) times 100 plus pos 1
 
 -- the year: with a century only its last two digits count, unless it was read with more; 0 where neither was read
 unfoldable pub year_of : Fields → Value
 year_of f =
     let y = get f year in
     let century = signed_by (get f bc) (get f cc) in
-    if is_zero y then (if is_zero (get f cc) then Is (pos 0) else first_of_century century)
-    else if not (is_zero (get f cc)) && lt_z (get f yysz) (pos 3) then year_in_century century (rem_z y (pos 100))
+    when is_zero y then (when is_zero (get f cc) then Is (pos 0) else first_of_century century)
+    else when not (is_zero (get f cc)) && lt_z (get f yysz) (pos 3) then year_in_century century (rem_z y (pos 100))
     else Is (plain_year (signed_by (get f bc) y))
 
 -- unfolds all that a year is computed by, for worked examples

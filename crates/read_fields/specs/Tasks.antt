@@ -2,7 +2,7 @@
 -- word.
 use Rattle.std.specs.Prelude.{◌≡◌, refl, Bool, true, false, ◌&&◌, List, [], ◌∷◌, map, ℕ, ◌+◌, ◌*◌, ◌<◌, eqb}
 use Prim.Native.String.{String}
-use Rattle.base_notation.specs.Choice.{if◌then◌else◌}
+use Rattle.base_notation.specs.Choice.{when◌then◌else◌}
 use Rattle.base_notation.specs.Text.{utf8}
 use Rattle.base_chars.specs.Fold.{folded}
 use Rattle.template_patterns.specs.Patterns.{name_of, pattern_of}
@@ -184,11 +184,11 @@ alike (a ∷ as') (b ∷ bs) = eqb (folded a) (folded b) && alike as' bs
 
 abbrev pub among : List ℕ → List (List ℕ) → Bool
 among name [] = false
-among name (n ∷ ns) = if alike name n then true else among name ns
+among name (n ∷ ns) = when alike name n then true else among name ns
 
 abbrev pub task_named : List ℕ → List Row → Task
 task_named name [] = task nothing 0 0 0
-task_named name (r ∷ rs) = if among name r.names then r.does else task_named name rs
+task_named name (r ∷ rs) = when among name r.names then r.does else task_named name rs
 
 -- the task of the pattern number k
 unfoldable pub task_of : ℕ → Task

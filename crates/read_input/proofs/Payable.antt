@@ -11,7 +11,7 @@ use Prim.Native.Nat.{ℕ, ◌+◌, ◌≤◌, pred}
 use native.Mathlib.Omega.{arith}
 use lib.Dec.{eqb, ltb}
 use lib.ListN.{length}
-use Rattle.base_notation.specs.Choice.{if◌then◌else◌}
+use Rattle.base_notation.specs.Choice.{when◌then◌else◌}
 use Rattle.base_notation.specs.Text.{byte_at}
 use Rattle.base_notation.proofs.Cases.{by-if}
 use Rattle.base_refusals.specs.declared.Refusal.{Refusal}
@@ -68,7 +68,7 @@ module _ (s : List ℕ) where
   -- the spaces before a node; before the first node none were skipped
   pub payable-entered : (p : Place) (first : Bool) → Payable s p → (first ≡ true → p.extra ≡ 0) → Payable s (entered_by s first p)
   payable-entered p first pay none =
-      by-if (Payable s) (is_exact p) p (if first then skipped s p else p) (λ e. pay)
+      by-if (Payable s) (is_exact p) p (when first then skipped s p else p) (λ e. pay)
       (λ e. by-if (Payable s) first (skipped s p) p (λ b h. omega (arith, none b, spaces-few s p)) (λ b. pay))
 
   less : (n : ℕ) → n ≤ length s → pred n ≤ length s

@@ -16,7 +16,7 @@ use lib.Dec.{eqb}
 use lib.IntN.{ℤ, pos}
 use lib.ListN.{length, get_or}
 use lib.Seq.{get_or-set_other}
-use Rattle.base_notation.specs.Choice.{if◌then◌else◌}
+use Rattle.base_notation.specs.Choice.{when◌then◌else◌}
 use Rattle.base_notation.proofs.Cases.{by-if}
 use Rattle.base_accents.specs.Accents.{measure_of}
 use Rattle.base_strtol.specs.Strtol.{short_at}
@@ -85,7 +85,7 @@ module _ (t s : List ℕ) (n next : Node) (f : Fields) (p : Place) where
 
       -- the number, by the kind of the task
       abbrev found : ℕ → Number
-      found k = if eqb k comma_year then comma_year_at s p.at n.pattern else number_at s p.at task.operand n.pattern (is_free t n next)
+      found k = when eqb k comma_year then comma_year_at s p.at n.pattern else number_at s p.at task.operand n.pattern (is_free t n next)
 
       abbrev with : Number → Reading
       with x = stored_number s n task x (with_mode new f) q

@@ -1,6 +1,6 @@
 -- Reading an input by the nodes of a template (DCH_from_char of formatting.c).
 use Rattle.std.specs.Prelude.{◌≡◌, Bool, true, false, not, ◌&&◌, ◌||◌, List, [], ◌∷◌, ℕ, eqb, ltb, ℤ, pos, length}
-use Rattle.base_notation.specs.Choice.{if◌then◌else◌}
+use Rattle.base_notation.specs.Choice.{when◌then◌else◌}
 use Rattle.base_refusals.specs.declared.Refusal.TheVariants.{MixedDates}
 use Rattle.read_integers.specs.Suffix.{is_free}
 use Rattle.template_patterns.specs.Patterns.{pattern_of}
@@ -25,17 +25,17 @@ abbrev pub mixes : ℕ → ℤ → Bool
 mixes new old = not (eqb new 0) && conflicts old (pos new)
 
 abbrev pub with_mode : ℕ → Fields → Fields
-with_mode new f = if eqb new 0 then f else put f mode (pos new)
+with_mode new f = when eqb new 0 then f else put f mode (pos new)
 
 -- what a pattern reads, by the kind of its task
 abbrev pub by_kind : ℕ → List ℕ → Node → Bool → Task → Fields → Place → Reading
 by_kind kind s n free task f p =
-    if eqb kind number || eqb kind comma_year then read_number s n free task f p
-    else if eqb kind word then read_word s n task f p
-    else if eqb kind exact then read f (place p.at p.extra true)
-    else if eqb kind dropped then read_dropped s n free task f p
-    else if eqb kind offset then read_offset s n free task f p
-    else if eqb kind offset_minutes then read_offset_minutes s n free f p
+    when eqb kind number || eqb kind comma_year then read_number s n free task f p
+    else when eqb kind word then read_word s n task f p
+    else when eqb kind exact then read f (place p.at p.extra true)
+    else when eqb kind dropped then read_dropped s n free task f p
+    else when eqb kind offset then read_offset s n free task f p
+    else when eqb kind offset_minutes then read_offset_minutes s n free f p
     else read f p
 
 unfoldable pub performed : List ℕ → Node → Bool → Task → Fields → Place → Reading
@@ -54,7 +54,7 @@ unfoldable pub action_read : List ℕ → List ℕ → Node → Node → Fields 
 action_read t s n next f p =
     let new = (pattern_of n.pattern).mode in
     let r = performed s n (is_free t n next) (task_of n.pattern) (with_mode new f) p in
-    if mixes new (get f mode) then refuse (MixedDates n.pattern) no_fields p
+    when mixes new (get f mode) then refuse (MixedDates n.pattern) no_fields p
     else when_read r.verdict (past_spaces s r) p
 
 -- reading as r says, into an array that then holds the values: those of a refusal are left open
@@ -65,7 +65,7 @@ pub record Went (r : Reading) (o : Outcome) (values : List ℤ) : Type 0 where
 
 -- spaces are skipped before a pattern but FX, and before the first node
 abbrev pub skips : Node → Bool → Bool
-skips n first = if eqb n.kind action then not (eqb (task_of n.pattern).kind exact) else first
+skips n first = when eqb n.kind action then not (eqb (task_of n.pattern).kind exact) else first
 
 unfoldable pub entered : List ℕ → Node → Bool → Place → Place
 entered s n first p = entered_by s (skips n first) p
@@ -74,7 +74,7 @@ entered s n first p = entered_by s (skips n first) p
 unfoldable pub node_read : List ℕ → List ℕ → Node → Node → Bool → Fields → Place → Reading
 node_read t s n next first f p =
     let q = entered s n first p in
-    if eqb n.kind action then action_read t s n next f q else read f (literal_passed s n q)
+    when eqb n.kind action then action_read t s n next f q else read f (literal_passed s n q)
 
 -- the first of the nodes, END if there is none
 abbrev pub head_of : List Node → Node
@@ -86,7 +86,7 @@ unfoldable pub read_from : List ℕ → List ℕ → List Node → Bool → Fiel
 read_from t s [] first f p = read f p
 read_from t s (n ∷ ns) first f p =
     let r = node_read t s n (head_of ns) first f p in
-    if ltb p.at (length s) then onward r.verdict r (read_from t s ns false r.fields r.place) else read f p
+    when ltb p.at (length s) then onward r.verdict r (read_from t s ns false r.fields r.place) else read f p
 
 -- the whole input
 unfoldable pub read_all : List ℕ → List ℕ → List Node → Reading

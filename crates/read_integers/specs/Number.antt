@@ -2,7 +2,7 @@
 use Rattle.std.specs.Prelude.{◌≡◌, refl, Bool, true, false, not, ◌&&◌, ◌||◌, List, ℕ, ◌+◌, ◌-◌, ◌^◌, ◌<◌, ◌≤◌, eqb, ltb, ℤ, pos, length, take, drop}
 use Rattle.std.specs.Int.Signed.{mag}
 use Rattle.base_strtol.specs.Strtol.{strtol-computes, strtol}
-use Rattle.base_notation.specs.Choice.{if◌then◌else◌}
+use Rattle.base_notation.specs.Choice.{when◌then◌else◌}
 use Rattle.base_notation.specs.Text.{utf8}
 use Rattle.base_refusals.specs.declared.Refusal.TheVariants.{Short, Narrow, NotInteger, OutOfRange}
 use Rattle.base_strtol.specs.Runs.{spaces}
@@ -17,8 +17,8 @@ fits32 z = ltb (mag z) (2 ^ 31)
 -- what strtol found, for a field that began at a place: its end there says that nothing was read
 unfoldable pub checked : ℕ → ℕ → Strtol → Number
 checked pattern start r =
-    if eqb r.end start then Refused (NotInteger pattern)
-    else if r.overflow || not (fits32 r.value) then Refused (OutOfRange pattern)
+    when eqb r.end start then Refused (NotInteger pattern)
+    else when r.overflow || not (fits32 r.value) then Refused (OutOfRange pattern)
     else Read r.value r.end
 
 -- a number of fixed width: spaces, then as many bytes; if digits begin there, they fill the width
@@ -27,8 +27,8 @@ fixed_at s at width pattern =
     let from = at + spaces (drop at s) in
     let left = length s - from in
     let r = strtol (take width (drop from s)) 0 in
-    if ltb left width then Refused (Short pattern width left)
-    else if ltb 0 r.end && ltb r.end width then Refused (Narrow pattern width r.end)
+    when ltb left width then Refused (Short pattern width left)
+    else when ltb 0 r.end && ltb r.end width then Refused (Narrow pattern width r.end)
     else checked pattern at (record { value = r.value; end = from + r.end; overflow = r.overflow })
 
 -- a number of any width: all digits that are there
@@ -36,7 +36,7 @@ abbrev pub free_at : List ℕ → ℕ → ℕ → Number
 free_at s at pattern = checked pattern at (strtol s at)
 
 unfoldable pub number_at : List ℕ → ℕ → ℕ → ℕ → Bool → Number
-number_at s at width pattern free = if free then free_at s at pattern else fixed_at s at width pattern
+number_at s at width pattern free = when free then free_at s at pattern else fixed_at s at width pattern
 
 -- what was read ends after its place and within the input, and has 32 bits
 abbrev pub Inside : List ℕ → ℕ → Number → Type 0

@@ -1,7 +1,7 @@
 -- What follows a pattern in the template, and what an ordinal suffix skips in the input.
 use Rattle.std.specs.Prelude.{◌≡◌, refl, Bool, true, false, not, ◌&&◌, ◌||◌, List, ◌++◌, ℕ, ◌+◌, ◌≤◌, max, eqb, length}
 use Rattle.std.specs.Int.Bits.{bit_and}
-use Rattle.base_notation.specs.Choice.{if◌then◌else◌}
+use Rattle.base_notation.specs.Choice.{when◌then◌else◌}
 use Rattle.base_notation.specs.Text.{byte_at, encoded, utf8}
 use Rattle.base_chars.specs.Class.{is_digit}
 use Rattle.base_accents.specs.Accents.{measure_of, measure-computes}
@@ -24,8 +24,8 @@ ordinal bits = has 6 bits
 -- read as digits, or a literal that is no digit
 unfoldable pub ends_number : List ℕ → Node → Node → Bool
 ends_number t n next =
-    if ordinal n.suffix || eqb next.kind end then true
-    else if eqb next.kind action then not (pattern_of next.pattern).is_digit
+    when ordinal n.suffix || eqb next.kind end then true
+    else when eqb next.kind action then not (pattern_of next.pattern).is_digit
     else not (eqb next.len 1 && is_digit (byte_at t next.start))
 
 -- a number takes all digits that are there with FM, or where what follows ends it
@@ -36,7 +36,7 @@ is_free t n next = filled n.suffix || ends_number t n next
 unfoldable pub past_ordinal : List ℕ → ℕ → Bool → ℕ → ℕ
 past_ordinal s at accents bits =
     let one = at + measure_of accents s at in
-    if ordinal bits then one + measure_of accents s one else at
+    when ordinal bits then one + measure_of accents s one else at
 
 -- r is the place after an ordinal suffix, within the input if the place before it is
 pub record Skipped (s : List ℕ) (at : ℕ) (accents : Bool) (bits r : ℕ) : Type 0 where

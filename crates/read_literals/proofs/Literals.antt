@@ -14,7 +14,7 @@ use borrow.Author.Tests.{lt-ltb, ltb-false, ne_eqb}
 use lib.Dec.{ltb}
 use lib.ListN.{length, drop, length-drop, get_or-eq_default}
 use Rattle.base_notation.proofs.Cases.{by-if}
-use Rattle.base_notation.specs.Choice.{if◌then◌else◌}
+use Rattle.base_notation.specs.Choice.{when◌then◌else◌}
 use Rattle.base_notation.specs.Text.{byte_at}
 use Rattle.base_chars.specs.Class.{class_of, is_space, is_separator}
 use Rattle.base_strtol.specs.Runs.{spaces}
@@ -57,7 +57,7 @@ module _ (s : List ℕ) (p : Place) where
 -- a place within the input is still there past the spaces
 pub entered-within : (s : List ℕ) (p : Place) (skip : Bool) → p.at ≤ length s → (entered_by s skip p).at ≤ length s
 entered-within s p skip h =
-    by-if (λ (q : Place). q.at ≤ length s) (is_exact p) p (if skip then skipped s p else p) (λ e. h)
+    by-if (λ (q : Place). q.at ≤ length s) (is_exact p) p (when skip then skipped s p else p) (λ e. h)
     (λ e. by-if (λ (q : Place). q.at ≤ length s) skip (skipped s p) p (λ e. omega (arith, leading-place is_space s p.at)) (λ e. h))
 
 -- the cases of a literal

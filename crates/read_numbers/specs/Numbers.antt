@@ -3,7 +3,7 @@ use Rattle.std.specs.Prelude.{◌≡◌, refl, Bool, true, false, List, ℕ, ◌
 use Rattle.std.specs.Int.Signed.{lt_z}
 use Rattle.read_numbers.specs.Year.{years-compute, comma_year_at, near2020}
 use Rattle.read_integers.specs.Number.{integer-computes, number_at}
-use Rattle.base_notation.specs.Choice.{if◌then◌else◌}
+use Rattle.base_notation.specs.Choice.{when◌then◌else◌}
 use Rattle.base_refusals.specs.declared.Refusal.TheVariants.{Conflict}
 use Rattle.read_integers.specs.Suffix.{past_ordinal}
 use Rattle.read_integers.specs.declared.Number.{Number}
@@ -19,33 +19,33 @@ use Rattle.read_fields.specs.declared.Task.{Task}
 
 -- a number read from n bytes is the first digits of a width: ten to the number of digits that are missing
 abbrev pub missing : ℕ → ℕ → ℤ
-missing width n = if eqb n 0 then pos 1 else pos (10 ^ (width - n))
+missing width n = when eqb n 0 then pos 1 else pos (10 ^ (width - n))
 
 -- Sunday, 7 in ISO weeks, is 1, Monday 2
 abbrev pub sunday_first : ℤ → ℤ
-sunday_first z = if lt_z (pos 7) (z ⊕ pos 1) then pos 1 else z ⊕ pos 1
+sunday_first z = when lt_z (pos 7) (z ⊕ pos 1) then pos 1 else z ⊕ pos 1
 
 -- a year of fewer than four digits is put near 2020
 abbrev pub near_if_short : ℤ → ℕ → ℤ
-near_if_short z n = if ltb n 4 then near2020 z else z
+near_if_short z n = when ltb n 4 then near2020 z else z
 
 -- what a field keeps of a number that was read from n bytes
 unfoldable pub kept : ℕ → ℤ → ℕ → ℤ
 kept rule z n =
-    if eqb rule millis then z ⊗ missing 3 n
-    else if eqb rule micros then z ⊗ missing 6 n
-    else if eqb rule fraction then z ⊗ missing 6 n
-    else if eqb rule iso_day then sunday_first z
-    else if eqb rule part_year then near_if_short z n
+    when eqb rule millis then z ⊗ missing 3 n
+    else when eqb rule micros then z ⊗ missing 6 n
+    else when eqb rule fraction then z ⊗ missing 6 n
+    else when eqb rule iso_day then sunday_first z
+    else when eqb rule part_year then near_if_short z n
     else z
 
 -- what else is set: the clock of 12 hours, the digits of the year or of the fraction
 unfoldable pub noted : ℕ → ℕ → Fields → Fields
 noted rule width f =
-    if eqb rule hour12 then put f clock (pos 12)
-    else if eqb rule whole_year then put f yysz (pos 4)
-    else if eqb rule part_year then put f yysz (pos width)
-    else if eqb rule fraction then put f ff (pos width)
+    when eqb rule hour12 then put f clock (pos 12)
+    else when eqb rule whole_year then put f yysz (pos 4)
+    else when eqb rule part_year then put f yysz (pos width)
+    else when eqb rule fraction then put f ff (pos width)
     else f
 
 -- a number that was read from n bytes goes into its field
@@ -56,12 +56,12 @@ with_number task z n f = noted task.rule task.operand (put f task.field (kept ta
 unfoldable pub stored_number : List ℕ → Node → Task → Number → Fields → Place → Reading
 stored_number s n task (Refused why) f p = refuse why f p
 stored_number s n task (Read z next) f p =
-    if conflicts (get f task.field) z then refuse (Conflict n.pattern) f p
+    when conflicts (get f task.field) z then refuse (Conflict n.pattern) f p
     else read (with_number task z (next - p.at) f) (at_place p (past_ordinal s next n.accents n.suffix))
 
 -- the number at a place: with a comma, or of a width
 abbrev pub number_of : List ℕ → Node → Bool → Task → ℕ → Number
-number_of s n free task at = if eqb task.kind comma_year then comma_year_at s at n.pattern else number_at s at task.operand n.pattern free
+number_of s n free task at = when eqb task.kind comma_year then comma_year_at s at n.pattern else number_at s at task.operand n.pattern free
 
 abbrev pub read_number : List ℕ → Node → Bool → Task → Fields → Place → Reading
 read_number s n free task f p = stored_number s n task (number_of s n free task p.at) f p

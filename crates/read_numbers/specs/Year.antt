@@ -3,7 +3,7 @@ use Rattle.std.specs.Prelude.{◌≡◌, refl, not, ◌&&◌, ◌||◌, List, �
 use Prim.Native.Char.{code}
 use Rattle.std.specs.Int.Signed.{lt_z}
 use Rattle.base_strtol.specs.Strtol.{strtol-computes, strtol}
-use Rattle.base_notation.specs.Choice.{if◌then◌else◌}
+use Rattle.base_notation.specs.Choice.{when◌then◌else◌}
 use Rattle.base_notation.specs.Text.{byte_at, utf8}
 use Rattle.base_wrapping.specs.Wrap.{wrap32}
 use Rattle.base_refusals.specs.declared.Refusal.TheVariants.{NotTwoNumbers, YearOutOfRange}
@@ -18,7 +18,7 @@ use Rattle.read_integers.specs.Number.{fits32}
 unfoldable pub joined : ℕ → ℤ → ℤ → ℕ → Number
 joined pattern thousands years next =
     let whole = thousands *ℤ pos 1000 in
-    if fits32 whole && fits32 (years +ℤ whole) then Read (years +ℤ whole) next
+    when fits32 whole && fits32 (years +ℤ whole) then Read (years +ℤ whole) next
     else Refused (YearOutOfRange pattern)
 
 -- a number, cut to 32 bits; a comma; spaces; and a number within three bytes
@@ -27,7 +27,7 @@ scanned t =
     let a = strtol t 0 in
     let from = a.end + 1 + spaces (drop (a.end + 1) t) in
     let b = strtol (take (from + 3) t) from in
-    if eqb a.end 0 || not (eqb (byte_at t a.end) (code ",")) || eqb b.end from then Missing
+    when eqb a.end 0 || not (eqb (byte_at t a.end) (code ",")) || eqb b.end from then Missing
     else Both (wrap32 a.value) (wrap32 b.value) b.end
 
 abbrev pub scanned_year : ℕ → ℕ → Scanned → Number
@@ -40,10 +40,10 @@ comma_year_at s at pattern = scanned_year pattern at (scanned (drop at s))
 -- a year of two or three digits is put near 2020
 unfoldable pub near2020 : ℤ → ℤ
 near2020 y =
-    if lt_z y (pos 70) then y +ℤ pos 2000
-    else if lt_z y (pos 100) then y +ℤ pos 1900
-    else if lt_z y (pos 520) then y +ℤ pos 2000
-    else if lt_z y (pos 1000) then y +ℤ pos 1000
+    when lt_z y (pos 70) then y +ℤ pos 2000
+    else when lt_z y (pos 100) then y +ℤ pos 1900
+    else when lt_z y (pos 520) then y +ℤ pos 2000
+    else when lt_z y (pos 1000) then y +ℤ pos 1000
     else y
 
 -- unfolds all that years are computed by, for worked examples

@@ -1,7 +1,7 @@
 -- Patterns that read an offset: TZ, OF, TZH and TZM.
 use Rattle.std.specs.Prelude.{◌≡◌, refl, Bool, true, false, not, ◌&&◌, ◌||◌, List, ℕ, ◌+◌, ◌-◌, ◌≤◌, eqb, ltb, ℤ, pos, negsuc, length}
 use Prim.Native.Char.{code}
-use Rattle.base_notation.specs.Choice.{if◌then◌else◌}
+use Rattle.base_notation.specs.Choice.{when◌then◌else◌}
 use Rattle.base_notation.specs.Text.{byte_at, utf8}
 use Rattle.base_refusals.specs.declared.Refusal.TheVariants.{Conflict, ZoneLetter}
 use Rattle.base_chars.specs.Class.{is_letter}
@@ -23,13 +23,13 @@ is_sign b = eqb b (code "+") || eqb b (code "-") || eqb b (code " ")
 -- the sign of an offset: the one at the place; else a minus one byte back, which was skipped as a separator; else plus
 unfoldable pub sign_of : List ℕ → Place → ℤ
 sign_of s p =
-    if is_sign (byte_at s p.at) then (if eqb (byte_at s p.at) (code "-") then negsuc 0 else pos 1)
-    else if ltb 0 p.extra && (ltb 0 p.at && eqb (byte_at s (p.at - 1)) (code "-")) then negsuc 0
+    when is_sign (byte_at s p.at) then (when eqb (byte_at s p.at) (code "-") then negsuc 0 else pos 1)
+    else when ltb 0 p.extra && (ltb 0 p.at && eqb (byte_at s (p.at - 1)) (code "-")) then negsuc 0
     else pos 1
 
 -- the place after a sign
 abbrev pub past_sign : List ℕ → ℕ → ℕ
-past_sign s at = if is_sign (byte_at s at) then at + 1 else at
+past_sign s at = when is_sign (byte_at s at) then at + 1 else at
 
 -- r is that place, within the input
 pub record Signed (s : List ℕ) (at r : ℕ) : Type 0 where
@@ -40,12 +40,12 @@ pub record Signed (s : List ℕ) (at r : ℕ) : Type 0 where
 unfoldable pub stored_offset : Node → ℕ → Number → Fields → Place → Reading
 stored_offset n field (Refused why) f p = refuse why f p
 stored_offset n field (Read z next) f p =
-    if conflicts (get f field) z then refuse (Conflict n.pattern) f p else read (put f field z) (at_place p next)
+    when conflicts (get f field) z then refuse (Conflict n.pattern) f p else read (put f field z) (at_place p next)
 
 -- the minutes after a colon, where both are read
 unfoldable pub colon_minutes : List ℕ → Node → Bool → ℕ → Fields → Place → Reading
 colon_minutes s n free rule f p =
-    if not (eqb rule hours) && eqb (byte_at s p.at) (code ":")
+    when not (eqb rule hours) && eqb (byte_at s p.at) (code ":")
     then stored_offset n tzm (number_at s (p.at + 1) 2 n.pattern free) f p
     else read f p
 
@@ -56,13 +56,13 @@ then_minutes s n free rule r = onward r.verdict r (colon_minutes s n free rule r
 -- a letter is refused at TZ before the sign is read
 unfoldable pub read_offset : List ℕ → Node → Bool → Task → Fields → Place → Reading
 read_offset s n free task f p =
-    if eqb task.rule no_letter && is_letter (byte_at s p.at) then refuse (ZoneLetter n.pattern) f p
+    when eqb task.rule no_letter && is_letter (byte_at s p.at) then refuse (ZoneLetter n.pattern) f p
     else then_minutes s n free task.rule
     (stored_offset n tzh (number_at s (past_sign s p.at) 2 n.pattern free) (put f tzsign (sign_of s p)) p)
 
 -- the sign is plus if none was read
 abbrev pub with_sign : Fields → Fields
-with_sign f = if is_zero (get f tzsign) then put f tzsign (pos 1) else f
+with_sign f = when is_zero (get f tzsign) then put f tzsign (pos 1) else f
 
 -- minutes alone
 abbrev pub read_offset_minutes : List ℕ → Node → Bool → Fields → Place → Reading

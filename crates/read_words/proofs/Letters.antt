@@ -14,7 +14,7 @@ use borrow.Author.Tests.{eq-eqb, eqb-true, eqb-false, ne_eqb}
 use lib.Dec.{eqb}
 use lib.ListN.{length, take, drop}
 use lib.Seq.{drop-cons}
-use Rattle.base_notation.specs.Choice.{if◌then◌else◌}
+use Rattle.base_notation.specs.Choice.{when◌then◌else◌}
 use Rattle.base_notation.specs.Text.{byte_at}
 use Rattle.template_patterns.specs.Search.{matches_at, length_at}
 use Rattle.read_words.specs.FoldOnce.{until_space, row_of}
@@ -27,14 +27,14 @@ module _ (table : List ℕ) (k : ℕ) where
   module _ (t : List ℕ) where
     -- the answer, when j bytes are the same
     abbrev pub onward : ℕ → ℕ
-    onward j = if matches_at (rest j) t j then j + length (rest j) else 0
+    onward j = when matches_at (rest j) t j then j + length (rest j) else 0
 
     module _ (j : ℕ) (h : j < 9) (l : 9 * k + j < length table) where
       -- the byte of the table
       abbrev c : ℕ
       c = byte_at table (9 * k + j)
 
-      rest-on : rest j ≡ (if eqb c (code " ") then [] else c ∷ rest (j + 1))
+      rest-on : rest j ≡ (when eqb c (code " ") then [] else c ∷ rest (j + 1))
       rest-on =
           let one_left : 9 - j ≡ suc (9 - (j + 1)) = omega arith in
           let next : suc (9 * k + j) ≡ 9 * k + (j + 1) = omega arith in

@@ -2,7 +2,7 @@
 -- of a list are kept in small letters.
 use Rattle.std.specs.Prelude.{◌≡◌, refl, List, [], ◌∷◌, ◌++◌, map, ℕ, suc, ◌-◌, ◌*◌, eqb, length, take, drop, replicate}
 use Prim.Native.Char.{code}
-use Rattle.base_notation.specs.Choice.{if◌then◌else◌}
+use Rattle.base_notation.specs.Choice.{when◌then◌else◌}
 use Rattle.base_notation.specs.Text.{utf8}
 use Rattle.base_chars.specs.Fold.{folded}
 use Rattle.template_patterns.specs.Search.{matches_at}
@@ -24,7 +24,7 @@ beginning_for list s at = beginning (longest (words_of list)) s at
 -- the first of the words that t begins with, with its index counted from k
 abbrev pub first_in : ℕ → List (List ℕ) → List ℕ → Word
 first_in k [] t = Nothing
-first_in k (w ∷ ws) t = if matches_at w t 0 then At k (length w) else first_in (suc k) ws t
+first_in k (w ∷ ws) t = when matches_at w t 0 then At k (length w) else first_in (suc k) ws t
 
 -- the first word of a list that t begins with, where t has no capital letter
 unfoldable pub word_in : WordList → List ℕ → Word
@@ -41,7 +41,7 @@ in_nine t = t ++ replicate (9 - length t) 0
 -- bytes up to the first space
 abbrev pub until_space : List ℕ → List ℕ
 until_space [] = []
-until_space (c ∷ cs) = if eqb c (code " ") then [] else c ∷ until_space cs
+until_space (c ∷ cs) = when eqb c (code " ") then [] else c ∷ until_space cs
 
 -- the word in row k of a table whose rows have nine bytes
 unfoldable pub row_of : List ℕ → ℕ → List ℕ

@@ -1,6 +1,6 @@
 -- A word of the input (seq_search_ascii of formatting.c): ASCII letters of either case are the same.
 use Rattle.std.specs.Prelude.{◌≡◌, refl, Bool, true, ◌&&◌, List, [], ◌∷◌, ℕ, suc, ◌+◌, ◌<◌, ◌≤◌, eqb, length}
-use Rattle.base_notation.specs.Choice.{if◌then◌else◌}
+use Rattle.base_notation.specs.Choice.{when◌then◌else◌}
 use Rattle.base_notation.specs.Text.{byte_at, utf8}
 use Rattle.base_chars.specs.Fold.{folded}
 use Rattle.template_patterns.specs.Words.{words_of}
@@ -17,7 +17,7 @@ spelled_at (c ∷ w) s at = eqb (folded (byte_at s at)) (folded c) && spelled_at
 -- the first of the words that is there, with its index counted from k
 abbrev pub first_word : ℕ → List (List ℕ) → List ℕ → ℕ → Word
 first_word k [] s at = Nothing
-first_word k (w ∷ ws) s at = if spelled_at w s at then At k (length w) else first_word (suc k) ws s at
+first_word k (w ∷ ws) s at = when spelled_at w s at then At k (length w) else first_word (suc k) ws s at
 
 unfoldable pub word_at : WordList → List ℕ → ℕ → Word
 word_at list s at = first_word 0 (words_of list) s at

@@ -1,6 +1,6 @@
 -- Patterns that read a word.
 use Rattle.std.specs.Prelude.{◌≡◌, refl, Bool, true, false, List, [], ◌∷◌, ℕ, ◌+◌, ◌-◌, ◌%◌, eqb, ℤ, pos, get_or}
-use Rattle.base_notation.specs.Choice.{if◌then◌else◌}
+use Rattle.base_notation.specs.Choice.{when◌then◌else◌}
 use Rattle.base_refusals.specs.declared.Refusal.TheVariants.{Conflict, NoWord}
 use Rattle.read_words.specs.Spelling.{word_at}
 use Rattle.read_words.specs.declared.spelling.Word.{Word}
@@ -22,22 +22,22 @@ list_of k = get_or (MonthsFull ∷ MonthsAbbrev ∷ DaysFull ∷ DaysAbbrev ∷ 
 -- the number of a word by its index in its list: months from 1, weekdays from 0, Roman months from 12 down, PM and BC 1
 unfoldable pub meant : ℕ → ℕ → ℕ
 meant rule k =
-    if eqb rule month then k + 1
-    else if eqb rule weekday then k
-    else if eqb rule roman_month then 12 - k
+    when eqb rule month then k + 1
+    else when eqb rule weekday then k
+    else when eqb rule roman_month then 12 - k
     else k % 2
 
 -- a weekday is kept one higher, Sunday 1: a second one is compared with that
 abbrev pub kept_word : ℕ → ℕ → ℕ
-kept_word rule n = if eqb rule weekday then n + 1 else n
+kept_word rule n = when eqb rule weekday then n + 1 else n
 
 abbrev pub noted_word : ℕ → Fields → Fields
-noted_word rule f = if eqb rule odd_hour12 then put f clock (pos 12) else f
+noted_word rule f = when eqb rule odd_hour12 then put f clock (pos 12) else f
 
 -- a word's number goes into its field, unless that was set to another value
 abbrev pub word_stored : Node → Task → ℕ → ℕ → Fields → Place → Reading
 word_stored n task z next f p =
-    if conflicts (get f task.field) (pos z) then refuse (Conflict n.pattern) f p
+    when conflicts (get f task.field) (pos z) then refuse (Conflict n.pattern) f p
     else read (noted_word task.rule (put f task.field (pos (kept_word task.rule z)))) (at_place p next)
 
 unfoldable pub stored_word : Node → Task → Word → Fields → Place → Reading

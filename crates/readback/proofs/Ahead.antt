@@ -12,7 +12,7 @@ use native.Mathlib.Nat.{zero-add, suc-add}
 use native.Mathlib.Omega.{arith}
 use borrow.Author.Tests.{not-true}
 use lib.ListN.{length, drop}
-use Rattle.base_notation.specs.Choice.{if◌then◌else◌}
+use Rattle.base_notation.specs.Choice.{when◌then◌else◌}
 use Rattle.base_notation.specs.Text.{byte_at}
 use Rattle.base_notation.proofs.Cases.{neither}
 use Rattle.base_chars.specs.Class.{is_space, is_separator}
@@ -29,7 +29,7 @@ unfolding leading
 ahead-spaces [] = tt
 ahead-spaces (b ∷ u) = by (is_space b) refl (ahead-spaces u)
   where
-    by : (t : Bool) → is_space b ≡ t → Ahead (spaces u) u → Ahead (if t then suc (spaces u) else 0) (b ∷ u)
+    by : (t : Bool) → is_space b ≡ t → Ahead (spaces u) u → Ahead (when t then suc (spaces u) else 0) (b ∷ u)
     by true q ih = (rw q, ih)
     by false q ih = tt
 

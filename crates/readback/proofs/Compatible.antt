@@ -12,7 +12,7 @@ use borrow.Author.Tests.{eqb-true, eq-eqb, ne_eqb, ltb-true, ltb-false, lt-ltb, 
 use lib.Dec.{eqb, leb, ltb}
 use lib.IntN.{pos}
 use lib.ListN.{replicate, get_or-replicate, get_or-eq_default}
-use Rattle.base_notation.specs.Choice.{if◌then◌else◌}
+use Rattle.base_notation.specs.Choice.{when◌then◌else◌}
 use Rattle.base_notation.proofs.Cases.{both}
 use Rattle.base_notation.proofs.Table.{all_from, entry}
 use Rattle.read_fields.specs.Fields.{mode, get, no_fields}
@@ -111,7 +111,7 @@ module _ (all : List ℕ) (c : together all ≡ true) (m : Moment) (done : List 
   unfolding times
   fits_next q = by (eqb q p) (fits q)
     where
-      by : (t : Bool) → times q done + (if t then suc (times q ps) else times q ps) ≡ times q all
-          → (if t then suc (times q done) else times q done) + times q ps ≡ times q all
+      by : (t : Bool) → times q done + (when t then suc (times q ps) else times q ps) ≡ times q all
+          → (when t then suc (times q done) else times q done) + times q ps ≡ times q all
       by true e = omega arith
       by false e = e

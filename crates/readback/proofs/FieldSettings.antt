@@ -7,7 +7,7 @@ use mathlib.Core.List.{List, [], ◌∷◌, map}
 use Prim.Native.Nat.{ℕ, ◌+◌, ◌%◌}
 use lib.Dec.{eqb, ltb}
 use lib.IntN.{ℤ, pos, nat_abs}
-use Rattle.base_notation.specs.Choice.{if◌then◌else◌}
+use Rattle.base_notation.specs.Choice.{when◌then◌else◌}
 use Rattle.calendar_gregorian.specs.IsoWeek.{weeks-compute}
 use Rattle.template_patterns.specs.Patterns as P
 use Rattle.read_fields.specs.Fields as F
@@ -72,9 +72,9 @@ settings =
 -- Sunday, 2 for Monday; else what was written
 unfoldable pub own_of : ℕ → Moment → ℕ
 own_of p m =
-    if eqb p marker || eqb p dotted_marker then (if is_morning m then 0 else 1)
-    else if eqb p month_name || eqb p short_month then nat_abs m.month
-    else if eqb p weekday then number_of p m % 7 + 1
+    when eqb p marker || eqb p dotted_marker then (when is_morning m then 0 else 1)
+    else when eqb p month_name || eqb p short_month then nat_abs m.month
+    else when eqb p weekday then number_of p m % 7 + 1
     else number_of p m
 
 -- what a piece puts into a field at a moment
@@ -86,7 +86,7 @@ value_of own p m = pos (own_of p m)
 unfoldable pub filled_by : List Setting → List ℕ → Moment → Fields → Fields
 filled_by [] ps m f = f
 filled_by (r ∷ rs) ps m f =
-    filled_by rs ps m (if ltb 0 (times r.piece ps) then F.put f r.field (value_of r.kept r.piece m) else f)
+    filled_by rs ps m (when ltb 0 (times r.piece ps) then F.put f r.field (value_of r.kept r.piece m) else f)
 
 -- the fields that pieces set, whatever their order
 unfoldable pub expected : List ℕ → Moment → Fields

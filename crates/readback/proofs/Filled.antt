@@ -13,7 +13,7 @@ use lib.Dec.{eqb, ltb}
 use lib.IntN.{ℤ, pos}
 use lib.ListN.{length}
 use lib.Seq.{set_comm, set_out, get_or-set_same, get_or-set_other}
-use Rattle.base_notation.specs.Choice.{if◌then◌else◌}
+use Rattle.base_notation.specs.Choice.{when◌then◌else◌}
 use Rattle.base_notation.proofs.Cases.{both}
 use Rattle.base_notation.proofs.Table.{all_from}
 use Rattle.read_fields.specs.Fields.{get, put}
@@ -92,8 +92,8 @@ module _ (m : Moment) where
         split = both (not (known s.piece) || apart r s) _ e
 
         by : (t : Bool) → has done s.piece ≡ t
-            → set_by r (if t then set_by s f else f)
-            ≡ (if t then set_by s (set_by r f) else set_by r f)
+            → set_by r (when t then set_by s f else f)
+            ≡ (when t then set_by s (set_by r f) else set_by r f)
         by true q = commute r s f (other (known s.piece) (apart r s) (sub s.piece q) split.0)
         by false q = refl
 
@@ -112,7 +112,7 @@ module _ (m : Moment) where
         inside h true true p q =
             rw (← eqb-true r.field k p, get_or-set_same f.values r.field (value r) (pos 0) (ltb-true _ _ q)) (g r (rw p at h))
 
-        by : (t : Bool) → has done r.piece ≡ t → Q (get (if t then set_by r f else f) k)
+        by : (t : Bool) → has done r.piece ≡ t → Q (get (when t then set_by r f else f) k)
         by true q = inside (other (known r.piece) _ (sub r.piece q) split.0) _ _ refl refl
         by false q = z
 

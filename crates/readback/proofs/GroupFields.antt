@@ -6,7 +6,7 @@ use mathlib.Core.List.{[], ◌∷◌}
 use Prim.Native.Nat.{ℕ, ◌+◌, ◌*◌, ◌%◌, ◌<◌}
 use lib.Dec.{ltb}
 use lib.IntN.{pos}
-use Rattle.base_notation.specs.Choice.{if◌then◌else◌}
+use Rattle.base_notation.specs.Choice.{when◌then◌else◌}
 use Rattle.calendar_gregorian.specs.Gregorian.{day_number, day_of_year}
 use Rattle.calendar_gregorian.specs.IsoWeek.{weeks-compute, iso_week, iso_weekday, iso_year}
 use Rattle.template_patterns.specs.Patterns as P
@@ -62,7 +62,7 @@ date_values by-week y mo day = record {
 -- what a time group sets at a time; of a half of the day 0 is the morning, 1 the afternoon
 abbrev pub time_values : TimeGroup → ℕ → ℕ → ℕ → TimeValues
 time_values of-24 h m s = record { hh = h; pm = 0; mi = m; ss = s; ssss = 0; clock = 0 }
-time_values of-12 h m s = record { hh = of12 h; pm = if ltb h 12 then 0 else 1; mi = m; ss = s; ssss = 0; clock = 12 }
+time_values of-12 h m s = record { hh = of12 h; pm = when ltb h 12 then 0 else 1; mi = m; ss = s; ssss = 0; clock = 12 }
 time_values by-second h m s = record { hh = 0; pm = 0; mi = 0; ss = 0; ssss = h * 3600 + m * 60 + s; clock = 0 }
 
 -- by their numbers; a year was read with four digits

@@ -13,7 +13,7 @@ use lib.IntN.{nat_abs}
 use lib.ListN.{length, get_or, replicate}
 use Rattle.base_notation.proofs.Cases.{beq-true, both}
 use Rattle.read_fields.proofs.Assigned.{same_task, same-task}
-use Rattle.base_notation.specs.Choice.{if◌then◌else◌}
+use Rattle.base_notation.specs.Choice.{when◌then◌else◌}
 use Rattle.base_notation.proofs.Table.{entry}
 use Rattle.template_patterns.specs.Affixes.{affix_length}
 use Rattle.template_patterns.specs.Patterns.{gregorian, iso_week, pattern_of, name_of}
@@ -52,7 +52,7 @@ task_for p =
 
 abbrev pub mode_for : ℕ → ℕ
 mode_for p =
-    if ltb p P.month_name then get_or (0 ∷ gregorian ∷ gregorian ∷ gregorian ∷ gregorian ∷ iso_week ∷ iso_week ∷ iso_week ∷ []) p 0
+    when ltb p P.month_name then get_or (0 ∷ gregorian ∷ gregorian ∷ gregorian ∷ gregorian ∷ iso_week ∷ iso_week ∷ iso_week ∷ []) p 0
     else gregorian
 
 abbrev pub list_for : ℕ → WordList
@@ -60,14 +60,14 @@ list_for p = list_of (task_for p).operand
 
 -- of a marker 0 is the morning's, 1 the afternoon's; of a name 0 is January's
 abbrev pub index_for : ℕ → Moment → ℕ
-index_for p m = if ltb p P.month_name then (if P.is_morning m then 0 else 1) else nat_abs m.month - 1
+index_for p m = when ltb p P.month_name then (when P.is_morning m then 0 else 1) else nat_abs m.month - 1
 
 abbrev pub most_for : ℕ → ℕ
-most_for p = if ltb p P.marker then P.width_of p else longest (words_of (list_for p))
+most_for p = when ltb p P.marker then P.width_of p else longest (words_of (list_for p))
 
 -- the microsecond has four bytes more than US, and September two more than FMMonth
 abbrev pub excess : ℕ → ℕ
-excess p = if eqb P.micros p then 4 else if eqb P.month_name p then 2 else 0
+excess p = when eqb P.micros p then 4 else when eqb P.month_name p then 2 else 0
 
 -- the pattern number k reads the piece p
 pub record Reads (k p : ℕ) : Type 0 where

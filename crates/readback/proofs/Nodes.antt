@@ -14,7 +14,7 @@ use lib.Bits.{bit_or, or_zero_l}
 use lib.Dec.{eqb, ltb}
 use lib.ListN.{length, take, drop, length-take, length-drop}
 use lib.Seq.{drop-cons, get_or-drop}
-use Rattle.base_notation.specs.Choice.{if◌then◌else◌}
+use Rattle.base_notation.specs.Choice.{when◌then◌else◌}
 use Rattle.base_notation.specs.Text.{byte_at}
 use Rattle.base_notation.proofs.Cases.{both, by-if}
 use Rattle.base_accents.specs.Accents.{mark_at, measure_of}
@@ -101,7 +101,7 @@ class-kind : (b : ℕ) → Kind (kind_of b) b
 unfolding kind_of
 class-kind b = by (is_separator b) (is_space b) refl refl
   where
-    by : (u v : Bool) → is_separator b ≡ u → is_space b ≡ v → Kind (if u then separator else if v then space else character) b
+    by : (u v : Bool) → is_separator b ≡ u → is_space b ≡ v → Kind (when u then separator else when v then space else character) b
     by true true p q = record { no-action = refl; no_end = refl; blank = λ e. rw (p, q) }
     by true false p q = record { no-action = refl; no_end = refl; blank = λ e. rw (p, q) }
     by false true p q = record { no-action = refl; no_end = refl; blank = λ e. rw (p, q) }
@@ -179,7 +179,7 @@ module _ (accents : Bool) (t : List ℕ) where
       record { from = omega arith; inside = inside quoted next escape.1; boundary = next })
       (λ e. record { from = omega arith; inside = h; boundary = b })
     where
-      inside : (q : Bool) → Boundary t (at + 1) → (if q then ltb (at + 1) (length t) else eqb (byte_at t (at + 1)) 34) ≡ true → at + 1 < length t
+      inside : (q : Bool) → Boundary t (at + 1) → (when q then ltb (at + 1) (length t) else eqb (byte_at t (at + 1)) 34) ≡ true → at + 1 < length t
       inside true next e = ltb-true _ _ e
       inside false next e = (past-byte t (at + 1) 34 refl (eqb-true _ _ e) next).0
 
@@ -196,7 +196,7 @@ module _ (accents : Bool) (t : List ℕ) where
       (λ e. skipped from (at + 1) (not quoted) (omega arith) (past-byte t at 34 refl (eqb-true _ _ e) b).1)
       (λ e. char-taken from (char_place t at quoted) _ quoted (omega arith) char.inside char.boundary (kind quoted))
     where
-      kind : (q : Bool) → Kind (if q then character else kind_of (byte_at t (char_place t at quoted))) (byte_at t (char_place t at quoted))
+      kind : (q : Bool) → Kind (when q then character else kind_of (byte_at t (char_place t at quoted))) (byte_at t (char_place t at quoted))
       kind true = plain-kind _
       kind false = class-kind _
 
@@ -204,7 +204,7 @@ module _ (accents : Bool) (t : List ℕ) where
   affix-bytes : (prefix suffix : ℕ) → affix_length (bit_or prefix suffix) ≤ affix_length prefix + affix_length suffix
   affix-bytes prefix suffix = by (eqb prefix 0) refl
     where
-      by : (b : Bool) → eqb prefix 0 ≡ b → affix_length (bit_or prefix suffix) ≤ (if b then 0 else 2) + affix_length suffix
+      by : (b : Bool) → eqb prefix 0 ≡ b → affix_length (bit_or prefix suffix) ≤ (when b then 0 else 2) + affix_length suffix
       by true e = rw (eqb-true prefix 0 e, or_zero_l suffix) (omega arith)
       by false e = by-if (λ (n : ℕ). n ≤ 2 + affix_length suffix) (eqb (bit_or prefix suffix) 0) 0 2 (λ q. omega arith) (λ q. omega arith)
 
@@ -249,7 +249,7 @@ module _ (accents : Bool) (t : List ℕ) where
   joined : (at : ℕ) (s : Step) (ns : List Node) → Taken t at s → Nodes s.next ns → Nodes at (made_by s ++ ns)
   joined at s ns k r = by s.made refl
     where
-      by : (m : Bool) → s.made ≡ m → Nodes at ((if m then s.node ∷ [] else []) ++ ns)
+      by : (m : Bool) → s.made ≡ m → Nodes at ((when m then s.node ∷ [] else []) ++ ns)
       by true e = let made = k.node e in record { good = (made.0, r.good); within = omega (arith, made.1, r.within) }
       by false e = record { good = r.good; within = omega (arith, k.from, r.within) }
 

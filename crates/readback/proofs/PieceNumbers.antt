@@ -10,7 +10,7 @@ use mathlib.Core.List.{[], ◌∷◌}
 use Prim.Native.Nat.{ℕ, ◌+◌, ◌-◌, ◌*◌, ◌%◌, ◌^◌, ◌≤◌, ◌<◌}
 use native.Mathlib.Omega.{arith}
 use lib.IntN.{pos}
-use Rattle.base_notation.specs.Choice.{if◌then◌else◌}
+use Rattle.base_notation.specs.Choice.{when◌then◌else◌}
 use Rattle.calendar_gregorian.specs.Gregorian.{day_number}
 use Rattle.calendar_gregorian.specs.IsoWeek.{iso_weekday}
 use Rattle.calendar_gregorian.proofs.Dates.{each, length-range, real}
@@ -63,7 +63,7 @@ module _ {y mo d h mi s us : ℕ} (is : IsMoment y mo d h mi s us) where
       each (λ p. kept_word (task_for p).rule (meant (task_for p).rule (index_for p now)) ≡ own_of p now) 14 3
       (by (is_morning now), (by (is_morning now), (month, month)))
     where
-      by : (t : Bool) → (if t then 0 else 1) % 2 ≡ (if t then 0 else 1)
+      by : (t : Bool) → (when t then 0 else 1) % 2 ≡ (when t then 0 else 1)
       by true = refl
       by false = refl
 

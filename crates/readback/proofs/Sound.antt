@@ -10,7 +10,7 @@ use native.Mathlib.Omega.{arith}
 use borrow.Author.Tests.{eqb-true, eq-eqb, lt-ltb, ne_eqb}
 use lib.Dec.{eqb}
 use lib.ListN.{length}
-use Rattle.base_notation.specs.Choice.{if◌then◌else◌}
+use Rattle.base_notation.specs.Choice.{when◌then◌else◌}
 use Rattle.base_notation.proofs.Cases.{both}
 use Rattle.template_patterns.specs.Cases.{case_of}
 use Rattle.template_patterns.specs.Patterns.{name_of}
@@ -61,10 +61,10 @@ module _ (t : List ℕ) where
       })
 
   -- with no unwritten node from this one on, this one is written, and none after it is unwritten
-  written : (n : Node) (rest : ℕ) → Good t n → (if is_written n then rest else named n.pattern) ≡ all_written → (is_written n ≡ true) × (rest ≡ all_written)
+  written : (n : Node) (rest : ℕ) → Good t n → (when is_written n then rest else named n.pattern) ≡ all_written → (is_written n ≡ true) × (rest ≡ all_written)
   written n rest g e = by (is_written n) refl g e
     where
-      by : (w : Bool) → is_written n ≡ w → Good t n → (if w then rest else named n.pattern) ≡ all_written → (w ≡ true) × (rest ≡ all_written)
+      by : (w : Bool) → is_written n ≡ w → Good t n → (when w then rest else named n.pattern) ≡ all_written → (w ≡ true) × (rest ≡ all_written)
       by true q g e = (refl, e)
       by false q (is-literal l) e = absurd (false≢true (sym q ∙ rw l.no-action))
       by false q (is-named k) e = absurd (omega (arith, rw (lt-ltb n.pattern 112 k.known) at e, k.known))

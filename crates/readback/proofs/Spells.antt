@@ -14,7 +14,7 @@ use native.Mathlib.Omega.{arith}
 use borrow.Author.Tests.{eqb-true, ltb-false, not-true}
 use lib.Dec.{eqb, ltb}
 use lib.ListN.{length, length-append}
-use Rattle.base_notation.specs.Choice.{if◌then◌else◌}
+use Rattle.base_notation.specs.Choice.{when◌then◌else◌}
 use Rattle.base_accents.specs.Accents.{mark_at}
 use Rattle.base_chars.specs.Class.{class_of, digit, is_digit}
 use Rattle.base_chars.specs.Utf8.{well_formed}
@@ -101,8 +101,8 @@ module _ (t : List ℕ) {y mo d h mi sec us : ℕ} (is : IsMoment y mo d h mi se
   excesses p ps = by (eqb micros p) (eqb month_name p) refl refl
     where
       by : (a b : Bool) → eqb micros p ≡ a → eqb month_name p ≡ b
-          → (if a then 4 else if b then 2 else 0) + extra ps
-          ≡ 4 * (if a then suc (times micros ps) else times micros ps) + 2 * (if b then suc (times month_name ps) else times month_name ps)
+          → (when a then 4 else when b then 2 else 0) + extra ps
+          ≡ 4 * (when a then suc (times micros ps) else times micros ps) + 2 * (when b then suc (times month_name ps) else times month_name ps)
       by true true q r = absurd (omega (arith, eqb-true micros p q, eqb-true month_name p r))
       by true false q r = omega arith
       by false true q r = omega arith

@@ -15,7 +15,7 @@ use borrow.Author.Tests.{ltb-true, ltb-false, lt-ltb, le-ltb}
 use lib.Dec.{ltb}
 use lib.IntN.{nat_abs}
 use lib.ListN.{length, get_or, replicate, get_or-map}
-use Rattle.base_notation.specs.Choice.{if◌then◌else◌}
+use Rattle.base_notation.specs.Choice.{when◌then◌else◌}
 use Rattle.base_notation.specs.Text.{byte_at, utf8}
 use Rattle.base_notation.proofs.Table.{entry}
 use Rattle.base_chars.specs.Class.{digit, class_of}
@@ -77,7 +77,7 @@ number-written w n some =
 
 -- a marker and a name of a month, once they are folded
 marker-folds : (case : Case) (dotted morning : Bool)
-    → map folded (marker_text case dotted morning) ≡ word_of (if dotted then AmPmLong else AmPm) (if morning then 0 else 1)
+    → map folded (marker_text case dotted morning) ≡ word_of (when dotted then AmPmLong else AmPm) (when morning then 0 else 1)
 marker-folds case true true = folded-cased case (utf8 "A.M.")
 marker-folds case true false = folded-cased case (utf8 "P.M.")
 marker-folds case false true = folded-cased case (utf8 "AM")
@@ -104,7 +104,7 @@ module _ (m : Moment) where
       ]) refl
 
 -- the markers of a list differ from each other
-marker-fit : (dotted morning : Bool) → Fit (if dotted then AmPmLong else AmPm) (if morning then 0 else 1)
+marker-fit : (dotted morning : Bool) → Fit (when dotted then AmPmLong else AmPm) (when morning then 0 else 1)
 unfolding class_of
 marker-fit true true = is-fit _ _ refl
 marker-fit true false = is-fit _ _ refl

@@ -7,7 +7,7 @@ use native.Mathlib.Omega.{arith}
 use borrow.Author.Tests.{lt-ltb, le-ltb, ltb-true, ltb-false, ne_eqb, eqb-true, eqb-false}
 use lib.Dec.{ltb, eqb, lit<}
 use lib.IntN.{pos}
-use Rattle.base_notation.specs.Choice.{if◌then◌else◌}
+use Rattle.base_notation.specs.Choice.{when◌then◌else◌}
 use Rattle.moment_time.specs.Time.{◌or◌, hour_of, minute_of, second_of, hour_of_twelve, clock_hour}
 use Rattle.moment_sums.specs.declared.Value.TheVariants.{Is}
 use Rattle.read_fields.specs.Fields as F
@@ -27,11 +27,11 @@ or-zero zero = refl
 or-zero (suc n) = rw (ne_eqb (suc n) 0 (λ z. omega arith))
 
 -- the hour back from the 12-hour clock
-twelve : (h : ℕ) → h < 24 → hour_of_twelve (pos (if ltb h 12 then 0 else 1)) (pos (of12 h)) ≡ Is (pos h)
+twelve : (h : ℕ) → h < 24 → hour_of_twelve (pos (when ltb h 12 then 0 else 1)) (pos (of12 h)) ≡ Is (pos h)
 unfolding hour_of_twelve
 twelve h l = by (ltb h 12) (eqb h 0) (eqb h 12) refl refl refl
   where
-    by : (a b c : Bool) → ltb h 12 ≡ a → eqb h 0 ≡ b → eqb h 12 ≡ c → hour_of_twelve (pos (if a then 0 else 1)) (pos (of12 h)) ≡ Is (pos h)
+    by : (a b c : Bool) → ltb h 12 ≡ a → eqb h 0 ≡ b → eqb h 12 ≡ c → hour_of_twelve (pos (when a then 0 else 1)) (pos (of12 h)) ≡ Is (pos h)
     by true true c p q r = let e : h ≡ 0 = eqb-true h 0 q in rw e
     by true false c p q r =
         let morning = ltb-true h 12 p in

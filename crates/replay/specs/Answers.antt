@@ -2,7 +2,7 @@
 -- template, or what the line program answers to a line. What is unknown or malformed is answered by `?`.
 use Rattle.std.specs.Prelude.{Bool, true, false, List, [], ◌∷◌, ◌++◌, ℕ, eqb, ℤ, pos, nat_abs, take, get_or}
 use Prim.Native.Char.{code}
-use Rattle.base_notation.specs.Choice.{if◌then◌else◌}
+use Rattle.base_notation.specs.Choice.{when◌then◌else◌}
 use Rattle.base_notation.specs.Text.{utf8}
 use Rattle.base_chars.specs.Character.{char_length}
 use Rattle.base_chars.specs.Utf8.{well_formed}
@@ -38,22 +38,22 @@ date_values d = Three d.year d.month d.day
 -- questions about a Julian day, or about a year
 unfoldable pub of_one : List ℕ → ℤ → Values
 of_one name n =
-    if same name (utf8 "j2date") then date_values (j2date n)
-    else if same name (utf8 "j2day") then One (j2day n)
-    else if same name (utf8 "is_leap") then One (flag (is_leap (nat_abs n)))
+    when same name (utf8 "j2date") then date_values (j2date n)
+    else when same name (utf8 "j2day") then One (j2day n)
+    else when same name (utf8 "is_leap") then One (flag (is_leap (nat_abs n)))
     else None
 
 -- the question about a week of a year
 unfoldable pub of_two : List ℕ → ℤ → ℤ → Values
-of_two name year week = if same name (utf8 "isoweek2j") then One (isoweek2j year week) else None
+of_two name year week = when same name (utf8 "isoweek2j") then One (isoweek2j year week) else None
 
 -- questions about a date
 unfoldable pub of_three : List ℕ → ℤ → ℤ → ℤ → Values
 of_three name y m d =
-    if same name (utf8 "date2j") then One (date2j y m d)
-    else if same name (utf8 "date2isoweek") then One (date2isoweek y m d)
-    else if same name (utf8 "date2isoyear") then One (date2isoyear y m d)
-    else if same name (utf8 "days_from_civil") then One (days_from_civil y m d)
+    when same name (utf8 "date2j") then One (date2j y m d)
+    else when same name (utf8 "date2isoweek") then One (date2isoweek y m d)
+    else when same name (utf8 "date2isoyear") then One (date2isoyear y m d)
+    else when same name (utf8 "days_from_civil") then One (days_from_civil y m d)
     else None
 
 -- a number by its index
@@ -63,20 +63,20 @@ value n k = get_or n.values k (pos 0)
 -- questions about numbers, by how many there are
 unfoldable pub of_numbers : List ℕ → Numbers → Values
 of_numbers name n =
-    if eqb n.count 1 then of_one name (value n 0)
-    else if eqb n.count 2 then of_two name (value n 0) (value n 1)
-    else if eqb n.count 3 then of_three name (value n 0) (value n 1) (value n 2)
+    when eqb n.count 1 then of_one name (value n 0)
+    else when eqb n.count 2 then of_two name (value n 0) (value n 1)
+    else when eqb n.count 3 then of_three name (value n 0) (value n 1) (value n 2)
     else None
 
 -- an answer about the text that the last item is, of as many bytes as there is room for; another where it is malformed
 abbrev pub of_text : {A : Type 0} → List ℕ → ℕ → ℕ → (List ℕ → A) → A → A
-of_text line from room answer other = if (bytes_at line from room).malformed then other else answer (text_at line from)
+of_text line from room answer other = when (bytes_at line from room).malformed then other else answer (text_at line from)
 
 -- an answer about a place and a text of at most 512 bytes
 abbrev pub of_place : List ℕ → ℕ → (ℕ → List ℕ → Values) → Values
 of_place line from answer =
     let place = place_at line from in
-    if place.malformed then None else of_text line place.end 512 (answer place.at) None
+    when place.malformed then None else of_text line place.end 512 (answer place.at) None
 
 -- a number that is read, the place after it, and whether it is past 64 bits
 abbrev pub strtol_values : Strtol → Values
@@ -97,9 +97,9 @@ of_utf8 line from = of_text line from 512 (λ text. One (flag (well_formed text)
 -- the numbers that answer a question with a name, whose items begin at a place of the line
 unfoldable pub values_of : List ℕ → List ℕ → ℕ → Values
 values_of name line from =
-    if same name (utf8 "strtol") then of_strtol line from
-    else if same name (utf8 "mblen") then of_mblen line from
-    else if same name (utf8 "utf8") then of_utf8 line from
+    when same name (utf8 "strtol") then of_strtol line from
+    else when same name (utf8 "mblen") then of_mblen line from
+    else when same name (utf8 "utf8") then of_utf8 line from
     else of_numbers name (numbers_at line from)
 
 -- what is unknown or malformed
@@ -122,7 +122,7 @@ fields_text n = field_text n.start ++ field_text n.len ++ field_text n.pattern +
 
 -- its kind, and these; a space before it unless it is the first
 abbrev pub node_text : Bool → Node → List ℕ
-node_text first n = (if first then [] else code " " ∷ []) ++ decimal (pos n.kind) ++ fields_text n
+node_text first n = (when first then [] else code " " ∷ []) ++ decimal (pos n.kind) ++ fields_text n
 
 -- nodes, of which the first may be the first of all
 unfoldable pub nodes_text : Bool → List Node → List ℕ
@@ -140,11 +140,11 @@ line_text mode line from = of_text line from 1024 (λ text. answer_line mode tex
 -- the answer to a question with a name, whose items begin at a place of the line
 unfoldable pub named_text : List ℕ → List ℕ → ℕ → List ℕ
 named_text name line from =
-    if same name (utf8 "parse") then template_text line from
-    else if same name (utf8 "parts_line") then line_text mode.Parts line from
-    else if same name (utf8 "instant_line") then line_text mode.Instant line from
-    else if same name (utf8 "date_line") then line_text mode.Date line from
-    else if same name (utf8 "write_line") then line_text mode.Write line from
+    when same name (utf8 "parse") then template_text line from
+    else when same name (utf8 "parts_line") then line_text mode.Parts line from
+    else when same name (utf8 "instant_line") then line_text mode.Instant line from
+    else when same name (utf8 "date_line") then line_text mode.Date line from
+    else when same name (utf8 "write_line") then line_text mode.Write line from
     else values_text (values_of name line from)
 
 -- the answer to a question: its name is before the first space

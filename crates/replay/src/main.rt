@@ -92,7 +92,13 @@ fn answer_lines(rt: &impl Print, text: &[u8], long: bool, out: &mut [u8], at: us
 }
 
 // Reads once and answers the lines that end there. At the end of the input no read is left.
-fn turn(rt: &impl Print, reader: &mut impl Read, input: &mut [u8], out: &mut [u8], s: State) -> State
+fn turn(
+    rt: &impl Print,
+    reader: &mut impl Read,
+    input: &mut [u8],
+    out: &mut [u8],
+    s: State,
+) -> State
     requires { (s.kept ≤ length input.old) × (s.at ≤ length out.old) × (0 < s.reads) }
     ensures { (result.kept ≤ length input.new) × (result.at ≤ length out.new) × (result.reads < s.reads) }
 {

@@ -3,7 +3,7 @@ use Rattle.std.specs.Prelude.{◌≡◌, refl, true, not, List, [], ◌∷◌, �
 use Rattle.base_settings.specs.Accents.{with_accents}
 use Rattle.base_settings.specs.Limits.{cards, limits-compute, pages, template_limit}
 use Rattle.base_settings.specs.declared.Settings.{Settings}
-use Rattle.base_notation.specs.Choice.{if◌then◌else◌}
+use Rattle.base_notation.specs.Choice.{when◌then◌else◌}
 use Rattle.base_notation.specs.Text.{encoded as encoded_char, utf8}
 use Rattle.base_chars.specs.Utf8.{sequence, well_formed, well_formed_after}
 use Rattle.template_nodes.specs.Examples.{nodes-compute}
@@ -17,8 +17,8 @@ compiled set t = encoded (nodes_by set.accents t)
 -- how many they are; -1 for a template over its limit, -2 for one that is not UTF-8
 unfoldable pub compiled_to : Settings → List ℕ → ℤ
 compiled_to set t =
-    if ltb (template_limit set) (length t) then negsuc 0
-    else if not (well_formed t) then negsuc 1
+    when ltb (template_limit set) (length t) then negsuc 0
+    else when not (well_formed t) then negsuc 1
     else pos (length (compiled set t))
 
 -- the bytes in front and every byte after them as it was; refused: the buffer as it was

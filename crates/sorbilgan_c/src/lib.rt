@@ -3,7 +3,7 @@
 #![tactic(auto)]
 
 ghost use Rattle.std.specs.Prelude.{◌≡◌};
-ghost use Rattle.base_notation.specs.Choice.{if◌then◌else◌};
+ghost use Rattle.base_notation.specs.Choice.{when◌then◌else◌};
 ghost use Rattle.base_settings.specs.Bits.{settings_of};
 ghost use Rattle.base_settings.specs.Limits.{pages};
 ghost use Rattle.moment_instants.specs.ByTemplate.{date_of, day_by, instant_by, timestamp_of};
@@ -240,7 +240,7 @@ pub extern "C" fn sorbilgan_write_by_with(
 // 1 where a mark counts alone in a compiled template, else 0.
 #[unsafe(no_mangle)]
 pub extern "C" fn sorbilgan_has_lone_mark(nodes: &[u8], t: &[u8]) -> u8
-    ensures { result ≡ (if has_lone_mark t.now (nodes_in nodes.now) then 1 else 0) }
+    ensures { result ≡ (when has_lone_mark t.now (nodes_in nodes.now) then 1 else 0) }
 {
     sorbilgan::sorbilgan_has_lone_mark(nodes, t)
 }

@@ -15,7 +15,7 @@ use borrow.Author.Tests.{eqb-true, lt-ltb, le-ltb, ltb-true, ltb-false}
 use lib.Dec.{eqb, ltb}
 use lib.ListN.{length, drop, take, length-append, length-drop, take-append-drop, drop_of_length-le}
 use lib.Seq.{slice, drop-cons, drop-drop, get_or-drop, get_or-take, length-take-le, drop-append_seam, take-append-add, take-append_seam}
-use Rattle.base_notation.specs.Choice.{if◌then◌else◌}
+use Rattle.base_notation.specs.Choice.{when◌then◌else◌}
 use Rattle.base_notation.specs.Text.{byte_at}
 use Rattle.base_notation.proofs.Bytes.{byte-within}
 use Rattle.base_notation.proofs.Cases.{both, by-if}
@@ -87,7 +87,7 @@ module _ (accents : Bool) (t : List ℕ) where
 
   -- the literal at p
   abbrev literal_step : Bool → ℕ → Step
-  literal_step quoted p = char_at accents t p (if quoted then character else kind_of (byte_at t p)) quoted
+  literal_step quoted p = char_at accents t p (when quoted then character else kind_of (byte_at t p)) quoted
 
   char-taken : (at : ℕ) (quoted : Bool) → eqb (byte_at t at) quote ≡ false → escapes t at quoted ≡ false → Character accents t at → Taken at quoted (literal_step quoted at)
   char-taken at quoted n e char =
@@ -112,7 +112,7 @@ module _ (accents : Bool) (t : List ℕ) where
       }
 
   -- after a backslash that escapes there is a character
-  one_more : (at : ℕ) (quoted : Bool) → (if quoted then ltb (at + 1) (length t) else eqb (byte_at t (at + 1)) quote) ≡ true → at + 1 < length t
+  one_more : (at : ℕ) (quoted : Bool) → (when quoted then ltb (at + 1) (length t) else eqb (byte_at t (at + 1)) quote) ≡ true → at + 1 < length t
   one_more at true e = ltb-true _ _ e
   one_more at false e = byte-within t (at + 1) (λ z. omega (arith, eqb-true (byte_at t (at + 1)) quote e))
 
@@ -221,11 +221,11 @@ further : (t before c after : List ℕ) (at : ℕ) → t ≡ before ++ (c ++ aft
 further t before c after at e l = (e ∙ sym (append_assoc before c after), length-append before c ∙ rw l)
 
 -- a literal is no pattern
-pub no-pattern : (quoted : Bool) (b : ℕ) → (if quoted then character else kind_of b) ≡ action → ⊥
+pub no-pattern : (quoted : Bool) (b : ℕ) → (when quoted then character else kind_of b) ≡ action → ⊥
 unfolding kind_of
 no-pattern true b e = omega (arith, e)
 no-pattern false b e =
-    by-if (λ (k : ℕ). k ≡ action → ⊥) (is_separator b) separator (if is_space b then space else character) (λ p q. omega (arith, q))
+    by-if (λ (k : ℕ). k ≡ action → ⊥) (is_separator b) separator (when is_space b then space else character) (λ p q. omega (arith, q))
     (λ p. by-if (λ (k : ℕ). k ≡ action → ⊥) (is_space b) space character (λ p q. omega (arith, q)) (λ p q. omega (arith, q))) e
 
 in_order : {accents quoted : Bool} {at : ℕ} {rest : List ℕ} {ns : List Node} → Covers accents quoted at rest ns → (t before : List ℕ) → t ≡ before ++ rest → length before ≡ at → InOrder t at ns

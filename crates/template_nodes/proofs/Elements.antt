@@ -9,7 +9,7 @@ use native.Mathlib.Omega.{arith}
 use borrow.Author.Tests.{lt-ltb, ltb-true, ltb-false}
 use lib.Dec.{ltb}
 use lib.ListN.{length}
-use Rattle.base_notation.specs.Choice.{if◌then◌else◌}
+use Rattle.base_notation.specs.Choice.{when◌then◌else◌}
 use Rattle.template_patterns.specs.Affixes.{affix_length, bit_at}
 use Rattle.template_patterns.specs.Search.{pattern_at}
 use Rattle.template_patterns.specs.declared.Found.{Found}
@@ -24,7 +24,7 @@ abbrev pub pattern_step : Bool → Bool → Element → Step
 pattern_step accents quoted e = make (in_mode accents (pattern e.start e.len e.number e.bits)) e.next quoted
 
 abbrev pub step_of : Bool → List ℕ → Bool → Element → Step
-step_of accents t quoted e = if e.found then pattern_step accents quoted e else rest_at accents t e.next quoted
+step_of accents t quoted e = when e.found then pattern_step accents quoted e else rest_at accents t e.next quoted
 
 -- a step that goes on from p, and takes a byte unless that is the end, goes on from before it
 pub goes_on : (size at p next : ℕ) → at < size → at ≤ p → p ≤ next → (p < size → p < next) → at < next
@@ -44,7 +44,7 @@ module _ (accents : Bool) (t : List ℕ) (at : ℕ) (h : at < length t) where
       start = at + affix_length (bit_at true t at)
 
       by : (q : Bool) → ltb start (length t) ≡ q → (f : Found)
-          → step_of accents t false (if q then element_in f t start (bit_at true t at) else nowhere start) ≡ (if q then element_of accents f t start (bit_at true t at) else skip start false)
+          → step_of accents t false (when q then element_in f t start (bit_at true t at) else nowhere start) ≡ (when q then element_of accents f t start (bit_at true t at) else skip start false)
       by true e (Pattern k n) = refl
       by true e Nothing = rw e
       by false e f = rw e

@@ -13,7 +13,7 @@ use borrow.Author.Tests.{le-leb, lt-leb}
 use lib.Dec.{leb}
 use lib.ListN.{length, take, drop, get_or, set, length-append, length-drop}
 use lib.Seq.{drop-drop, get_or-drop, sets, sets-eq, take_at, drop_at}
-use Rattle.base_notation.specs.Choice.{if◌then◌else◌}
+use Rattle.base_notation.specs.Choice.{when◌then◌else◌}
 use Rattle.base_notation.specs.Text.{byte_at}
 use Rattle.template_nodes.specs.Bytes.{Parsed, bytes_of, encoded, mode_bit, node_from, nodes_to, nodes_in}
 use Rattle.template_nodes.specs.Template.{end_node}
@@ -43,11 +43,11 @@ len-back : (k : ℕ) → k / 256 * 256 + k % 256 ≡ k
 len-back k = omega arith
 
 module _ (k : ℕ) (small : k < mode_bit) where
-  suffix-back : (b : Bool) → (k % mode_bit + (if b then mode_bit else 0)) % mode_bit ≡ k
+  suffix-back : (b : Bool) → (k % mode_bit + (when b then mode_bit else 0)) % mode_bit ≡ k
   suffix-back true = omega arith
   suffix-back false = omega arith
 
-  mode-back : (b : Bool) → leb mode_bit (k % mode_bit + (if b then mode_bit else 0)) ≡ b
+  mode-back : (b : Bool) → leb mode_bit (k % mode_bit + (when b then mode_bit else 0)) ≡ b
   mode-back true = le-leb mode_bit (k % mode_bit + mode_bit) (omega arith)
   mode-back false = lt-leb mode_bit (k % mode_bit + 0) (omega arith)
 

@@ -14,7 +14,7 @@ use native.Mathlib.Omega.{arith}
 use borrow.Author.Tests.{eqb-true, eq-eqb, le-ltb, lt-ltb, ltb-true, ltb-false, ne_eqb, not-true}
 use lib.Dec.{eqb, ltb}
 use lib.ListN.{length, drop}
-use Rattle.base_notation.specs.Choice.{if◌then◌else◌}
+use Rattle.base_notation.specs.Choice.{when◌then◌else◌}
 use Rattle.base_notation.specs.Text.{byte_at}
 use Rattle.base_notation.proofs.Cases.{both, by-if}
 use Rattle.base_accents.specs.Accents.{letter_at, mark_at, marks, measure_of}
@@ -53,8 +53,8 @@ module _ (t : List ℕ) where
   unfolding literal_at
   literal-pair at quoted =
       let p = char_place t at quoted in
-      let kind : ℕ = if quoted then character else kind_of (byte_at t p) in
-      (elim (eqb (byte_at t at) quote) as (λ c. Pair (if c then skip (at + 1) (not quoted) else char_at true t p kind quoted) (if c then skip (at + 1) (not quoted) else char_at false t p kind quoted)) [
+      let kind : ℕ = when quoted then character else kind_of (byte_at t p) in
+      (elim (eqb (byte_at t at) quote) as (λ c. Pair (when c then skip (at + 1) (not quoted) else char_at true t p kind quoted) (when c then skip (at + 1) (not quoted) else char_at false t p kind quoted)) [
         | true ↦ no_node (at + 1) (not quoted)
         | false ↦ char-pair p kind quoted (ne_eqb kind action (no-pattern quoted (byte_at t p)))
       ])
@@ -69,7 +69,7 @@ module _ (t : List ℕ) where
       let prefix = bit_at true t at in
       let start = at + affix_length prefix in
       let e : Bool → Step = λ accents. element_of accents (pattern_at t start) t start prefix in
-      (elim (ltb start (length t)) as (λ c. Pair (if c then e true else skip start false) (if c then e false else skip start false)) [
+      (elim (ltb start (length t)) as (λ c. Pair (when c then e true else skip start false) (when c then e false else skip start false)) [
         | true ↦ element-pair start prefix (pattern_at t start)
         | false ↦ no_node start false
       ])
@@ -221,7 +221,7 @@ module _ {A : Type 0} (f : List Node → A) (k : Kept f) where
   unfolding joined_to
   kept-joined t m [] = refl
   kept-joined t m (n ∷ ns) =
-      (elim (is_letter t m && (is_mark t n && follows m n)) as (λ c. (is_letter t m && (is_mark t n && follows m n)) ≡ c → f (if c then joined_to t (longer m n.len) ns else m ∷ joined_to t n ns) ≡ f (m ∷ n ∷ ns)) [
+      (elim (is_letter t m && (is_mark t n && follows m n)) as (λ c. (is_letter t m && (is_mark t n && follows m n)) ≡ c → f (when c then joined_to t (longer m n.len) ns else m ∷ joined_to t n ns) ≡ f (m ∷ n ∷ ns)) [
         | true ↦ λ c.
             let first = both (is_letter t m) _ c in
             let others = both (is_mark t n) _ first.1 in

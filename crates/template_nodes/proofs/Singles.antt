@@ -12,7 +12,7 @@ use borrow.Author.Tests.{eqb-true, le-ltb, lt-ltb, ltb-true, ltb-false, ne_eqb, 
 use lib.Dec.{eqb, leb, ltb}
 use lib.ListN.{length, replicate}
 use Rattle.base_notation.proofs.Table.{all_from, entry}
-use Rattle.base_notation.specs.Choice.{if◌then◌else◌}
+use Rattle.base_notation.specs.Choice.{when◌then◌else◌}
 use Rattle.base_notation.specs.Text.{byte_at}
 use Rattle.base_accents.specs.Accents.{measure_of}
 use Rattle.base_accents.proofs.Measures.{plain-one}
@@ -64,9 +64,9 @@ module _ (b : ℕ) (e : is_single b ≡ true) where
   unfolding class_of
   no-backslash = not-true (eqb b 92) (of-singles (λ (b : ℕ). not (eqb b 92)) refl b e)
 
-  pub single-kind : kind_of b ≡ (if leb b 32 then space else separator)
+  pub single-kind : kind_of b ≡ (when leb b 32 then space else separator)
   unfolding kind_of class_of
-  single-kind = eqb-true _ _ (of-singles (λ (b : ℕ). eqb (kind_of b) (if leb b 32 then space else separator)) refl b e)
+  single-kind = eqb-true _ _ (of-singles (λ (b : ℕ). eqb (kind_of b) (when leb b 32 then space else separator)) refl b e)
 
 -- every name begins with a letter
 head-letter : (k : ℕ) → k < 112 → is_letter (head k) ≡ true

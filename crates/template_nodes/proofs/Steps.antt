@@ -5,7 +5,7 @@ use mathlib.Core.Bool.{Bool, not}
 use mathlib.Core.List.{List}
 use Prim.Native.Nat.{ℕ, ◌+◌}
 use borrow.Author.Tests.{ne_eqb}
-use Rattle.base_notation.specs.Choice.{if◌then◌else◌}
+use Rattle.base_notation.specs.Choice.{when◌then◌else◌}
 use Rattle.base_notation.specs.Text.{byte_at}
 use Rattle.template_nodes.specs.Template.{character, char_at, char_place, kind_of, literal_at, skip}
 
@@ -15,6 +15,6 @@ module _ (accents : Bool) (t : List ℕ) (at : ℕ) (quoted : Bool) where
   at-quote e = rw e
 
   pub at_literal : (byte_at t at ≡ 34 → ⊥) → (p : ℕ) → p ≡ char_place t at quoted
-      → literal_at accents t at quoted ≡ char_at accents t p (if quoted then character else kind_of (byte_at t p)) quoted
+      → literal_at accents t at quoted ≡ char_at accents t p (when quoted then character else kind_of (byte_at t p)) quoted
   unfolding literal_at
   at_literal n p e = rw (ne_eqb _ _ n, e)

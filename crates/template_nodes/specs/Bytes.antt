@@ -1,7 +1,7 @@
 -- Nodes as bytes: a compiled template is lent as the bytes of its nodes, six each.
 use Rattle.std.specs.Prelude.{◌≡◌, refl, true, List, [], ◌∷◌, ◌++◌, ℕ, zero, suc, ◌+◌, ◌*◌, ◌/◌, ◌%◌, ◌≤◌, leb, length, drop}
 use Rattle.std.proofs.lemmas.List.Edits.{sets}
-use Rattle.base_notation.specs.Choice.{if◌then◌else◌}
+use Rattle.base_notation.specs.Choice.{when◌then◌else◌}
 use Rattle.base_notation.specs.Text.{byte_at}
 use Rattle.template_nodes.specs.Template.{character, in_mode, literal, pattern}
 use Rattle.template_nodes.specs.declared.Node.{Node}
@@ -14,7 +14,7 @@ mode_bit = 128
 -- its start, its length, the high byte first, its kind, pattern, and suffix with the mode
 abbrev pub bytes_of : Node → List ℕ
 bytes_of n =
-    n.start ∷ n.len / 256 ∷ n.len % 256 ∷ n.kind ∷ n.pattern ∷ (n.suffix % mode_bit + (if n.accents then mode_bit else 0)) ∷ []
+    n.start ∷ n.len / 256 ∷ n.len % 256 ∷ n.kind ∷ n.pattern ∷ (n.suffix % mode_bit + (when n.accents then mode_bit else 0)) ∷ []
 
 unfoldable pub encoded : List Node → List ℕ
 encoded [] = []
@@ -50,8 +50,8 @@ pub record Parsed (ns : List Node) (before after : List ℕ) (r : ℕ) : Type 0 
 
 -- the buffer with the node of a step put as number i, if the step made one; r is how many nodes there are then
 pub record Put (s : Step) (before after : List ℕ) (i r : ℕ) : Type 0 where
-  pub is : after ≡ (if s.made then sets before (6 * i) (bytes_of s.node) else before)
-  pub count : r ≡ (if s.made then i + 1 else i)
+  pub is : after ≡ (when s.made then sets before (6 * i) (bytes_of s.node) else before)
+  pub count : r ≡ (when s.made then i + 1 else i)
 
 -- two nodes, and five bytes over
 pub worked : nodes_in (encoded (pattern 0 4 54 1 ∷ literal character 200 2 ∷ []) ++ 7 ∷ 7 ∷ 7 ∷ 7 ∷ 7 ∷ []) ≡ pattern 0 4 54 1 ∷ literal character 200 2 ∷ []

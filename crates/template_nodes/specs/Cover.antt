@@ -4,7 +4,7 @@ use Rattle.std.specs.Prelude.{◌≡◌, refl, Bool, true, false, not, List, [],
 use Rattle.std.proofs.Common.{arith}
 use Rattle.std.specs.Int.Bits.{bit_or}
 use Rattle.std.proofs.Math.Seq.{slice}
-use Rattle.base_notation.specs.Choice.{if◌then◌else◌}
+use Rattle.base_notation.specs.Choice.{when◌then◌else◌}
 use Rattle.base_notation.specs.Text.{byte_at, utf8}
 use Rattle.base_accents.specs.Accents.{measure_of, measure-computes}
 use Rattle.template_patterns.specs.Affixes.{affix_length, bit_at}
@@ -23,7 +23,7 @@ pub record IsCharacter (accents : Bool) (c t : List ℕ) : Type 0 where
 
 -- the node of a character at a place: in quotes a plain character, outside of the kind of its first byte
 abbrev pub literal_node : Bool → Bool → ℕ → List ℕ → Node
-literal_node accents quoted at c = in_mode accents (literal (if quoted then character else kind_of (byte_at c 0)) at (length c))
+literal_node accents quoted at c = in_mode accents (literal (when quoted then character else kind_of (byte_at c 0)) at (length c))
 
 -- the node of a pattern between a prefix and a suffix, each of which may be empty
 abbrev pub pattern_node : Bool → ℕ → List ℕ → ℕ → List ℕ → Node

@@ -1,7 +1,7 @@
 -- What is at a place outside quotes, as the compiler looks for it: a pattern first, and then a literal.
 use Rattle.std.specs.Prelude.{◌≡◌, refl, Bool, true, false, List, ℕ, ◌+◌, ◌<◌, ◌≤◌, ltb, length}
 use Rattle.std.specs.Int.Bits.{bit_or}
-use Rattle.base_notation.specs.Choice.{if◌then◌else◌}
+use Rattle.base_notation.specs.Choice.{when◌then◌else◌}
 use Rattle.base_notation.specs.Text.{utf8}
 use Rattle.template_patterns.specs.Affixes.{affix_length, bit_at}
 use Rattle.template_patterns.specs.Search.{pattern_at}
@@ -29,10 +29,10 @@ element_in Nothing t at prefix = nowhere at
 -- outside quotes a prefix, if there is one, and the pattern after it; in quotes there is no pattern
 abbrev pub element_from : List ℕ → ℕ → Bool → Element
 element_from t at quoted =
-    if quoted then nowhere at
+    when quoted then nowhere at
     else (let prefix = bit_at true t at in
     let start = at + affix_length prefix in
-    if ltb start (length t) then element_in (pattern_at t start) t start prefix else nowhere start)
+    when ltb start (length t) then element_in (pattern_at t start) t start prefix else nowhere start)
 
 -- r is the element e from a place on; a pattern takes at least one byte
 pub record Made (at : ℕ) (e r : Element) : Type 0 where
@@ -42,7 +42,7 @@ pub record Made (at : ℕ) (e r : Element) : Type 0 where
 
 -- a literal, or nothing at the end
 abbrev pub rest_at : Bool → List ℕ → ℕ → Bool → Step
-rest_at accents t at quoted = if ltb at (length t) then literal_at accents t at quoted else skip at quoted
+rest_at accents t at quoted = when ltb at (length t) then literal_at accents t at quoted else skip at quoted
 
 -- r is the step s from a place on, which takes at least one byte before the end
 pub record Rested (size at : ℕ) (s r : Step) : Type 0 where

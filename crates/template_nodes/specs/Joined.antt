@@ -1,6 +1,6 @@
 -- The accents mode by what comes before: a mark right after a letter counts with the letter, any other counts alone.
 use Rattle.std.specs.Prelude.{◌≡◌, refl, Bool, true, false, not, ◌&&◌, ◌||◌, List, [], ◌∷◌, ◌++◌, map, ℕ, ◌+◌, eqb}
-use Rattle.base_notation.specs.Choice.{if◌then◌else◌}
+use Rattle.base_notation.specs.Choice.{when◌then◌else◌}
 use Rattle.base_notation.specs.Text.{encoded, utf8}
 use Rattle.base_accents.specs.Accents.{letter_at, mark_at}
 use Rattle.template_nodes.specs.Examples.{nodes-compute}
@@ -28,7 +28,7 @@ longer m more =
 unfoldable pub joined_to : List ℕ → Node → List Node → List Node
 joined_to t m [] = m ∷ []
 joined_to t m (n ∷ ns) =
-    if is_letter t m && (is_mark t n && follows m n) then joined_to t (longer m n.len) ns else m ∷ joined_to t n ns
+    when is_letter t m && (is_mark t n && follows m n) then joined_to t (longer m n.len) ns else m ∷ joined_to t n ns
 
 abbrev pub joined : List ℕ → List Node → List Node
 joined t [] = []

@@ -3,7 +3,7 @@
 use Rattle.std.specs.Prelude.{◌≡◌, Bool, true, false, not, ◌&&◌, ◌||◌, List, [], ◌∷◌, ◌++◌, ℕ, zero, suc, ◌+◌, ◌<◌, ◌≤◌, eqb, ltb, length}
 use Prim.Native.Char.{code}
 use Rattle.std.specs.Int.Bits.{bit_or}
-use Rattle.base_notation.specs.Choice.{if◌then◌else◌}
+use Rattle.base_notation.specs.Choice.{when◌then◌else◌}
 use Rattle.base_notation.specs.Text.{byte_at}
 use Rattle.base_chars.specs.Class.{is_separator, is_space}
 use Rattle.base_accents.specs.Accents.{measure_of}
@@ -38,7 +38,7 @@ backslash = code "\\"
 
 -- the kind of a character outside quotes, by its first byte
 unfoldable pub kind_of : ℕ → ℕ
-kind_of b = if is_separator b then separator else if is_space b then space else character
+kind_of b = when is_separator b then separator else when is_space b then space else character
 
 -- a literal character of a kind
 abbrev pub literal : ℕ → ℕ → ℕ → Node
@@ -73,7 +73,7 @@ char_at accents t at kind quoted =
 -- a backslash at a place makes the next character plain: in quotes unless it is the last byte,
 -- outside quotes only before a quote
 abbrev pub escapes : List ℕ → ℕ → Bool → Bool
-escapes t at quoted = eqb (byte_at t at) backslash && (if quoted then ltb (at + 1) (length t) else eqb (byte_at t (at + 1)) quote)
+escapes t at quoted = eqb (byte_at t at) backslash && (when quoted then ltb (at + 1) (length t) else eqb (byte_at t (at + 1)) quote)
 
 -- a character in quotes that neither ends them nor makes the next one plain
 abbrev pub is_quoted_char : List ℕ → ℕ → Bool → Bool
@@ -85,7 +85,7 @@ is_single b = ltb b 64 && ((is_space b || is_separator b) && not (eqb b quote))
 
 -- where the literal character is
 unfoldable pub char_place : List ℕ → ℕ → Bool → ℕ
-char_place t at quoted = if escapes t at quoted then at + 1 else at
+char_place t at quoted = when escapes t at quoted then at + 1 else at
 
 -- r is that place, within the template
 pub record Placed (t : List ℕ) (at : ℕ) (quoted : Bool) (r : ℕ) : Type 0 where
@@ -97,8 +97,8 @@ pub record Placed (t : List ℕ) (at : ℕ) (quoted : Bool) (r : ℕ) : Type 0 w
 -- a quote begins or ends a quoted text; any other character is a node, in quotes a plain character
 unfoldable pub literal_at : Bool → List ℕ → ℕ → Bool → Step
 literal_at accents t at quoted =
-    if eqb (byte_at t at) quote then skip (at + 1) (not quoted)
-    else let place = char_place t at quoted in char_at accents t place (if quoted then character else kind_of (byte_at t place)) quoted
+    when eqb (byte_at t at) quote then skip (at + 1) (not quoted)
+    else let place = char_place t at quoted in char_at accents t place (when quoted then character else kind_of (byte_at t place)) quoted
 
 -- a pattern's name at a place, and the suffix after it
 abbrev pub action_at : Bool → List ℕ → ℕ → ℕ → ℕ → ℕ → Step
@@ -119,10 +119,10 @@ unfoldable pub plain_at : Bool → List ℕ → ℕ → Step
 plain_at accents t at =
     let prefix = bit_at true t at in
     let start = at + affix_length prefix in
-    if ltb start (length t) then element_at accents t start prefix else skip start false
+    when ltb start (length t) then element_at accents t start prefix else skip start false
 
 unfoldable pub step_at : Bool → List ℕ → ℕ → Bool → Step
-step_at accents t at quoted = if quoted then literal_at accents t at true else plain_at accents t at
+step_at accents t at quoted = when quoted then literal_at accents t at true else plain_at accents t at
 
 -- r is the step s from at on; it takes at least one byte
 pub record Stepped (at : ℕ) (s r : Step) : Type 0 where
@@ -130,13 +130,13 @@ pub record Stepped (at : ℕ) (s r : Step) : Type 0 where
   pub on : at < r.next
 
 abbrev pub made_by : Step → List Node
-made_by s = if s.made then s.node ∷ [] else []
+made_by s = when s.made then s.node ∷ [] else []
 
 -- the nodes from a place on, in at most fuel steps
 unfoldable pub nodes_from : Bool → ℕ → List ℕ → ℕ → Bool → List Node
 nodes_from accents zero t at quoted = []
 nodes_from accents (suc fuel) t at quoted =
-    if ltb at (length t)
+    when ltb at (length t)
     then (let s = step_at accents t at quoted in made_by s ++ nodes_from accents fuel t s.next s.quoted)
     else []
 

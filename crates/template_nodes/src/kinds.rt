@@ -1,6 +1,6 @@
 // The kind of a literal by its first byte.
 ghost use Rattle.std.specs.Prelude.{◌≡◌, true, not, ◌&&◌, ◌<◌, length};
-ghost use Rattle.base_notation.specs.Choice.{if◌then◌else◌};
+ghost use Rattle.base_notation.specs.Choice.{when◌then◌else◌};
 ghost use Rattle.base_notation.specs.Text.{byte_at};
 ghost use Rattle.template_nodes.specs.Template.{character, is_single, kind_of};
 
@@ -20,7 +20,7 @@ pub fn kind_of(b: u8) -> u8
 
 // The kind of a literal: in quotes a plain character, outside by its first byte.
 pub fn literal_kind(quoted: bool, b: u8) -> u8
-    ensures { result ≡ (if quoted then character else kind_of b) }
+    ensures { result ≡ (when quoted then character else kind_of b) }
 {
     if quoted {
         return FN_CHAR;

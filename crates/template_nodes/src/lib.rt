@@ -5,7 +5,7 @@ mod kinds;
 mod marks;
 
 ghost use Rattle.std.specs.Prelude.{◌≡◌, ◌+◌, ◌*◌, ◌/◌, ◌%◌, ◌<◌, ◌≤◌, true, false, [], ◌∷◌, length, get_or};
-ghost use Rattle.base_notation.specs.Choice.{if◌then◌else◌};
+ghost use Rattle.base_notation.specs.Choice.{when◌then◌else◌};
 ghost use Rattle.std.proofs.lemmas.List.Edits.{sets};
 ghost use Rattle.template_patterns.specs.Affixes.{affix_length};
 ghost use Rattle.template_patterns.specs.Search.{pattern_at};
@@ -238,7 +238,7 @@ fn is_quoted_char(t: &[u8], at: usize, quoted: bool) -> bool
 
 // The last byte of a node: the bits of its prefix and suffix, and that of its mode.
 fn last_byte(suffix: u8, accents: bool) -> u8
-    ensures { result ≡ suffix % mode_bit + (if accents then mode_bit else 0) }
+    ensures { result ≡ suffix % mode_bit + (when accents then mode_bit else 0) }
 {
     let bits = suffix % MODE;
     if accents { bits + MODE } else { bits }

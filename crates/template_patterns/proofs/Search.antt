@@ -17,7 +17,7 @@ use lib.ListN.{length, get_or, drop, length-drop}
 use lib.Seq.{drop-cons, drop-length, get_or-drop}
 use Rattle.base_notation.proofs.Cases.{both}
 use Rattle.base_notation.proofs.Table.{all_from, entry}
-use Rattle.base_notation.specs.Choice.{if◌then◌else◌}
+use Rattle.base_notation.specs.Choice.{when◌then◌else◌}
 use Rattle.base_notation.specs.Text.{byte_at}
 use Rattle.template_patterns.specs.Patterns.{names, name_of}
 use Rattle.template_patterns.specs.Search.{matches_at, first_at, first_with, pattern_at, start_of}
@@ -37,7 +37,7 @@ first-is [] k c =
     record { from = omega arith; to = omega arith; own = λ i h l. absurd (not-suc-le-zero l); others = λ i h. absurd (omega (arith, h)) }
 first-is (n ∷ ns) k c = split (eqb (byte_at n 0) c) refl (first-is ns (suc k) c)
   where
-    split : (b : Bool) → eqb (byte_at n 0) c ≡ b → First (suc k) c ns (first_with (suc k) c ns) → First k c (n ∷ ns) (if b then k else first_with (suc k) c ns)
+    split : (b : Bool) → eqb (byte_at n 0) c ≡ b → First (suc k) c ns (first_with (suc k) c ns) → First k c (n ∷ ns) (when b then k else first_with (suc k) c ns)
     split true q f =
         record {
           from = omega arith;

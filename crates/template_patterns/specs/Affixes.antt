@@ -2,7 +2,7 @@
 use Rattle.std.specs.Prelude.{◌≡◌, refl, Bool, true, false, ◌&&◌, List, [], ◌∷◌, ℕ, eqb}
 use Rattle.std.specs.Bool.{beq}
 use Prim.Native.String.{String}
-use Rattle.base_notation.specs.Choice.{if◌then◌else◌}
+use Rattle.base_notation.specs.Choice.{when◌then◌else◌}
 use Rattle.base_notation.specs.Text.{utf8}
 use Rattle.template_patterns.specs.Search.{matches_at}
 
@@ -35,7 +35,7 @@ affixes =
 abbrev pub bit_from : List Affix → Bool → List ℕ → ℕ → ℕ
 bit_from [] wanted t at = 0
 bit_from (a ∷ rest) wanted t at =
-    if beq a.is_prefix wanted && matches_at a.name t at then a.bit else bit_from rest wanted t at
+    when beq a.is_prefix wanted && matches_at a.name t at then a.bit else bit_from rest wanted t at
 
 -- the bit of the prefix or suffix at a place of a template
 unfoldable pub bit_at : Bool → List ℕ → ℕ → ℕ
@@ -43,7 +43,7 @@ bit_at wanted t at = bit_from affixes wanted t at
 
 -- the letters of the affix with a bit: each has two
 abbrev pub affix_length : ℕ → ℕ
-affix_length bit = if eqb bit 0 then 0 else 2
+affix_length bit = when eqb bit 0 then 0 else 2
 
 -- FM is a prefix of Month and th a suffix of DD; TH is no prefix
 pub worked : (bit_at true (utf8 "FMMonth") 0 ≡ 1) × (bit_at false (utf8 "DDth") 2 ≡ 4) × (bit_at true (utf8 "THDD") 0 ≡ 0)

@@ -1,7 +1,7 @@
 -- The case of a pattern, which is that of the letters it writes.
 use Rattle.std.specs.Prelude.{◌≡◌, refl, Bool, List, [], ◌∷◌, map, ℕ}
 use Prim.Native.Char.{code}
-use Rattle.base_notation.specs.Choice.{if◌then◌else◌}
+use Rattle.base_notation.specs.Choice.{when◌then◌else◌}
 use Rattle.base_notation.specs.Text.{byte_at, utf8}
 use Rattle.base_chars.specs.Range.{◌‥◌, ◌∈◌}
 use Rattle.template_patterns.specs.Patterns.{name_of}
@@ -14,7 +14,7 @@ is_small name i = byte_at name i ∈ code "a" ‥ code "z"
 
 -- small if the first byte is a small letter, title if the second is; else capitals
 abbrev pub case_in : List ℕ → Case
-case_in name = if is_small name 0 then Small else if is_small name 1 then Title else Capitals
+case_in name = when is_small name 0 then Small else when is_small name 1 then Title else Capitals
 
 -- the case of the pattern number k
 unfoldable pub case_of : ℕ → Case

@@ -1,6 +1,6 @@
 -- The pattern at a place of a template.
 use Rattle.std.specs.Prelude.{◌≡◌, refl, Bool, true, ◌&&◌, List, [], ◌∷◌, ℕ, zero, suc, ◌+◌, eqb, length}
-use Rattle.base_notation.specs.Choice.{if◌then◌else◌}
+use Rattle.base_notation.specs.Choice.{when◌then◌else◌}
 use Rattle.base_notation.specs.Text.{utf8, byte_at}
 use Rattle.template_patterns.specs.Patterns.{names}
 use Rattle.template_patterns.specs.Rows.{in_rows}
@@ -15,7 +15,7 @@ matches_at (c ∷ cs) t at = eqb (byte_at t at) c && matches_at cs t (at + 1)
 -- the first of the names that is there, with its number, counted from k, and its length
 abbrev pub first_at : ℕ → List (List ℕ) → List ℕ → ℕ → Found
 first_at k [] t at = Nothing
-first_at k (n ∷ ns) t at = if matches_at n t at then Pattern k (length n) else first_at (suc k) ns t at
+first_at k (n ∷ ns) t at = when matches_at n t at then Pattern k (length n) else first_at (suc k) ns t at
 
 -- the first pattern in table order whose name is at a place
 unfoldable pub pattern_at : List ℕ → ℕ → Found
@@ -24,7 +24,7 @@ pattern_at t at = first_at 0 names t at
 -- the number of the first name that begins with the byte c, counted from k; past the last if none does
 abbrev pub first_with : ℕ → ℕ → List (List ℕ) → ℕ
 first_with k c [] = k
-first_with k c (n ∷ ns) = if eqb (byte_at n 0) c then k else first_with (suc k) c ns
+first_with k c (n ∷ ns) = when eqb (byte_at n 0) c then k else first_with (suc k) c ns
 
 -- where the search for a pattern that begins with a byte starts
 unfoldable pub start_of : ℕ → ℕ
@@ -32,7 +32,7 @@ start_of c = first_with 0 c names
 
 -- the length of the name if it is at a place, else 0
 abbrev pub length_at : List ℕ → List ℕ → ℕ → ℕ
-length_at name t at = if matches_at name t at then length name else 0
+length_at name t at = when matches_at name t at then length name else 0
 
 -- the names in rows of five bytes, as long as the longest
 unfoldable pub name_table : List ℕ

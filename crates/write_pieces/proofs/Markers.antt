@@ -11,7 +11,7 @@ use native.Mathlib.Numerals.{add-one}
 use native.Mathlib.Omega.{arith}
 use lib.ListN.{length, set}
 use lib.Seq.{sets}
-use Rattle.base_notation.specs.Choice.{if◌then◌else◌}
+use Rattle.base_notation.specs.Choice.{when◌then◌else◌}
 use Rattle.template_patterns.specs.declared.Case.{Case}
 use Rattle.template_patterns.specs.declared.Case.TheVariants.{Capitals, Small, Title}
 use Rattle.write_pieces.specs.Words.{letter_in, marker_text}
@@ -23,7 +23,7 @@ dot Small = refl
 dot Title = refl
 
 module _ (case : Case) where
-  pub marker-size : (dotted morning : Bool) → length (marker_text case dotted morning) ≡ (if dotted then 4 else 2)
+  pub marker-size : (dotted morning : Bool) → length (marker_text case dotted morning) ≡ (when dotted then 4 else 2)
   marker-size true true = refl
   marker-size true false = refl
   marker-size false true = refl
@@ -35,7 +35,7 @@ module _ (case : Case) where
 
   -- the letter of the half of the day
   abbrev pub half : Bool → ℕ
-  half morning = letter_in case true (if morning then code "A" else code "P")
+  half morning = letter_in case true (when morning then code "A" else code "P")
 
   abbrev m : ℕ
   m = letter_in case false (code "M")

@@ -3,7 +3,7 @@
 use Rattle.std.specs.Prelude.{◌≡◌, refl, Bool, true, false, List, [], ◌∷◌, map, ℕ, ◌+◌, ◌*◌, ◌%◌, eqb, ltb, nat_abs, get_or}
 use Prim.Native.String.{String}
 use Rattle.calendar_gregorian.specs.IsoWeek.{weeks-compute, iso_week, iso_weekday, iso_year}
-use Rattle.base_notation.specs.Choice.{if◌then◌else◌}
+use Rattle.base_notation.specs.Choice.{when◌then◌else◌}
 use Rattle.base_notation.specs.Text.{utf8}
 use Rattle.calendar_gregorian.specs.Gregorian.{day_number, day_of_year}
 use Rattle.template_patterns.specs.Affixes.{bit_at}
@@ -106,7 +106,7 @@ rows =
 -- the piece of the first row that has the name
 abbrev pub piece_named : List ℕ → List Row → ℕ
 piece_named name [] = none
-piece_named name (r ∷ rs) = if among name r.names then r.piece else piece_named name rs
+piece_named name (r ∷ rs) = when among name r.names then r.piece else piece_named name rs
 
 -- the piece of a pattern, by its number
 unfoldable pub piece_of : ℕ → ℕ
@@ -121,7 +121,7 @@ width_of p = get_or widths p 0
 
 -- the prefix that a piece's pattern needs, by its bit: FM on the full name of a month, none on any other
 abbrev pub prefix_of : ℕ → ℕ
-prefix_of p = if eqb p month_name then 1 else 0
+prefix_of p = when eqb p month_name then 1 else 0
 
 -- the hour of the 12-hour clock: 12 for 0 and 12
 abbrev pub of12 : ℕ → ℕ
@@ -136,18 +136,18 @@ number_of p m =
     let h = nat_abs m.hour in
     let mi = nat_abs m.minute in
     let s = nat_abs m.second in
-    if eqb p year then y
-    else if eqb p month then mo
-    else if eqb p day then d
-    else if eqb p year_day then day_of_year y mo d
-    else if eqb p week_year then iso_year y mo d
-    else if eqb p week then iso_week y mo d
-    else if eqb p weekday then iso_weekday (day_number y mo d)
-    else if eqb p hour24 then h
-    else if eqb p hour12 then of12 h
-    else if eqb p minute then mi
-    else if eqb p second then s
-    else if eqb p day_second then h * 3600 + mi * 60 + s
+    when eqb p year then y
+    else when eqb p month then mo
+    else when eqb p day then d
+    else when eqb p year_day then day_of_year y mo d
+    else when eqb p week_year then iso_year y mo d
+    else when eqb p week then iso_week y mo d
+    else when eqb p weekday then iso_weekday (day_number y mo d)
+    else when eqb p hour24 then h
+    else when eqb p hour12 then of12 h
+    else when eqb p minute then mi
+    else when eqb p second then s
+    else when eqb p day_second then h * 3600 + mi * 60 + s
     else nat_abs m.micros
 
 -- the moment is before noon
@@ -157,10 +157,10 @@ is_morning m = ltb (nat_abs m.hour) 12
 -- the text of a piece in a case at a moment, a number filled with zeros
 unfoldable pub piece_text : ℕ → Case → Moment → List ℕ
 piece_text p case m =
-    if eqb p marker then marker_text case false (is_morning m)
-    else if eqb p dotted_marker then marker_text case true (is_morning m)
-    else if eqb p month_name then month_text case true (nat_abs m.month)
-    else if eqb p short_month then month_text case false (nat_abs m.month)
+    when eqb p marker then marker_text case false (is_morning m)
+    else when eqb p dotted_marker then marker_text case true (is_morning m)
+    else when eqb p month_name then month_text case true (nat_abs m.month)
+    else when eqb p short_month then month_text case false (nat_abs m.month)
     else decimal (width_of p) (number_of p m)
 
 -- yyyy is the year, and Month and mon are names of months; FF1 is not written

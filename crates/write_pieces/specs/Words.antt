@@ -1,6 +1,6 @@
 -- The words that are written: markers of the half of the day, and names of months, in the case of their pattern.
 use Rattle.std.specs.Prelude.{◌≡◌, refl, Bool, true, false, List, [], ◌∷◌, map, ℕ, ◌-◌, get_or}
-use Rattle.base_notation.specs.Choice.{if◌then◌else◌}
+use Rattle.base_notation.specs.Choice.{when◌then◌else◌}
 use Rattle.base_notation.specs.Text.{utf8}
 use Rattle.base_chars.specs.Fold.{folded, raised}
 use Rattle.template_patterns.specs.Words.{words_of}
@@ -12,7 +12,7 @@ use Rattle.template_patterns.specs.declared.tables.WordList.TheVariants.{MonthsF
 abbrev pub letter_in : Case → Bool → ℕ → ℕ
 letter_in Capitals first b = raised b
 letter_in Small first b = folded b
-letter_in Title first b = if first then raised b else folded b
+letter_in Title first b = when first then raised b else folded b
 
 -- a word in a case
 abbrev pub in_case : Case → List ℕ → List ℕ
@@ -23,11 +23,11 @@ in_case case (b ∷ w) = letter_in case true b ∷ map (letter_in case false) w
 abbrev pub marker_text : Case → Bool → Bool → List ℕ
 marker_text case dotted morning =
     in_case case
-    (if dotted then (if morning then utf8 "A.M." else utf8 "P.M.") else (if morning then utf8 "AM" else utf8 "PM"))
+    (when dotted then (when morning then utf8 "A.M." else utf8 "P.M.") else (when morning then utf8 "AM" else utf8 "PM"))
 
 -- the names of months, full or of three letters
 abbrev pub month_names : Bool → List (List ℕ)
-month_names full = words_of (if full then MonthsFull else MonthsAbbrev)
+month_names full = words_of (when full then MonthsFull else MonthsAbbrev)
 
 -- the name of a month from 1 to 12 in a case
 abbrev pub month_text : Case → Bool → ℕ → List ℕ

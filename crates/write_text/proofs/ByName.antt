@@ -7,7 +7,7 @@ use Prim.Native.Nat.{ℕ, ◌-◌}
 use Prim.Native.String.{String}
 use lib.IntN.{nat_abs}
 use lib.ListN.{get_or, get_or-map}
-use Rattle.base_notation.specs.Choice.{if◌then◌else◌}
+use Rattle.base_notation.specs.Choice.{when◌then◌else◌}
 use Rattle.base_notation.specs.Text.{utf8}
 use Rattle.template_nodes.specs.Template.{action}
 use Rattle.template_nodes.specs.declared.Node.{Node}
@@ -23,13 +23,13 @@ use Rattle.write_text.specs.Text.{node_text}
 use Rattle.write_text.proofs.Lengths.{action-text}
 
 -- the text of a name's piece
-month-piece : (case : Case) (full : Bool) (m : Moment) → piece_text (if full then month_name else short_month) case m ≡ month_text case full (nat_abs m.month)
+month-piece : (case : Case) (full : Bool) (m : Moment) → piece_text (when full then month_name else short_month) case m ≡ month_text case full (nat_abs m.month)
 unfolding piece_text
 month-piece case true m = refl
 month-piece case false m = refl
 
 -- the names by their pattern's name
-own : (name : String) (case : Case) (full : Bool) → case_in (utf8 name) ≡ case → piece_named (utf8 name) rows ≡ (if full then month_name else short_month)
+own : (name : String) (case : Case) (full : Bool) → case_in (utf8 name) ≡ case → piece_named (utf8 name) rows ≡ (when full then month_name else short_month)
     → (t : List ℕ) (m : Moment) (n : Node) → n.kind ≡ action → name_of n.pattern ≡ utf8 name
     → node_text t m n ≡ get_or (map (in_case case) (month_names full)) (nat_abs m.month - 1) []
 unfolding case_of piece_of

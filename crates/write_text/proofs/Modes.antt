@@ -8,7 +8,7 @@ use Prim.Native.Nat.{ℕ, ◌+◌}
 use lib.Dec.{eqb}
 use lib.ListN.{take, drop}
 use lib.Seq.{drop-drop, take-add}
-use Rattle.base_notation.specs.Choice.{if◌then◌else◌}
+use Rattle.base_notation.specs.Choice.{when◌then◌else◌}
 use Rattle.template_nodes.specs.Joined.{longer}
 use Rattle.template_nodes.specs.Template.{action, nodes_by, nodes_of}
 use Rattle.template_nodes.specs.declared.Node.{Node}

@@ -3,7 +3,7 @@
 use mathlib.Core.Path.{◌≡◌, ◌∙◌, refl}
 use mathlib.Core.Bool.{Bool, true, false}
 use Prim.Native.String.{String}
-use Rattle.base_notation.specs.Choice.{if◌then◌else◌}
+use Rattle.base_notation.specs.Choice.{when◌then◌else◌}
 use Rattle.base_notation.specs.Text.{utf8}
 use Rattle.template_patterns.specs.Cases.{case_in, case_of}
 use Rattle.template_patterns.specs.declared.Case.{Case}
@@ -15,19 +15,19 @@ use Rattle.write_text.specs.OwnCase.{OwnCase, Writes}
 use Rattle.write_text.proofs.Lengths.{action-text}
 
 -- the text of a marker's piece
-marker-piece : (case : Case) (dotted : Bool) (m : Moment) → piece_text (if dotted then dotted_marker else marker) case m ≡ marker_text case dotted (is_morning m)
+marker-piece : (case : Case) (dotted : Bool) (m : Moment) → piece_text (when dotted then dotted_marker else marker) case m ≡ marker_text case dotted (is_morning m)
 unfolding piece_text
 marker-piece case true m = refl
 marker-piece case false m = refl
 
 -- a marker by its name
-own : (name early late : String) (case : Case) (dotted : Bool) → case_in (utf8 name) ≡ case → piece_named (utf8 name) rows ≡ (if dotted then dotted_marker else marker)
+own : (name early late : String) (case : Case) (dotted : Bool) → case_in (utf8 name) ≡ case → piece_named (utf8 name) rows ≡ (when dotted then dotted_marker else marker)
     → marker_text case dotted true ≡ utf8 early → marker_text case dotted false ≡ utf8 late → Writes name early late
 unfolding case_of piece_of
 own name early late case dotted c p before after t m n e q =
     action-text t m n e ∙ rw (q, c, p) (marker-piece case dotted m ∙ by (is_morning m))
   where
-    by : (morning : Bool) → marker_text case dotted morning ≡ (if morning then utf8 early else utf8 late)
+    by : (morning : Bool) → marker_text case dotted morning ≡ (when morning then utf8 early else utf8 late)
     by true = before
     by false = after
 

@@ -3,7 +3,7 @@
 -- group and US, each once; order and literals are free.
 use Rattle.std.specs.Prelude.{◌≡◌, refl, Bool, true, false, ◌&&◌, List, [], ◌∷◌, ◌++◌, ℕ, suc, eqb, leb, length, replicate}
 use Prim.Native.Char.{code}
-use Rattle.base_notation.specs.Choice.{if◌then◌else◌}
+use Rattle.base_notation.specs.Choice.{when◌then◌else◌}
 use Rattle.base_notation.specs.Text.{utf8}
 use Rattle.base_chars.specs.Utf8.{sequence, well_formed, well_formed_after}
 use Rattle.base_settings.specs.Limits.{cards, limits-compute, pages, template_limit}
@@ -18,7 +18,7 @@ use Rattle.write_text.specs.Writer.{all_written, first_unwritten}
 -- the pieces of a template's patterns, in order
 unfoldable pub pieces : List Node → List ℕ
 pieces [] = []
-pieces (n ∷ ns) = if eqb n.kind action then piece_of n.pattern ∷ pieces ns else pieces ns
+pieces (n ∷ ns) = when eqb n.kind action then piece_of n.pattern ∷ pieces ns else pieces ns
 
 -- the date groups and the time groups; the month is its number or its name, full or short
 abbrev pub date_groups : List (List ℕ)
@@ -41,7 +41,7 @@ time_groups =
 -- how often a number is in a list
 unfoldable pub times : ℕ → List ℕ → ℕ
 times p [] = 0
-times p (q ∷ qs) = if eqb p q then suc (times p qs) else times p qs
+times p (q ∷ qs) = when eqb p q then suc (times p qs) else times p qs
 
 -- two lists of pieces have each piece as often
 abbrev pub same_from : List ℕ → List ℕ → List ℕ → Bool
@@ -54,7 +54,7 @@ same ps qs = same_from (count_from 0 18) ps qs
 -- one of the lists of pieces, with what else is asked for
 abbrev pub any_of : List (List ℕ) → (List ℕ → Bool) → Bool
 any_of [] test = false
-any_of (g ∷ gs) test = if test g then true else any_of gs test
+any_of (g ∷ gs) test = when test g then true else any_of gs test
 
 -- a date group, a time group and microseconds
 unfoldable pub are_full : List ℕ → Bool

@@ -1,7 +1,7 @@
 -- The eight markers: each writes the half of the day in its own case, with dots where it has them.
 use Rattle.std.specs.Prelude.{◌≡◌, refl, List, ℕ}
 use Prim.Native.String.{String}
-use Rattle.base_notation.specs.Choice.{if◌then◌else◌}
+use Rattle.base_notation.specs.Choice.{when◌then◌else◌}
 use Rattle.base_notation.specs.Text.{utf8}
 use Rattle.base_strtol.specs.Decimal.{decimal}
 use Rattle.template_patterns.specs.Cases.{case_of}
@@ -18,7 +18,7 @@ use Rattle.write_text.specs.Text.{node_text, nodes_text, text_of}
 abbrev pub Writes : String → String → String → Type 0
 Writes name early late =
     (t : List ℕ) (m : Moment) (n : Node) → n.kind ≡ action → name_of n.pattern ≡ utf8 name
-    → node_text t m n ≡ (if is_morning m then utf8 early else utf8 late)
+    → node_text t m n ≡ (when is_morning m then utf8 early else utf8 late)
 
 -- all eight markers
 pub record OwnCase : Type 0 where

@@ -1,7 +1,7 @@
 -- The text of a moment by a template: its literals as they are, and the pieces of its patterns, in the template's
 -- order without gaps.
 use Rattle.std.specs.Prelude.{◌≡◌, refl, List, [], ◌∷◌, ◌++◌, ℕ, eqb, take, drop}
-use Rattle.base_notation.specs.Choice.{if◌then◌else◌}
+use Rattle.base_notation.specs.Choice.{when◌then◌else◌}
 use Rattle.base_notation.specs.Text.{utf8}
 use Rattle.base_strtol.specs.Decimal.{decimal}
 use Rattle.template_nodes.specs.Examples.{nodes-compute}
@@ -18,7 +18,7 @@ literal_text t n = take n.len (drop n.start t)
 
 -- the text of a node: its piece's in the pattern's case, or its literal
 unfoldable pub node_text : List ℕ → Moment → Node → List ℕ
-node_text t m n = if eqb n.kind action then piece_text (piece_of n.pattern) (case_of n.pattern) m else literal_text t n
+node_text t m n = when eqb n.kind action then piece_text (piece_of n.pattern) (case_of n.pattern) m else literal_text t n
 
 -- the texts of nodes one after another
 unfoldable pub nodes_text : List ℕ → Moment → List Node → List ℕ

@@ -1,6 +1,6 @@
 -- The writer's answer, and the buffer after it.
 use Rattle.std.specs.Prelude.{◌≡◌, refl, Bool, not, ◌&&◌, ◌||◌, List, [], ◌∷◌, ◌++◌, ℕ, ◌*◌, eqb, ltb, length, drop}
-use Rattle.base_notation.specs.Choice.{if◌then◌else◌}
+use Rattle.base_notation.specs.Choice.{when◌then◌else◌}
 use Rattle.base_settings.specs.Limits.{template_limit}
 use Rattle.base_settings.specs.declared.Settings.{Settings}
 use Rattle.base_refusals.specs.Report.{no_pattern}
@@ -23,7 +23,7 @@ is_written n =
 
 -- a pattern as a refusal names it: any number past the table is no pattern
 abbrev pub named : ℕ → ℕ
-named p = if ltb p no_pattern then p else no_pattern
+named p = when ltb p no_pattern then p else no_pattern
 
 -- what is found where every node is written
 abbrev pub all_written : ℕ
@@ -32,7 +32,7 @@ all_written = 113
 -- the first node that it does not write, by its pattern
 unfoldable pub first_unwritten : List Node → ℕ
 first_unwritten [] = all_written
-first_unwritten (n ∷ ns) = if is_written n then first_unwritten ns else named n.pattern
+first_unwritten (n ∷ ns) = when is_written n then first_unwritten ns else named n.pattern
 
 -- FF1 after YYYY is not written; a number past the table is named as no pattern, also where FF1 follows
 pub worked
@@ -53,16 +53,16 @@ names = (refl, refl, refl, refl, refl, refl)
 abbrev pub written_by : ℕ → Moment → List ℕ → ℕ → Written
 written_by unwritten m text room =
     let needed = length text in
-    if ltb unwritten all_written then Refused (NotWritten unwritten)
-    else if not (is_moment m) then Refused NoMoment
-    else if ltb room needed then Refused (NoRoom needed)
+    when ltb unwritten all_written then Refused (NotWritten unwritten)
+    else when not (is_moment m) then Refused NoMoment
+    else when ltb room needed then Refused (NoRoom needed)
     else Length needed
 
 -- by a template, for a caller with settings
 unfoldable pub written_to : Settings → List ℕ → Moment → ℕ → Written
 written_to set t m room =
-    if ltb (template_limit set) (length t) then Refused TooLong
-    else if not (well_formed t) then Refused NotUtf8
+    when ltb (template_limit set) (length t) then Refused TooLong
+    else when not (well_formed t) then Refused NotUtf8
     else written_by (first_unwritten (nodes_of t)) m (text_of t m) room
 
 -- the text by the nodes that any bytes hold, whose literals are in t
@@ -76,7 +76,7 @@ nodes_limit set = 6 * template_limit set
 -- and the answer
 unfoldable pub written_in : Settings → List ℕ → List ℕ → Moment → ℕ → Written
 written_in set c t m room =
-    if ltb (nodes_limit set) (length c) then Refused TooLong else written_by (first_unwritten (nodes_in c)) m (text_in c t m) room
+    when ltb (nodes_limit set) (length c) then Refused TooLong else written_by (first_unwritten (nodes_in c)) m (text_in c t m) room
 
 -- the text, and after it every byte as it was; on refusal the buffer as it was
 abbrev pub buffer_after : Written → List ℕ → List ℕ → List ℕ

@@ -1,5 +1,5 @@
 -- `replay::questions::of_strtol` meets its contract: the number is read from the text that the item is.
-use Rattle.std.proofs.Common.{◌≡◌, ◌-◌, ◌<◌, ◌^◌, FitsSigned, length, rules, to_z-of_z, w64}
+use Rattle.std.proofs.Common.{◌≡◌, ◌-◌, FitsSigned, length, rules, to_z-of_z, w64}
 use mir.Facts.{to_z_pos}
 use Rattle.replay.specs.Answers.{of_strtol}
 use Rattle.replay.proofs.Texts.{read_as, part-is, part-fits}
@@ -23,34 +23,33 @@ pub slice_bounds-c_strtol-end : goal.slice_bounds-c_strtol-end
 slice_bounds-c_strtol-end c =
     part-fits c.read_bytes-bytes.ensures c.if-bytes.false
 
--- the number ends where it was sought, at a place, or within the text
-end-is-small : (c : goal.After-c_strtol-n) → c.c_strtol-n.result.end < 2 ^ 63
-end-is-small c =
-    let read = c.read_bytes-bytes in
-    let size : length read.new.text ≡ 512 = search rules in
-    end-small read.new.text (read.result.count - 0) _ _ c.c_strtol-n.ensures
-    (at_small c.args.line.now c.args.from _ c.read_place-start.ensures) size
-
--- its end can be cast
+-- its end can be cast: it is where it was sought, at a place, or within the text
 pub overflow_cast-result : goal.overflow_cast-result
 overflow_cast-result c =
-    record { sfits = end-is-small c }
+    let read = c.read_bytes-bytes in
+    let size : length read.new.text ≡ 512 = search rules in
+    let place = at_small c.args.line.now c.args.from _ c.read_place-start.ensures in
+    let small = end-small read.new.text (read.result.count - 0) _ _ c.c_strtol-n.ensures place size in
+    record { sfits = small }
 
 -- a number
 pub returns : goal.returns
 unfolding of_strtol
 returns c =
-    let read = c.read_bytes-bytes.ensures in
+    let read = c.read_bytes-bytes in
+    let size : length read.new.text ≡ 512 = search rules in
+    let place = at_small c.args.line.now c.args.from _ c.read_place-start.ensures in
+    let small = end-small read.new.text (read.result.count - 0) _ _ c.c_strtol-n.ensures place size in
     let ok = c.if-bytes.false in
     let found = c.c_strtol-n in
     let value-fits : FitsSigned w64 found.result.value = search rules in
     rw (
       ← c.read_place-start.ensures,
       c.if-start.false,
-      read_as read ok,
+      read_as read.ensures ok,
       to_z-of_z value-fits,
-      to_z_pos w64 (end-is-small c),
+      to_z_pos w64 small,
       back w64 c.flag_of.ensures c.flag_of.type_inv,
       found.ensures,
-      part-is read ok,
+      part-is read.ensures ok,
     )

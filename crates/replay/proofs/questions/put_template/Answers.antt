@@ -1,4 +1,4 @@
--- `replay::questions::put_template` meets its contract: the template is the text that the item is.
+-- `replay::questions::put_template` meets its contract: what is parsed is the text that the item is.
 use Rattle.replay.specs.Answers.{template_text}
 use Rattle.replay.proofs.Texts.{read_as, part-is, part-fits}
 use Rattle.replay.proofs.questions.put_template.Goals as goal

@@ -6,7 +6,7 @@ use Prim.Native.Nat.{◌+◌, ◌<◌}
 use native.Mathlib.Omega.{arith}
 use borrow.Author.Rules.{rules}
 use lib.ListN.{length, length-set}
-use Rattle.base_notation.specs.Choice.{if◌then◌else◌}
+use Rattle.base_notation.specs.Choice.{when◌then◌else◌}
 use Rattle.write_pieces.specs.Words.{letter_in}
 use Rattle.write_pieces.proofs.Markers.{half, marker-size, marker-some, plain-put, dotted-put}
 use Rattle.write_pieces.proofs.words.put_marker.Statement.{statement}
@@ -14,7 +14,7 @@ use Rattle.write_pieces.proofs.words.put_marker.Lts.{then-morning, else-morning}
 use Rattle.write_pieces.proofs.words.put_marker.Tie as tie
 
 -- the letter that is chosen is that of the half of the day
-chosen : (c : tie.Joined-morning) → c.if-morning.half ≡ (if c.args.morning then 65 else 80)
+chosen : (c : tie.Joined-morning) → c.if-morning.half ≡ (when c.args.morning then 65 else 80)
 chosen c = (elim c.if-morning.branch [ then-morning w ↦ rw w.if-morning.true w.half-is | else-morning w ↦ rw w.if-morning.false w.half-is ])
 
 -- the first letter is that of the half of the day, in the case
