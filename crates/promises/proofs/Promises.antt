@@ -64,8 +64,8 @@ use Rattle.sorbilgan.proofs.sorbilgan_pattern.Met as SorbilganPattern
 use Rattle.sorbilgan.proofs.sorbilgan_version.Met as SorbilganVersion
 use Rattle.line_answers.proofs.answer.Met as AnswerLine
 use Rattle.line_texts.proofs.answer_lines.Met as AnswerLines
-use Rattle.promises.specs.Promises.{EveryAnswer, RightAndSafe, EveryTemplate, EveryRequest}
-use Rattle.promises.proofs.Promised.{EveryEquation, EveryMoment, Promises}
+use Rattle.promises.specs.Promises.{EveryAnswer, EveryEquation, EveryMoment, EveryTemplate, EveryRequest, Promises}
+use Rattle.promises.specs.Reading.{RightAndSafe}
 use Rattle.promises.specs.declared.Readings.{Readings}
 
 -- after a refusal the buffer is as it was

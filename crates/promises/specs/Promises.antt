@@ -1,9 +1,9 @@
--- What is promised of the date reader and its writer, but for what speaks of the functions themselves, which a contract
--- may not cite: that is in proofs/Promised.antt, with the record of all. A record for demand 1, for templates and for the
--- change requests, and what `read` promises. `kept` in proofs/Promises.antt proves them. set is the settings of a caller,
+-- All that is promised of the date reader and its writer, in one file: a record for each demand, one for the change
+-- requests, and in the end one of them all. `kept` in proofs/Promises.antt proves it. What the contract of `read` promises,
+-- demands 1 and 2 together, is beside it in Reading.antt. set is the settings of a caller,
 -- t a template, s an input, c the bytes of a compiled template, ns nodes: any numbers of any length. What a name means
 -- is in the file that it is taken from.
-use Rattle.std.specs.Prelude.{◌≡◌, Bool, List, ℕ, length}
+use Rattle.std.specs.Prelude.{◌≡◌, Bool, true, List, ℕ, length}
 use Rattle.base_settings.specs.declared.Settings.{Settings}
 use Rattle.read_words.specs.FoldOnce.{FoldOnce}
 use Rattle.template_nodes.specs.Cover.{Covered}
@@ -14,6 +14,7 @@ use Rattle.moment_parts.specs.Parts.{parts_by, parts_of}
 use Rattle.moment_parts.specs.Ranges.{Answered}
 use Rattle.moment_parts.specs.Strict.{StrictAlone}
 use Rattle.moment_parts.specs.Patterns.{NamesOwn, NoneOrIn}
+use Rattle.moment_parts.specs.Examples.{Table}
 use Rattle.moment_parts.specs.declared.Answer.{Answer}
 use Rattle.moment_instants.specs.ByTemplate.{instant_by, day_by, timestamp_of, date_of}
 use Rattle.moment_instants.specs.Ranges.{InstantAnswered, DayAnswered}
@@ -21,6 +22,7 @@ use Rattle.moment_instants.specs.Report.{undated_report}
 use Rattle.moment_instants.specs.declared.epoch.Day.TheVariants.{Refused as NoDay}
 use Rattle.moment_instants.specs.declared.epoch.Instant.TheVariants.{Refused as NoInstant}
 use Rattle.moment_instants.specs.declared.epoch.Undated.{Undated}
+use Rattle.write_pieces.specs.Moment.{is_moment, PlainMoment}
 use Rattle.write_pieces.specs.declared.Moment.{Moment}
 use Rattle.write_text.specs.ByName.{ByName}
 use Rattle.write_text.specs.OwnCase.{OwnCase}
@@ -30,11 +32,43 @@ use Rattle.write_text.specs.Writer.{buffer_after, text_in, written_in, written_t
 use Rattle.write_text.specs.declared.Unwritten.{Unwritten}
 use Rattle.write_text.specs.declared.Written.TheVariants.{Refused as NotWritten}
 use Rattle.sorbilgan_records.specs.Ranges.{PartsRecorded, InstantRecorded, DayRecorded}
-use Rattle.readback.specs.ReadBack.{JoinedNeeded, SixNeeded}
+use Rattle.readback.specs.ReadBack.{EveryBack, JoinedNeeded, SixNeeded}
 use Rattle.sorbilgan.specs.Accents.{AccentsMode}
 use Rattle.sorbilgan.specs.Callers.{CardsAndPages, WithinBoth}
 use Rattle.sorbilgan.specs.Once.{CompileOnce}
 use Rattle.promises.specs.declared.Readings.{Readings}
+use Rattle.moment_parts.proofs.to_timestamp_parts.Statement as ToTimestampParts
+use Rattle.moment_parts.proofs.parts_by.Statement as PartsBy
+use Rattle.moment_instants.proofs.to_timestamp_text.Statement as ToTimestampText
+use Rattle.moment_instants.proofs.instant_by.Statement as InstantBy
+use Rattle.moment_instants.proofs.to_date_text.Statement as ToDateText
+use Rattle.moment_instants.proofs.day_by.Statement as DayBy
+use Rattle.write_text.proofs.write.Statement as Write
+use Rattle.write_text.proofs.write_by.Statement as WriteBy
+use Rattle.readback.proofs.write_and_read.Statement as WriteAndRead
+use Rattle.sorbilgan.proofs.sorbilgan_parts_with.Statement as SorbilganPartsWith
+use Rattle.sorbilgan.proofs.sorbilgan_parts_by_with.Statement as SorbilganPartsByWith
+use Rattle.sorbilgan.proofs.sorbilgan_instant_with.Statement as SorbilganInstantWith
+use Rattle.sorbilgan.proofs.sorbilgan_instant_by_with.Statement as SorbilganInstantByWith
+use Rattle.sorbilgan.proofs.sorbilgan_date_with.Statement as SorbilganDateWith
+use Rattle.sorbilgan.proofs.sorbilgan_date_by_with.Statement as SorbilganDateByWith
+use Rattle.sorbilgan.proofs.sorbilgan_write_with.Statement as SorbilganWriteWith
+use Rattle.sorbilgan.proofs.sorbilgan_write_by_with.Statement as SorbilganWriteByWith
+use Rattle.sorbilgan.proofs.sorbilgan_compile_with.Statement as SorbilganCompileWith
+use Rattle.sorbilgan.proofs.sorbilgan_parts.Statement as SorbilganParts
+use Rattle.sorbilgan.proofs.sorbilgan_parts_by.Statement as SorbilganPartsBy
+use Rattle.sorbilgan.proofs.sorbilgan_instant.Statement as SorbilganInstant
+use Rattle.sorbilgan.proofs.sorbilgan_instant_by.Statement as SorbilganInstantBy
+use Rattle.sorbilgan.proofs.sorbilgan_date.Statement as SorbilganDate
+use Rattle.sorbilgan.proofs.sorbilgan_date_by.Statement as SorbilganDateBy
+use Rattle.sorbilgan.proofs.sorbilgan_compile.Statement as SorbilganCompile
+use Rattle.sorbilgan.proofs.sorbilgan_write.Statement as SorbilganWrite
+use Rattle.sorbilgan.proofs.sorbilgan_write_by.Statement as SorbilganWriteBy
+use Rattle.sorbilgan.proofs.sorbilgan_has_lone_mark.Statement as SorbilganHasLoneMark
+use Rattle.sorbilgan.proofs.sorbilgan_pattern.Statement as SorbilganPattern
+use Rattle.sorbilgan.proofs.sorbilgan_version.Statement as SorbilganVersion
+use Rattle.line_answers.proofs.answer.Statement as AnswerLine
+use Rattle.line_texts.proofs.answer_lines.Statement as AnswerLines
 
 -- Demand 1: nothing false is handed out. An answer is in range, or it is a refusal by its number and nothing else.
 -- It holds for every caller, whatever its settings are. That no function traps or hangs is part of the theorems of
@@ -75,15 +109,63 @@ pub record EveryAnswer : Type 0 where
   pub buffer-by : (set : Settings) (c t : List ℕ) (m : Moment) (before : List ℕ) {why : Unwritten} → written_in set c t m (length before) ≡ NotWritten why
       → buffer_after (written_in set c t m (length before)) (text_in c t m) before ≡ before
 
--- Demands 1 and 2 together, on the function that reads: r is the answers of the definitions, and each is in range
-pub record RightAndSafe (set : Settings) (t s : List ℕ) (r : Readings) : Type 0 where
-  pub parts : r.parts ≡ parts_of set t s
-  pub instant : r.instant ≡ timestamp_of set t s
-  pub day : r.day ≡ date_of set t s
-  pub parts-safe : Answered set.strict r.parts
-  pub instant-safe : InstantAnswered set.strict r.instant
-  pub day-safe : DayAnswered set.strict r.day
-  pub names : NamesOwn (nodes_by set.accents t) r.parts
+-- Demand 2: right by the public document. `statement` is the checker's theorem of a function: for all arguments it
+-- never traps, it returns, and its contract holds. The contract is the equation that the comment gives; src/ has it.
+pub record EveryEquation : Type 2 where
+  -- to_timestamp_parts set t s = parts_of set t s, and by bytes as nodes parts_by set (nodes_in c) t s
+  pub to-timestamp-parts : {M : Type 1} → ToTimestampParts.statement M
+  pub parts-by : {M : Type 1} → PartsBy.statement M
+  -- to_timestamp_text set t s = timestamp_of set t s, and by bytes as nodes instant_by (parts_by set (nodes_in c) t s)
+  pub to-timestamp-text : {M : Type 1} → ToTimestampText.statement M
+  pub instant-by : {M : Type 1} → InstantBy.statement M
+  -- to_date_text set t s = date_of set t s, and by bytes as nodes day_by (parts_by set (nodes_in c) t s)
+  pub to-date-text : {M : Type 1} → ToDateText.statement M
+  pub day-by : {M : Type 1} → DayBy.statement M
+  -- write set t m = written_to set t m, and by bytes as nodes written_in set c t m; the buffer after it is buffer_after
+  pub write : {M : Type 1} → Write.statement M
+  pub write-by : {M : Type 1} → WriteBy.statement M
+  -- the exports: the same answers as records, the bytes of a compiled template; with settings as bits, settings_of, and
+  -- for the exercise pages
+  pub sorbilgan-parts-with : {M : Type 1} → SorbilganPartsWith.statement M
+  pub sorbilgan-parts-by-with : {M : Type 1} → SorbilganPartsByWith.statement M
+  pub sorbilgan-instant-with : {M : Type 1} → SorbilganInstantWith.statement M
+  pub sorbilgan-instant-by-with : {M : Type 1} → SorbilganInstantByWith.statement M
+  pub sorbilgan-date-with : {M : Type 1} → SorbilganDateWith.statement M
+  pub sorbilgan-date-by-with : {M : Type 1} → SorbilganDateByWith.statement M
+  pub sorbilgan-write-with : {M : Type 1} → SorbilganWriteWith.statement M
+  pub sorbilgan-write-by-with : {M : Type 1} → SorbilganWriteByWith.statement M
+  pub sorbilgan-compile-with : {M : Type 1} → SorbilganCompileWith.statement M
+  pub sorbilgan-parts : {M : Type 1} → SorbilganParts.statement M
+  pub sorbilgan-parts-by : {M : Type 1} → SorbilganPartsBy.statement M
+  pub sorbilgan-instant : {M : Type 1} → SorbilganInstant.statement M
+  pub sorbilgan-instant-by : {M : Type 1} → SorbilganInstantBy.statement M
+  pub sorbilgan-date : {M : Type 1} → SorbilganDate.statement M
+  pub sorbilgan-date-by : {M : Type 1} → SorbilganDateBy.statement M
+  pub sorbilgan-write : {M : Type 1} → SorbilganWrite.statement M
+  pub sorbilgan-write-by : {M : Type 1} → SorbilganWriteBy.statement M
+  pub sorbilgan-compile : {M : Type 1} → SorbilganCompile.statement M
+  -- whether a mark counts alone in a compiled template: has_lone_mark t (nodes_in c)
+  pub sorbilgan-has-lone-mark : {M : Type 1} → SorbilganHasLoneMark.statement M
+  -- the name of a pattern, and the version
+  pub sorbilgan-pattern : {M : Type 1} → SorbilganPattern.statement M
+  pub sorbilgan-version : {M : Type 1} → SorbilganVersion.statement M
+  -- the line program: answer mode line = answer_line mode line, and the lines of a text one after another, answers_to
+  pub answer : {M : Type 1} → AnswerLine.statement M
+  pub answer-lines : {M : Type 1} → AnswerLines.statement M
+  -- the worked table P1 to P15
+  pub table : Table
+
+-- Demand 3: every full template writes every moment of the years 1 to 9999, two moments have the same text exactly
+-- where they are the same, and the text is read back as that moment in all answers, with all three marks; for every
+-- caller whose limit of an input is at least six bytes above that of a template, strict or not; in the accents mode by
+-- every full template in which no mark counts alone
+pub record EveryMoment : Type 2 where
+  pub back : EveryBack
+  -- the same on the functions themselves
+  pub write-and-read : {M : Type 1} → WriteAndRead.statement M
+  -- the test of a moment, and the plain ranges of its seven numbers: each way
+  pub tested : (m : Moment) → is_moment m ≡ true → PlainMoment m
+  pub plain : (m : Moment) → PlainMoment m → is_moment m ≡ true
 
 -- Templates: each byte is in one node, but for quotes, backslashes, prefixes and suffixes; the bytes of a pattern's
 -- node are its name; so it is in both modes of characters. What is compiled once gives the answers of the template in
@@ -112,3 +194,11 @@ pub record EveryRequest : Type 0 where
   -- keep the mode; reading back is in demand 3, and a template in which a mark counts alone is not read back
   pub accents-mode : AccentsMode
   pub joined-needed : JoinedNeeded
+
+-- all of them
+pub record Promises : Type 2 where
+  pub demand-1 : EveryAnswer
+  pub demand-2 : EveryEquation
+  pub demand-3 : EveryMoment
+  pub templates : EveryTemplate
+  pub requests : EveryRequest

@@ -1,7 +1,7 @@
 // What is promised of the crates below (specs/), that it is kept (proofs/), and reading with all that holds of it.
 #![tactic(auto)]
 
-ghost use Rattle.promises.specs.Promises.{RightAndSafe};
+ghost use Rattle.promises.specs.Reading.{RightAndSafe};
 
 use base_settings::Settings;
 use moment_instants::{Day, Instant};
