@@ -28,13 +28,15 @@ kept : (line : List ℕ) → (byte_at line (length line - 1) ≡ 13 → ⊥) →
 unfolding without_return
 kept line n = rw (ne_eqb _ _ n)
 
--- a carriage return at the end
-returns-2 : tie.Need-returns-then-line-len-eq13
-returns-2 c = left-off _ c.if-line-len-eq13.true
-
--- another byte
-returns-3 : tie.Need-returns
-returns-3 c = kept _ c.if-line-len-eq13.false
-
 pub without_return_spec : {M : Type 1} → statement M
-without_return_spec = tie.close (tie.spec returns (λ c. search rules) (λ c. search rules) (λ c. search rules) returns-2 returns-3)
+without_return_spec =
+    tie.close
+    (tie.spec
+    returns
+    (λ c. search rules)
+    (λ c. search rules)
+    (λ c. search rules)
+    -- a carriage return at the end
+    (λ c. left-off c.args.line.now (omega arith))
+    -- another byte
+    (λ c. kept c.args.line.now (omega arith)))

@@ -18,10 +18,6 @@ decreases-loop mode text long out₀ s₀ end₀ out s end = length text - end
 loop-holds : tie.Need-loop-end-init invariant-loop decreases-loop
 loop-holds c = begun _ _ _ _ c.find-end.ensures
 
--- there is no room for one more answer
-returns : tie.Need-returns-then-out-s-lt-LONGEST invariant-loop decreases-loop
-returns c = full _ _ _ _ c.loop-end.invariant (omega arith)
-
 loop-again : tie.Need-loop-end-preserved invariant-loop decreases-loop
 loop-again c =
     let after-answer = c.before.before.before in
@@ -44,7 +40,8 @@ answer_lines_spec =
     loop-holds
     (λ c. let a = c.loop-end.invariant in omega (arith, a.within, size _ _ _ _ a))
     (λ c. size _ _ _ _ c.loop-end.invariant)
-    returns
+    -- there is no room for one more answer
+    (λ c. full _ _ _ _ c.loop-end.invariant (omega arith))
     (λ c. c.loop-end.invariant.on)
     (λ c. omega (arith, c.loop-end.invariant.on))
     (λ c. omega (arith, c.loop-end.invariant.last))
