@@ -12,8 +12,7 @@ use Rattle.write_text.proofs.Answers.{many, not_written, no-moment, no_room, wro
 use Rattle.write_text.proofs.write_by.Statement.{statement}
 use Rattle.write_text.proofs.write_by.Tie as tie
 
--- the way back: from the search to the test of the nodes' number and to the start; from the measure to the test of
--- the patterns
+-- the way back: from the search to the test of the nodes' number and to the start; from the measure to the search
 abbrev within-limit : tie.After-first_unwritten-unwritten → tie.Else-nodes_limit-c
 within-limit after-search = after-search.before.before.before
 
@@ -24,8 +23,8 @@ start after-search = (within-limit after-search).before.before.before.before.bef
 few : (c : tie.Else-nodes_limit-c) → length c.args.c.now ≤ nodes_limit c.args.set
 few c = omega arith
 
-abbrev all-written : tie.After-text_length-needed → tie.Else-unwritten-lt-ALL_WRITTEN
-all-written after-length = after-length.before.before.before.before
+abbrev searched : tie.After-text_length-needed → tie.After-first_unwritten-unwritten
+searched after-length = after-length.before.before.before.before.before
 
 -- the numbers are a moment
 moment : (c : tie.Else-not-is_moment) → is_moment (start c.before.before.before).args.m ≡ true
@@ -37,22 +36,13 @@ returns c =
     let args = c.args in
     many args.set args.c.now args.t.now args.m args.out.now (omega arith)
 
--- a pattern is not written
-returns-2 : tie.Need-returns-then-unwritten-lt-ALL_WRITTEN
-returns-2 c =
-    let after-search = c.before in
-    let args = (start after-search).args in
-    not_written args.set args.c.now args.t.now args.m args.out.now (few (within-limit after-search))
-    _ after-search.first_unwritten-unwritten.ensures c.if-unwritten-lt-ALL_WRITTEN.true
-
 -- the numbers are no moment
 returns-3 : tie.Need-returns-then-not-is_moment
 returns-3 c =
-    let at-patterns = c.before.before in
-    let after-search = at-patterns.before in
+    let after-search = c.before.before.before in
     let args = (start after-search).args in
     no-moment args.set args.c.now args.t.now args.m args.out.now (few (within-limit after-search))
-    _ after-search.first_unwritten-unwritten.ensures at-patterns.if-unwritten-lt-ALL_WRITTEN.false
+    _ after-search.first_unwritten-unwritten.ensures (omega arith)
     (sym c.is_moment.ensures ∙ c.if-not-is_moment.true)
 
 -- the table is the definition's, the numbers are a moment, and the nodes are few
@@ -65,11 +55,10 @@ text-length-requires c κs =
 returns-4 : tie.Need-returns-then-out-needed
 returns-4 c =
     let after-length = c.before in
-    let at-patterns = all-written after-length in
-    let after-search = at-patterns.before in
+    let after-search = searched after-length in
     let args = (start after-search).args in
     no_room args.set args.c.now args.t.now args.m args.out.now (few (within-limit after-search))
-    _ after-search.first_unwritten-unwritten.ensures at-patterns.if-unwritten-lt-ALL_WRITTEN.false
+    _ after-search.first_unwritten-unwritten.ensures (omega arith)
     (moment after-length.before.before) _ after-length.text_length-needed.ensures.0 c.if-out-needed.true
 
 -- the table is the definition's, the numbers are a moment, and there is room for the text
@@ -77,7 +66,7 @@ put-nodes-requires : tie.Need-put_nodes-requires
 put-nodes-requires c κs =
     let at_room = c.before.before in
     let after-length = at_room.before in
-    let after-search = (all-written after-length).before in
+    let after-search = searched after-length in
     (after-search.table-table.ensures, moment after-length.before.before, omega (arith, after-length.text_length-needed.ensures.0, at_room.if-out-needed.false))
 
 -- the text is written
@@ -86,11 +75,10 @@ returns-5 c =
     let after-put = c.before.before in
     let at_room = after-put.before.before.before in
     let after-length = at_room.before in
-    let at-patterns = all-written after-length in
-    let after-search = at-patterns.before in
+    let after-search = searched after-length in
     let args = (start after-search).args in
     wrote args.set args.c.now args.t.now args.m args.out.now (few (within-limit after-search))
-    _ after-search.first_unwritten-unwritten.ensures at-patterns.if-unwritten-lt-ALL_WRITTEN.false
+    _ after-search.first_unwritten-unwritten.ensures (omega arith)
     (moment after-length.before.before) _ after-length.text_length-needed.ensures.0 _ at_room.if-out-needed.false after-put.put_nodes.ensures
 
 pub write_by_spec : {M : Type 1} → statement M
@@ -101,7 +89,12 @@ write_by_spec =
     returns
     (λ c κs. search rules)
     (λ c κs. search rules)
-    returns-2
+    -- a pattern is not written
+    (λ c.
+    let after-search = c.before in
+    let args = (start after-search).args in
+    not_written args.set args.c.now args.t.now args.m args.out.now (few (within-limit after-search))
+    _ after-search.first_unwritten-unwritten.ensures (omega arith))
     (λ c κs. search rules)
     returns-3
     text-length-requires
