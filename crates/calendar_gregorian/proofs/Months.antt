@@ -1,7 +1,7 @@
 -- Months as the code counts them. Assumes nothing.
 -- `below`, `above`, `not-above`: what a test of the month says of its number.
 -- `from`, `unsigned`: a month that is not below 1 is its number as a usize.
--- `no_length`, `past-length`: below 1 and above 12 there is no length.
+-- `length_at`: the row's entry is its length. `no_length`, `past-length`: below 1 and above 12 there is none.
 -- `month-length`: the length that the code reads is the calendar's.
 -- `of-twelve`: a month that has a length is one of the twelve. `valid`: a day that its month has makes a date.
 use mathlib.Core.Path.{◌≡◌, refl, sym}
@@ -76,6 +76,10 @@ module _ {z : ℤ} (f : SFits w32 z) where
 
     pub unsigned : T (non_neg (to_z w32 (of_z w32 z))) × Fits w64 (nat_abs (to_z w32 (of_z w32 z)))
     unsigned = rw (to_z-of_z f) ((not_low z (rw (to_z-of_z f) at e)).0, Fits-nat_abs tt f)
+
+    -- the length of its month, from the row
+    pub length_at : (in_leap : Bool) → get_or (lengths_in in_leap) (nat_abs (to_z w32 (of_z w32 z)) - 1) 0 ≡ length_of in_leap z
+    length_at in_leap = row_at in_leap z from
 
   -- no length outside 1 to 12
   pub no_length : (in_leap : Bool) → lt_z (to_z w32 (of_z w32 z)) (pos 1) ≡ true → 0 ≡ length_of in_leap z

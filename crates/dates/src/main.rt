@@ -1,6 +1,6 @@
 // Reads lines and answers each with a line, by the mode that its argument names. The answers to all lines that were
 // read are written before more is read. What cannot be read or written is reported on standard error, and ends the
-// program.
+// program. So does output that nobody reads any longer, without a report.
 #![tactic(auto)]
 
 ghost use Rattle.std.specs.Prelude.{◌≡◌, false, ◌≤◌, ◌<◌, length, drop};
@@ -11,19 +11,24 @@ use line_texts::Choice;
 use std::env::{Env, FillError};
 use std::fmt::InlineText;
 use std::io;
-use std::io::Read;
+use std::io::{ErrorKind, Read};
+use std::process::ExitCode;
 
 // The bytes of the input's buffer and of the answers'.
 const BUFFER: usize = 65536;
 
+// The status where nobody reads the output any longer: the one that a shell gives a program that SIGPIPE ended.
+const CLOSED: u8 = 141;
+
 // What is left between two reads: the bytes kept of an unfinished line, whether its beginning was left off, whether
-// something failed, and how many reads may come. A proved loop has to end, and nothing says that the input does: so the
+// something failed, whether that is since nobody reads the output any longer, and how many reads may come. A proved loop has to end, and nothing says that the input does: so the
 // reads are counted.
 #[derive(Clone, Copy)]
 struct State {
     kept: usize,
     long: bool,
     failed: bool,
+    closed: bool,
     reads: u64,
 }
 
@@ -34,13 +39,21 @@ struct Got {
     failed: bool,
 }
 
-// What is left of a text: its lines before `from` are answered, unless the answers could not be written. `long` says
-// that the next line began before the text.
+// Whether answers could not be written, and whether that is since nobody reads them any longer.
+#[derive(Clone, Copy)]
+struct Written {
+    failed: bool,
+    closed: bool,
+}
+
+// What is left of a text: its lines before `from` are answered, unless the answers could not be written (`failed`,
+// `closed`). `long` says that the next line began before the text.
 #[derive(Clone, Copy)]
 struct Rest {
     from: usize,
     long: bool,
     failed: bool,
+    closed: bool,
 }
 
 // Says on standard error what failed, and why in the system's words, without the error's number.
@@ -74,13 +87,22 @@ fn read_on(rt: &impl Eprint, reader: &mut impl Read, input: &mut [u8], kept: usi
     }
 }
 
-// Writes answers; the result says whether that failed.
-fn write_out(rt: &(impl Print + Eprint), answers: &[u8]) -> bool {
+// Writes answers.
+fn write_out(rt: &(impl Print + Eprint), answers: &[u8]) -> Written {
     match rt.write_all(answers) {
-        Ok(()) => false,
+        Ok(()) => Written {
+            failed: false,
+            closed: false,
+        },
         Err(error) => {
-            report(rt, "standard output", error);
-            true
+            let closed = error.kind() == ErrorKind::BrokenPipe;
+            if !closed {
+                report(rt, "standard output", error);
+            }
+            Written {
+                failed: true,
+                closed,
+            }
         }
     }
 }
@@ -100,12 +122,15 @@ fn answer_text(
         from: 0,
         long,
         failed: false,
+        closed: false,
     };
     while s.from < text.len() {
         let from = s.from;
         let a = line_texts::answer_lines(mode, &text[from..], s.long, out);
         let at = a.at;
-        if write_out(rt, &out[0..at]) {
+        let written = write_out(rt, &out[0..at]);
+        s.closed = written.closed;
+        if written.failed {
             return Rest { failed: true, ..s };
         }
         if a.from == 0 {
@@ -115,6 +140,7 @@ fn answer_text(
             from: from + a.from,
             long: a.long,
             failed: false,
+            closed: false,
         };
     }
     s
@@ -152,6 +178,7 @@ fn turn(
             kept: k.count,
             long: k.long,
             failed: true,
+            closed: rest.closed,
             reads: 0,
         };
     }
@@ -159,22 +186,35 @@ fn turn(
         kept: k.count,
         long: k.long,
         failed: false,
+        closed: false,
         reads: s.reads - 1,
     }
 }
 
-// Answers the last line, where it has no newline.
-fn answer_last(rt: &(impl Print + Eprint), mode: Mode, line: &[u8], long: bool, out: &mut [u8]) {
+// Answers the last line, where it has no newline. The result says whether nobody reads the output any longer.
+fn answer_last(
+    rt: &(impl Print + Eprint),
+    mode: Mode,
+    line: &[u8],
+    long: bool,
+    out: &mut [u8],
+) -> bool {
     if !long {
         if line.len() == 0 {
-            return;
+            return false;
         }
     }
     let end = line_texts::answer_line(mode, line, long, out, 0);
-    write_out(rt, &out[0..end]);
+    write_out(rt, &out[0..end]).closed
 }
 
-fn answer_all(rt: &(impl Input + Print + Eprint), mode: Mode, input: &mut [u8], out: &mut [u8])
+// Answers all lines. The result says whether nobody reads the output any longer.
+fn answer_all(
+    rt: &(impl Input + Print + Eprint),
+    mode: Mode,
+    input: &mut [u8],
+    out: &mut [u8],
+) -> bool
     requires { longest ≤ length out.old }
 {
     let mut reader = rt.reader();
@@ -182,16 +222,17 @@ fn answer_all(rt: &(impl Input + Print + Eprint), mode: Mode, input: &mut [u8], 
         kept: 0,
         long: false,
         failed: false,
+        closed: false,
         reads: u64::MAX,
     };
     while s.reads > 0 {
         s = turn(rt, &mut reader, mode, input, out, s);
     }
     if s.failed {
-        return;
+        return s.closed;
     }
     let kept = s.kept;
-    answer_last(rt, mode, &input[0..kept], s.long, out);
+    answer_last(rt, mode, &input[0..kept], s.long, out)
 }
 
 // The mode that the one argument names, and parts without any. An argument longer than the buffer is read as an empty
@@ -208,12 +249,15 @@ fn chosen(rt: &impl Env) -> Choice {
     }
 }
 
-fn main(rt: HostRuntime) {
+fn main(rt: HostRuntime) -> ExitCode {
     let Choice::Of(mode) = chosen(&rt) else {
         let _ = eprintln!(rt; "dates: the one argument is parts, instant, date or write");
-        return;
+        return ExitCode::SUCCESS;
     };
     let mut input = [0u8; BUFFER];
     let mut output = [0u8; BUFFER];
-    answer_all(&rt, mode, &mut input, &mut output);
+    if answer_all(&rt, mode, &mut input, &mut output) {
+        return ExitCode::from(CLOSED);
+    }
+    ExitCode::SUCCESS
 }

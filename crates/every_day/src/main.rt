@@ -7,6 +7,7 @@ ghost use Rattle.std.specs.Int.{w64};
 ghost use Rattle.std.proofs.Common.{of_z};
 
 use calendar_julian::Date;
+use std::io;
 use std::num::wrapping_add_u64;
 
 // The Julian days of 0001-01-01 and 9999-12-31.
@@ -99,7 +100,7 @@ fn all_days() -> Days {
     Days { count, checksum: h }
 }
 
-fn main(rt: HostRuntime) {
+fn main(rt: HostRuntime) -> io::Result<()> {
     let Days { count, checksum } = all_days();
-    let _ = println!(rt; "days {count} checksum {checksum}");
+    println!(rt; "days {count} checksum {checksum}")
 }

@@ -22,26 +22,21 @@ use Rattle.moment_parts.proofs.fields_of.Tie as tie
 abbrev start : tie.Else-template_limit-t → tie.Start
 start c = c.before.before.before.before
 
--- the template is within its limit, and so is the input
+-- the template is within its limit
 short : (c : tie.Else-template_limit-t) → length (start c).args.t.now ≤ template_limit (start c).args.set
 short c = omega arith
-
-small : (c : tie.Else-input_limit-s) → length (start c.before.before).args.s.now ≤ input_limit (start c.before.before).args.set
-small c = omega arith
 
 -- the template is over its limit
 returns : tie.Need-returns-then-template_limit-t
 returns c = sym (long-template _ _ _ (omega arith))
 
--- the input is over its limit
-returns-2 : tie.Need-returns-then-input_limit-s
-returns-2 c = sym (long-input _ _ _ (short c.before.before) (omega arith))
-
 -- the template or the input is not UTF-8
 returns-3 : tie.Need-returns-then-not-are_utf8
 returns-3 c =
-    let within-limits = c.before.before in
-    sym (bad-text _ _ _ (short within-limits.before.before) (small within-limits)
+    let within-limit = c.before.before.before.before in
+    let args = (start within-limit).args in
+    let small : length args.s.now ≤ input_limit args.set = omega arith in
+    sym (bad-text _ _ _ (short within-limit) small
     (sym c.are_utf8.ensures ∙ c.if-not-are_utf8.true))
 
 -- within their limits a template has at most 256 bytes and an input at most 512
@@ -56,20 +51,21 @@ slice-aggregate-fields-within c = sym (length-take-le _ _ (parsed-room c.parse_f
 
 fields-within-requires : tie.Need-fields_within-requires
 fields-within-requires c κs =
-    let within-limits = c.before.before.before.before.before.before.before in
-    let at-start = start within-limits.before.before in
-    (omega (arith, small within-limits, input-most at-start.args.set), at-start.requires)
+    let at-start = start c.before.before.before.before.before.before.before.before.before in
+    let small : length at-start.args.s.now ≤ input_limit at-start.args.set = omega arith in
+    (omega (arith, input-most at-start.args.set), at-start.requires)
 
 -- the input is read by the template's nodes
 returns-4 : tie.Need-returns
 returns-4 c =
     let after-parse = c.before.before.before.before in
     let after-utf8-test = after-parse.before.before in
-    let within-limits = after-utf8-test.before.before in
-    let args = (start within-limits.before.before).args in
+    let within-limit = after-utf8-test.before.before.before.before in
+    let args = (start within-limit).args in
+    let small : length args.s.now ≤ input_limit args.set = omega arith in
     c.fields_within.ensures _
     ∙ ap (λ (ns : List Node). answer_by args.set.strict ns args.t.now args.s.now) (parsed-nodes after-parse.parse_format-end.ensures (small-nodes args.set.accents args.t.now))
-    ∙ read_by _ _ _ (short within-limits.before.before) (small within-limits)
+    ∙ read_by _ _ _ (short within-limit) small
     (sym after-utf8-test.are_utf8.ensures ∙ after-utf8-test.if-not-are_utf8.false)
 
 pub fields_of_spec : {M : Type 1} → statement M
@@ -79,7 +75,8 @@ fields_of_spec =
     (λ c κs. search rules)
     returns
     (λ c κs. search rules)
-    returns-2
+    -- the input is over its limit
+    (λ c. sym (long-input _ _ _ (short c.before.before) (omega arith)))
     (λ c κs. search rules)
     returns-3
     (λ c. search rules)

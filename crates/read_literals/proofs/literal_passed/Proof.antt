@@ -21,23 +21,6 @@ returns-2 c =
     let args = no-fx.args in
     c.blank_passed.ensures ∙ as-separator args.s.now args.n args.p (not-exact args.p no-fx.if-p-ne0.false) c.if-n-eq-FN_SEPARATOR.true
 
--- a space
-returns-3 : tie.Need-returns-then-n-eq-FN_SPACE
-returns-3 c =
-    let no-fx = c.before.before.before.before.before in
-    let args = no-fx.args in
-    c.blank_passed-then-n-eq-FN_SPACE.ensures ∙ as-space args.s.now args.n args.p (not-exact args.p no-fx.if-p-ne0.false) c.if-n-eq-FN_SPACE.true
-
--- any other literal, for which no skipped space can pay: one character
-returns-4 : tie.Need-returns-then-extra-eq0
-returns-4 c =
-    let no-blank = c.before.before in
-    let no-fx = no-blank.before.before.before.before in
-    let args = no-fx.args in
-    c.char_passed-then-extra-eq0.ensures
-    ∙ as-char args.s.now args.n args.p (not-exact args.p no-fx.if-p-ne0.false) no-blank.if-n-eq-FN_SEPARATOR.false no-blank.if-n-eq-FN_SPACE.false
-    c.if-extra-eq0.true
-
 -- any other literal, for which a skipped space pays
 returns-5 : tie.Need-returns
 returns-5 c =
@@ -45,8 +28,7 @@ returns-5 c =
     let no-fx = no-blank.before.before.before.before in
     let args = no-fx.args in
     (λ i. record { at = args.p.at; extra = args.p.extra - 1; fx = no-fx.if-p-ne0.false i })
-    ∙ paid args.s.now args.n args.p (not-exact args.p no-fx.if-p-ne0.false) no-blank.if-n-eq-FN_SEPARATOR.false no-blank.if-n-eq-FN_SPACE.false (args.p.extra - 1)
-    (omega (arith, c.if-extra-eq0.false))
+    ∙ paid args.s.now args.n args.p (not-exact args.p no-fx.if-p-ne0.false) no-blank.if-n-eq-FN_SEPARATOR.false (omega arith) (args.p.extra - 1) (omega arith)
 
 pub literal_passed_spec : {M : Type 1} → statement M
 literal_passed_spec =
@@ -57,8 +39,17 @@ literal_passed_spec =
     (λ c κs. search rules)
     returns-2
     (λ c κs. search rules)
-    returns-3
+    -- a space
+    (λ c.
+    let no-fx = c.before.before.before.before.before in
+    let args = no-fx.args in
+    rw (← as-space args.s.now args.n args.p (not-exact args.p no-fx.if-p-ne0.false) (omega arith)) (search rules))
     (λ c κs. search rules)
-    returns-4
+    -- any other literal, for which no skipped space can pay: one character
+    (λ c.
+    let no-blank = c.before.before in
+    let no-fx = no-blank.before.before.before.before in
+    let args = no-fx.args in
+    rw (← as-char args.s.now args.n args.p (not-exact args.p no-fx.if-p-ne0.false) no-blank.if-n-eq-FN_SEPARATOR.false (omega arith) (omega arith)) (search rules))
     (λ c. search rules)
     returns-5)

@@ -1,6 +1,7 @@
 -- `read_literals::literal_read` meets its contract: a plain character with nothing to pay for it is one character of
 -- the input, with FX and without it. Assumes nothing.
 use mathlib.Core.Path.{◌∙◌}
+use native.Mathlib.Omega.{arith}
 use borrow.Author.Rules.{rules}
 use Rattle.read_literals.proofs.Literals.{entered-within, plain-char}
 use Rattle.read_literals.proofs.literal_read.Statement.{statement}
@@ -14,7 +15,7 @@ returns c =
     let not_first = is-char.before.before in
     let args = not_first.args in
     rw not_first.if-not-first.true
-    (c.char_passed.ensures ∙ plain-char args.s.now args.n args.p is-char.if-n-eq-FN_CHAR.true none-skipped.if-p-eq0.true)
+    (c.char_passed.ensures ∙ plain-char args.s.now args.n args.p (omega arith) none-skipped.if-p-eq0.true)
 
 -- past the spaces the place is still within the input
 literal-passed-requires : tie.Need-literal_passed-requires

@@ -34,19 +34,12 @@ returns-2 c =
     let after_test_lem = c.before.before in
     rw (sym (tested after_test_lem) ∙ c.if-is_sign.true, ne_eqb _ _ (λ e. c.if-b-eq45.false (after_test_lem.byte_at-b.ensures ∙ e)))
 
--- no sign, and no space was skipped: plus
-returns-3 : tie.Need-returns-then-p-eq0
-unfolding sign_of
-returns-3 c =
-    let no_sign = c.before.before in
-    rw (sym (tested no_sign.before) ∙ no_sign.if-is_sign.false, c.if-p-eq0.true)
-
 -- no sign, at the start of the input: plus
 returns-4 : tie.Need-returns-then-at-eq0
 unfolding sign_of
 returns-4 c =
     let no_sign = c.before.before.before in
-    rw (sym (tested no_sign.before) ∙ no_sign.if-is_sign.false, positive _ c.if-p-eq0.false, c.if-at-eq0.true)
+    rw (sym (tested no_sign.before) ∙ no_sign.if-is_sign.false, positive no_sign.args.p.extra (omega arith), c.if-at-eq0.true)
 
 -- a minus one byte back
 returns-5 : tie.Need-returns-then-byte_at-eq45
@@ -56,7 +49,7 @@ returns-5 c =
     let no_sign = not_first.before.before.before in
     rw (
       sym (tested no_sign.before) ∙ no_sign.if-is_sign.false,
-      positive _ not_first.if-p-eq0.false,
+      positive no_sign.args.p.extra (omega arith),
       positive _ not_first.if-at-eq0.false,
       sym c.byte_at.ensures ∙ c.if-byte_at-eq45.true,
     )
@@ -69,12 +62,13 @@ returns-6 c =
     let no_sign = not_first.before.before.before in
     rw (
       sym (tested no_sign.before) ∙ no_sign.if-is_sign.false,
-      positive _ not_first.if-p-eq0.false,
+      positive no_sign.args.p.extra (omega arith),
       positive _ not_first.if-at-eq0.false,
       ne_eqb _ _ (λ e. c.if-byte_at-eq45.false (c.byte_at.ensures ∙ e)),
     )
 
 pub sign_of_spec : {M : Type 1} → statement M
+unfolding sign_of
 sign_of_spec =
     tie.close
     (tie.spec
@@ -82,7 +76,11 @@ sign_of_spec =
     (λ c κs. search rules)
     returns
     returns-2
-    returns-3
+    -- no sign, and no space was skipped: plus
+    (λ c.
+    let no_sign = c.before.before in
+    let none-skipped : no_sign.args.p.extra ≡ 0 = omega arith in
+    rw (sym (tested no_sign.before) ∙ no_sign.if-is_sign.false, none-skipped))
     returns-4
     (λ c. search rules)
     (λ c κs. search rules)

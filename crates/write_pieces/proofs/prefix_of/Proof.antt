@@ -1,4 +1,5 @@
 -- `write_pieces::prefix_of` meets its contract: its test is the definition's. Assumes nothing.
+use native.Mathlib.Omega.{arith}
 use borrow.Author.Tests.{eq-eqb, ne_eqb}
 use Rattle.write_pieces.proofs.prefix_of.Statement.{statement}
 use Rattle.write_pieces.proofs.prefix_of.Tie as tie
@@ -8,6 +9,6 @@ prefix_of_spec =
     tie.close
     (tie.spec
     -- any other piece
-    (λ c. rw (ne_eqb _ 16 c.if-piece-ne-MONTH_NAME.true))
+    (λ c. rw (ne_eqb c.args.piece 16 (omega arith)))
     -- the full name of a month
-    (λ c. rw (eq-eqb _ 16 c.if-piece-ne-MONTH_NAME.false)))
+    (λ c. rw (eq-eqb c.args.piece 16 (omega arith))))

@@ -1,7 +1,7 @@
 -- `moment_instants::epoch::day_of` meets its contract: the two tests are the definition's, and what passes both fits
 -- 32 bits. Assumes nothing.
 use mathlib.Core.Path.{◌≡◌}
-use mathlib.Core.Bool.{true}
+use mathlib.Core.Bool.{true, false}
 use borrow.Author.Rules.{rules}
 use lib.IntN.{ℤ, pos, negsuc}
 use lib.Signed.{lt_z}
@@ -18,31 +18,13 @@ use Rattle.moment_instants.proofs.epoch.day_of.Tie as tie
 days-are : (c : tie.After-days_of-days) → to_z w64 (of_z w64 c.days_of-days.result) ≡ days c.args.p
 days-are c = returned c.days_of-days.type_inv c.days_of-days.ensures
 
--- both tests passed
-module _ (c : tie.Then-days-lt2147483647) where
+-- after the first test
+module _ (c : tie.Then-days-gtminus2147483648) where
   abbrev n : ℤ
   n = days c.args.p
 
   low : lt_z (negsuc 2147483647) n ≡ true
-  low = rw (days-are c.before.before) at c.if-days-gtminus2147483648.true
-
-  high : lt_z n (pos 2147483647) ≡ true
-  high = rw (days-are c.before.before) at c.if-days-lt2147483647.true
-
-  fits : SFits w32 n
-  fits = day-fits n low high
-
--- the day's number
-returns : tie.Need-returns-then-days-lt2147483647
-unfolding day_of
-returns c = rw (days-are c.before.before, to_z-of_z (fits c), low c, high c)
-
--- the day is too late
-returns-2 : tie.Need-returns-else-days-lt2147483647
-unfolding day_of
-returns-2 c =
-    let days-known = days-are c.before.before in
-    rw (rw days-known at c.if-days-gtminus2147483648.true, rw days-known at c.if-days-lt2147483647.false)
+  low = rw (days-are c.before) at c.if-days-gtminus2147483648.true
 
 -- the day is too early
 returns-3 : tie.Need-returns-else-days-gtminus2147483648
@@ -50,5 +32,22 @@ unfolding day_of
 returns-3 c = rw (rw (days-are c.before) at c.if-days-gtminus2147483648.false)
 
 pub day_of_spec : {M : Type 1} → statement M
+unfolding day_of
 day_of_spec =
-    tie.close (tie.spec (λ c κs. search rules) (λ c. rw (days-are c.before.before) (fits c)) returns returns-2 returns-3)
+    tie.close
+    (tie.spec
+    (λ c κs. search rules)
+    (λ c.
+    let n-is = days-are c.before.before in
+    rw n-is (day-fits (n c.before) (low c.before) (rw (← n-is) (search rules))))
+    -- the day's number
+    (λ c.
+    let n-is = days-are c.before.before in
+    let high : lt_z (n c.before) (pos 2147483647) ≡ true = rw (← n-is) (search rules) in
+    rw (n-is, to_z-of_z (day-fits (n c.before) (low c.before) high), low c.before, high))
+    -- the day is too late
+    (λ c.
+    let n-is = days-are c.before.before in
+    let late : lt_z (n c.before) (pos 2147483647) ≡ false = rw (← n-is) (search rules) in
+    rw (low c.before, late))
+    returns-3)

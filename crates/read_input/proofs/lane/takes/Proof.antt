@@ -10,13 +10,13 @@ use Rattle.read_input.proofs.lane.takes.Tie as tie
 returns-2 : tie.Need-returns
 returns-2 c =
     let at-node = c.before in
-    rw (ne_eqb _ _ at-node.if-count-width.false, ← at-node.node_at.ensures) c.is_free.ensures
+    rw (ne_eqb at-node.args.count at-node.args.width (omega arith), ← at-node.node_at.ensures) c.is_free.ensures
 
 pub takes_spec : {M : Type 1} → statement M
 takes_spec =
     tie.close
     (tie.spec
-    (λ c. rw (eq-eqb _ _ c.if-count-width.true))
+    (λ c. rw (eq-eqb c.args.count c.args.width (omega arith)))
     (λ c. let count-is = nodes-length c.args.c.now in search rules)
     (λ c κs. search rules)
     (λ c κs. search rules)

@@ -1,11 +1,12 @@
 -- `read_numbers::years::adjust_partial_year` meets its contract: each test of the code is one of the definition's, and
 -- no sum leaves 32 bits, since the year is below the test's bound. Assumes nothing.
 use mathlib.Core.Path.{◌≡◌}
-use mathlib.Core.Bool.{Bool}
+use mathlib.Core.Bool.{Bool, true, false}
 use Prim.Native.Nat.{ℕ}
 use lib.IntN.{ℤ, pos}
 use lib.Signed.{lt_z}
 use native.Mathlib.Omega.{arith}
+use borrow.Author.Rules.{rules}
 use mir.Facts.{to_z-of_z}
 use mir.Syntax.{w32}
 use mir.Val.{SFits}
@@ -35,19 +36,6 @@ returns-2 c =
     let fits = at-start.ranges.year in
     rw (raised_is at-start.args.year 100 1900 fits c.if-year-lt100.true (omega arith), test 70 fits c.if-year-lt70.false, test 100 fits c.if-year-lt100.true)
 
--- below 520: by 2000
-returns-3 : tie.Need-returns-then-year-lt520
-unfolding near2020
-returns-3 c =
-    let at-start = c.before.before.before in
-    let fits = at-start.ranges.year in
-    rw (
-      raised_is at-start.args.year 520 2000 fits c.if-year-lt520.true (omega arith),
-      test 70 fits c.if-year-lt70.false,
-      test 100 fits c.if-year-lt100.false,
-      test 520 fits c.if-year-lt520.true,
-    )
-
 -- below 1000: by 1000
 returns-4 : tie.Need-returns-then-year-lt1000
 unfolding near2020
@@ -58,7 +46,7 @@ returns-4 c =
       raised_is at-start.args.year 1000 1000 fits c.if-year-lt1000.true (omega arith),
       test 70 fits c.if-year-lt70.false,
       test 100 fits c.if-year-lt100.false,
-      test 520 fits c.if-year-lt520.false,
+      test 520 {false} fits (search rules),
       test 1000 fits c.if-year-lt1000.true,
     )
 
@@ -72,11 +60,12 @@ returns-5 c =
       to_z-of_z fits,
       test 70 fits c.if-year-lt70.false,
       test 100 fits c.if-year-lt100.false,
-      test 520 fits c.if-year-lt520.false,
+      test 520 {false} fits (search rules),
       test 1000 fits c.if-year-lt1000.false,
     )
 
 pub adjust_partial_year_spec : {M : Type 1} → statement M
+unfolding near2020
 adjust_partial_year_spec =
     tie.close
     (tie.spec
@@ -84,8 +73,17 @@ adjust_partial_year_spec =
     returns
     (λ c. raised _ 100 1900 c.ranges.year c.if-year-lt100.true (omega arith))
     returns-2
-    (λ c. raised _ 520 2000 c.ranges.year c.if-year-lt520.true (omega arith))
-    returns-3
+    (λ c. raised c.args.year 520 2000 c.ranges.year (search rules) (omega arith))
+    -- below 520: by 2000
+    (λ c.
+    let at-start = c.before.before.before in
+    let fits = at-start.ranges.year in
+    rw (
+    raised_is at-start.args.year 520 2000 fits (search rules) (omega arith),
+    test 70 fits c.if-year-lt70.false,
+    test 100 fits c.if-year-lt100.false,
+    test 520 {true} fits (search rules),
+    ))
     (λ c. raised _ 1000 1000 c.ranges.year c.if-year-lt1000.true (omega arith))
     returns-4
     returns-5)

@@ -1,12 +1,14 @@
 -- `read_numbers::years::joined` meets its contract: the thousands and the sum are tested before they are made, and each
 -- test says whether the number has 32 bits. Assumes nothing.
 use mathlib.Core.Path.{◌≡◌, ◌∙◌, sym}
-use mathlib.Core.Bool.{true}
+use mathlib.Core.Bool.{true, false}
 use borrow.Author.Rules.{rules}
 use lib.IntN.{ℤ, pos, ◌+ℤ◌, ◌*ℤ◌}
+use lib.Signed.{lt_z}
 use mir.Facts.{to_z-of_z}
 use mir.Syntax.{w32}
 use mir.Val.{SFits}
+use Rattle.base_wrapping.proofs.Fits.{read}
 use Rattle.read_integers.specs.Number.{fits32}
 use Rattle.read_numbers.specs.Year.{joined}
 use Rattle.read_integers.proofs.Ranges.{fits-of}
@@ -21,60 +23,70 @@ returns c =
     let at-start = c.before in
     rw (thousands-low at-start.args.thousands (simp (to_z-of_z at-start.ranges.thousands) at c.if-thousands-ltminus2147483.true))
 
--- too many above it
-returns-2 : tie.Need-returns-then-thousands-gt2147483
-unfolding joined
-returns-2 c =
-    let at-start = c.before.before in
-    rw (thousands-high at-start.args.thousands (simp (to_z-of_z at-start.ranges.thousands) at c.if-thousands-gt2147483.true))
-
--- the thousands have 32 bits
-module _ (c : tie.Else-thousands-gt2147483) where
+-- not too many below 0: with not too many above it the thousands have 32 bits
+module _ (c : tie.Else-thousands-ltminus2147483) where
   abbrev start : tie.Start
-  start = c.before.before
+  start = c.before
 
   abbrev whole : ℤ
   whole = start.args.thousands *ℤ pos 1000
 
-  whole_is : fits32 whole ≡ true
-  whole_is =
+  abbrev Within : Type 0
+  Within = lt_z (pos 2147483) (read start.args.thousands) ≡ false
+
+  whole_is : Within → fits32 whole ≡ true
+  whole_is within =
       let fits = start.ranges.thousands in
-      thousands-fit start.args.thousands (simp (to_z-of_z fits) at c.if-thousands-ltminus2147483.false) (simp (to_z-of_z fits) at c.if-thousands-gt2147483.false)
+      thousands-fit start.args.thousands (simp (to_z-of_z fits) at c.if-thousands-ltminus2147483.false) (simp (to_z-of_z fits) at within)
 
-  whole-fits : SFits w32 whole
-  whole-fits = fits-of whole whole_is
+  whole-fits : Within → SFits w32 whole
+  whole-fits within = fits-of whole (whole_is within)
 
-mul-whole : tie.Need-overflow_mul-whole
-mul-whole c = simp (to_z-of_z (start c).ranges.thousands) (whole-fits c)
+within : (c : tie.After-sum_fits) → Within c.before.before
+within c = search rules
 
 -- what the test of the sum said
-sum_is : (c : tie.After-sum_fits) → let at-whole = c.before in c.sum_fits.result ≡ fits32 ((start at-whole).args.years +ℤ whole at-whole)
+sum_is : (c : tie.After-sum_fits) → let at-low = c.before.before in c.sum_fits.result ≡ fits32 ((start at-low).args.years +ℤ whole at-low)
 sum_is c =
-    let at-whole = c.before in
-    simp (to_z-of_z (start at-whole).ranges.thousands, to_z-of_z (start at-whole).ranges.years, to_z-of_z (whole-fits at-whole)) at c.sum_fits.ensures
+    let at-low = c.before.before in
+    simp (to_z-of_z (start at-low).ranges.thousands, to_z-of_z (start at-low).ranges.years, to_z-of_z (whole-fits at-low (within c))) at c.sum_fits.ensures
 
-sum_fits : (c : tie.Then-sum_fits) → let at-whole = c.before.before in SFits w32 ((start at-whole).args.years +ℤ whole at-whole)
+sum_fits : (c : tie.Then-sum_fits) → let at-low = c.before.before.before in SFits w32 ((start at-low).args.years +ℤ whole at-low)
 sum_fits c = fits-of _ (sym (sum_is c.before) ∙ c.if-sum_fits.true)
 
 add-t10 : tie.Need-overflow_add-result
 add-t10 c =
-    let at-whole = c.before.before in
-    simp (to_z-of_z (start at-whole).ranges.thousands, to_z-of_z (start at-whole).ranges.years, to_z-of_z (whole-fits at-whole)) (sum_fits c)
+    let at-low = c.before.before.before in
+    simp (to_z-of_z (start at-low).ranges.thousands, to_z-of_z (start at-low).ranges.years, to_z-of_z (whole-fits at-low (within c.before))) (sum_fits c)
 
 -- the sum has 32 bits
 returns-3 : tie.Need-returns-then-sum_fits
 unfolding joined
 returns-3 c =
-    let at-whole = c.before.before in
-    simp (to_z-of_z (start at-whole).ranges.thousands, to_z-of_z (start at-whole).ranges.years, to_z-of_z (whole-fits at-whole), to_z-of_z (sum_fits c))
-    (rw (whole_is at-whole, ← sum_is c.before, c.if-sum_fits.true))
+    let at-low = c.before.before.before in
+    simp (to_z-of_z (start at-low).ranges.thousands, to_z-of_z (start at-low).ranges.years, to_z-of_z (whole-fits at-low (within c.before)), to_z-of_z (sum_fits c))
+    (rw (whole_is at-low (within c.before), ← sum_is c.before, c.if-sum_fits.true))
 
 -- it has not
 returns-4 : tie.Need-returns
 unfolding joined
 returns-4 c =
-    let at-whole = c.before.before in
-    rw (whole_is at-whole, ← sum_is c.before, c.if-sum_fits.false)
+    let at-low = c.before.before.before in
+    rw (whole_is at-low (within c.before), ← sum_is c.before, c.if-sum_fits.false)
 
 pub joined_spec : {M : Type 1} → statement M
-joined_spec = tie.close (tie.spec returns returns-2 mul-whole (λ c κs. search rules) add-t10 returns-3 returns-4)
+unfolding joined
+joined_spec =
+    tie.close
+    (tie.spec
+    returns
+    -- too many above it
+    (λ c.
+    let at-start = c.before.before in
+    let above : lt_z (pos 2147483) (read at-start.args.thousands) ≡ true = search rules in
+    rw (thousands-high at-start.args.thousands (simp (to_z-of_z at-start.ranges.thousands) at above)))
+    (λ c. let at-low = c.before in simp (to_z-of_z (start at-low).ranges.thousands) (whole-fits at-low (search rules)))
+    (λ c κs. search rules)
+    add-t10
+    returns-3
+    returns-4)

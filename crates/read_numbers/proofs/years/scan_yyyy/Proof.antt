@@ -21,15 +21,11 @@ use Rattle.read_numbers.proofs.CommaYears.{no-first, no-comma, comma-within, no_
 use Rattle.read_numbers.proofs.years.scan_yyyy.Statement.{statement}
 use Rattle.read_numbers.proofs.years.scan_yyyy.Tie as tie
 
--- no first number
-returns : tie.Need-returns-then-end-eq0
-returns c = no-first _ _ c.c_strtol-a.ensures c.if-end-eq0.true
-
 -- no comma after it
 returns-2 : tie.Need-returns-then-byte_at-ne44
 returns-2 c =
     let Some-number = c.before.before in
-    no-comma _ _ Some-number.c_strtol-a.ensures Some-number.if-end-eq0.false (λ q. c.if-byte_at-ne44.true (c.byte_at.ensures ∙ q))
+    no-comma _ _ Some-number.c_strtol-a.ensures (omega arith) (λ q. c.if-byte_at-ne44.true (c.byte_at.ensures ∙ q))
 
 -- a comma follows the first number
 module _ (c : tie.Else-byte_at-ne44) where
@@ -62,7 +58,7 @@ returns-3 : tie.Need-returns-then-b-from
 returns-3 c =
     let after-second = c.before.before in
     let at-comma = after-second.before.before in
-    no_second _ _ (first at-comma) at-comma.if-end-eq0.false (comma at-comma) _ after-second.past_spaces-from.ensures _ after-second.within_three-b.ensures
+    no_second _ _ (first at-comma) (omega arith) (comma at-comma) _ after-second.past_spaces-from.ensures _ after-second.within_three-b.ensures
     c.if-b-from.true
 
 -- both numbers have 64 bits
@@ -80,7 +76,7 @@ returns-4 c =
     let at-comma = after-second.before.before in
     let cut-first = c.wrapping_cut in
     let cut-second = c.wrapping_cut-2 in
-    both_read _ _ (first at-comma) at-comma.if-end-eq0.false (comma at-comma) _ after-second.past_spaces-from.ensures _ after-second.within_three-b.ensures
+    both_read _ _ (first at-comma) (omega arith) (comma at-comma) _ after-second.past_spaces-from.ensures _ after-second.within_three-b.ensures
     both-there.if-b-from.false
     _ _
     (returned cut-first.type_inv (cut-first.ensures ∙ ap wrap32 (to_z-of_z (first_fits at-comma.before.before.before))))
@@ -91,7 +87,8 @@ scan_yyyy_spec =
     tie.close
     (tie.spec
     (λ c κs. search rules)
-    returns
+    -- no first number
+    (λ c. no-first _ _ c.c_strtol-a.ensures (omega arith))
     (λ c κs. search rules)
     returns-2
     add-past-spaces

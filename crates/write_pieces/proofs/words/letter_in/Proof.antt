@@ -6,7 +6,7 @@ use Prim.Native.Nat.{ℕ}
 use borrow.Author.Rules.{rules}
 use Rattle.base_chars.specs.Fold.{folded, raised}
 use Rattle.template_patterns.specs.declared.Case.{Case}
-use Rattle.template_patterns.specs.declared.Case.TheVariants.{Title}
+use Rattle.template_patterns.specs.declared.Case.TheVariants.{Capitals, Small, Title}
 use Rattle.write_pieces.specs.Words.{letter_in}
 use Rattle.write_pieces.proofs.words.letter_in.Statement.{statement}
 use Rattle.write_pieces.proofs.words.letter_in.Tie as tie
@@ -19,28 +19,6 @@ module _ (case : Case) (title : case ≡ Title) (first : Bool) (b r : ℕ) where
   other-letter : first ≡ false → r ≡ folded b → r ≡ letter_in case first b
   other-letter e is = rw (title, e) is
 
--- title case, the first letter
-returns : tie.Need-returns-then-first
-returns c =
-    let at-arm = c.before.before in
-    let args = at-arm.args in
-    first-letter args.case at-arm.in-Title.is args.first args.b _ c.if-first.true c.raised-then-first.ensures
-
--- capitals
-returns-2 : tie.Need-returns-in-Capitals
-returns-2 c = rw c.in-Capitals.is c.raised.ensures
-
--- small letters
-returns-3 : tie.Need-returns-in-Small
-returns-3 c = rw c.in-Small.is c.folded.ensures
-
--- title case, another letter
-returns-4 : tie.Need-returns-else-first
-returns-4 c =
-    let at-arm = c.before.before in
-    let args = at-arm.args in
-    other-letter args.case at-arm.in-Title.is args.first args.b _ c.if-first.false c.folded-in-Title.ensures
-
 pub letter_in_spec : {M : Type 1} → statement M
 letter_in_spec =
     tie.close
@@ -51,8 +29,20 @@ letter_in_spec =
     (λ c κs. search rules)
     (λ c. search rules)
     (λ c κs. search rules)
-    returns
+    -- title case, the first letter
+    (λ c.
+    let at-arm = c.before.before in
+    let args = at-arm.args in
+    let first : args.first ≡ true = search rules in
+    first-letter args.case at-arm.in-Title.is args.first args.b _ first (search rules))
     (λ c κs. search rules)
-    returns-2
-    returns-3
-    returns-4)
+    -- capitals
+    (λ c. let capitals : c.args.case ≡ Capitals = search rules in rw capitals (search rules))
+    -- small letters
+    (λ c. let small : c.args.case ≡ Small = search rules in rw small (search rules))
+    -- title case, another letter
+    (λ c.
+    let at-arm = c.before.before in
+    let args = at-arm.args in
+    let other : args.first ≡ false = search rules in
+    other-letter args.case at-arm.in-Title.is args.first args.b _ other (search rules)))
