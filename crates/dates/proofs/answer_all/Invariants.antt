@@ -1,6 +1,6 @@
 -- `dates::answer_all`: what is kept is within the input's buffer, and the buffers keep their lengths. Each turn leaves
 -- fewer reads.
-use Rattle.std.proofs.Common.{◌≡◌, ◌≤◌, length}
+use Rattle.std.proofs.Common.{◌≤◌, length}
 use Rattle.line_texts.specs.Texts.{longest}
 use Rattle.dates.proofs.answer_all.Given as goal
 

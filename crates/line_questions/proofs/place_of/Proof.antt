@@ -1,31 +1,40 @@
 -- `line_questions::place_of` meets its contract: a number that is not below 0 is one of 63 bits. Assumes nothing.
-use mathlib.Core.Path.{◌∙◌, sym}
+use mathlib.Core.Path.{◌≡◌, ◌∙◌, sym}
+use mathlib.Core.Bool.{true}
 use borrow.Author.Rules.{rules}
+use lib.IntN.{pos}
+use lib.Signed.{lt_z}
 use mir.Facts.{to_z-of_z}
+use mir.Syntax.{w64}
+use mir.Val.{to_z, of_z}
 use Rattle.line_questions.proofs.Places.{placed, below-0}
 use Rattle.line_questions.proofs.place_of.Statement.{statement}
 use Rattle.line_questions.proofs.place_of.Tie as tie
-
--- below 0
-returns : tie.Need-returns-then-n-lt0
-returns c =
-    let at_test = c.before in
-    let n-is = to_z-of_z at_test.ranges.n in
-    c.no_place.ensures ∙ sym (below-0 _ _ _ (simp n-is at at_test.if-n-lt0.true))
 
 -- the number can be cast
 cast-t5 : tie.Need-overflow_cast-result
 cast-t5 c =
     let fits = c.ranges.n in
     let n-is = to_z-of_z fits in
-    simp n-is (placed 0 0 _ fits (simp n-is at c.if-n-lt0.false)).0
+    simp n-is (placed 0 0 c.args.n fits (rw (← n-is) (search rules))).0
 
 -- a place
 returns-2 : tie.Need-returns
 returns-2 c =
     let fits = c.ranges.n in
     let n-is = to_z-of_z fits in
-    simp n-is (sym (placed _ _ _ fits (simp n-is at c.if-n-lt0.false)).1)
+    simp n-is (sym (placed _ _ c.args.n fits (rw (← n-is) (search rules))).1)
 
 pub place_of_spec : {M : Type 1} → statement M
-place_of_spec = tie.close (tie.spec (λ c κs. search rules) returns cast-t5 returns-2)
+place_of_spec =
+    tie.close
+    (tie.spec
+    (λ c κs. search rules)
+    -- below 0
+    (λ c.
+    let at_test = c.before in
+    let n-is = to_z-of_z at_test.ranges.n in
+    let below : lt_z (to_z w64 (of_z w64 at_test.args.n)) (pos 0) ≡ true = search rules in
+    c.no_place.ensures ∙ sym (below-0 _ _ _ (simp n-is at below)))
+    cast-t5
+    returns-2)

@@ -1,4 +1,6 @@
 -- `read_integers::skip_th` meets its contract: each character that is skipped ends within the input. Assumes nothing.
+use mathlib.Core.Path.{◌≡◌}
+use mathlib.Core.Bool.{true, false}
 use native.Mathlib.Omega.{arith}
 use borrow.Author.Rules.{rules}
 use borrow.Author.Tests.{ne_eqb}
@@ -12,19 +14,6 @@ returns : tie.Need-returns-then-suffix-eq0
 unfolding past_ordinal
 returns c = record { is = rw c.if-suffix-eq0.true; from = omega arith; within = omega arith }
 
--- past two characters in the accents mode
-returns-2 : tie.Need-returns-then-accents
-unfolding past_ordinal
-returns-2 c =
-    let first = c.whole.ensures in
-    let second = c.whole-then-accents.ensures in
-    let at-mode = c.before.before in
-    record {
-      is = rw (ne_eqb _ _ at-mode.if-suffix-eq0.false, at-mode.if-accents.true, second.is, first.is);
-      from = omega arith;
-      within = omega (arith, first.within, second.within);
-    }
-
 -- and in the other
 returns-3 : tie.Need-returns
 unfolding past_ordinal measure_of
@@ -32,13 +21,15 @@ returns-3 c =
     let first = c.pg_mblen.ensures in
     let second = c.pg_mblen-2.ensures in
     let at-mode = c.before.before in
+    let off : at-mode.args.accents ≡ false = search rules in
     record {
-      is = rw (ne_eqb _ _ at-mode.if-suffix-eq0.false, at-mode.if-accents.false, second.is, first.is);
+      is = rw (ne_eqb _ _ at-mode.if-suffix-eq0.false, off, second.is, first.is);
       from = omega arith;
       within = omega arith;
     }
 
 pub skip_th_spec : {M : Type 1} → statement M
+unfolding past_ordinal
 skip_th_spec =
     tie.close
     (tie.spec
@@ -46,8 +37,16 @@ skip_th_spec =
     (λ c κs. search rules)
     (λ c. omega (arith, c.whole.ensures.within))
     (λ c κs. search rules)
-    (λ c. omega (arith, c.whole-then-accents.ensures.within, c.whole.ensures.within))
-    returns-2
+    (λ c. omega arith)
+    -- past two characters in the accents mode
+    (λ c.
+    let at-mode = c.before.before in
+    let on : at-mode.args.accents ≡ true = search rules in
+    record {
+      is = rw (ne_eqb _ _ at-mode.if-suffix-eq0.false, on) (cc);
+      from = omega arith;
+      within = omega arith;
+    })
     (λ c κs. search rules)
     (λ c. search rules)
     (λ c κs. search rules)

@@ -6,8 +6,8 @@ use borrow.Author.Rules.{rules}
 use lib.IntN.{ℤ, pos, negsuc}
 use lib.Signed.{lt_z}
 use mir.Facts.{to_z-of_z}
-use mir.Syntax.{w32, w64}
-use mir.Val.{SFits, to_z, of_z}
+use mir.Syntax.{w64}
+use mir.Val.{to_z, of_z}
 use Rattle.moment_instants.specs.Instant.{day_of}
 use Rattle.moment_instants.proofs.Range.{day-fits}
 use Rattle.moment_instants.proofs.Seconds.{returned, days}

@@ -46,7 +46,7 @@ returns-4 c =
       raised_is at-start.args.year 1000 1000 fits c.if-year-lt1000.true (omega arith),
       test 70 fits c.if-year-lt70.false,
       test 100 fits c.if-year-lt100.false,
-      test 520 {false} fits (search rules),
+      test 520 {t = false} fits (search rules),
       test 1000 fits c.if-year-lt1000.true,
     )
 
@@ -60,7 +60,7 @@ returns-5 c =
       to_z-of_z fits,
       test 70 fits c.if-year-lt70.false,
       test 100 fits c.if-year-lt100.false,
-      test 520 {false} fits (search rules),
+      test 520 {t = false} fits (search rules),
       test 1000 fits c.if-year-lt1000.false,
     )
 
@@ -79,10 +79,10 @@ adjust_partial_year_spec =
     let at-start = c.before.before.before in
     let fits = at-start.ranges.year in
     rw (
-    raised_is at-start.args.year 520 2000 fits (search rules) (omega arith),
-    test 70 fits c.if-year-lt70.false,
-    test 100 fits c.if-year-lt100.false,
-    test 520 {true} fits (search rules),
+      raised_is at-start.args.year 520 2000 fits (search rules) (omega arith),
+      test 70 fits c.if-year-lt70.false,
+      test 100 fits c.if-year-lt100.false,
+      test 520 {t = true} fits (search rules),
     ))
     (λ c. raised _ 1000 1000 c.ranges.year c.if-year-lt1000.true (omega arith))
     returns-4
