@@ -1,6 +1,6 @@
 // Reads lines and answers each with a line, by the mode that its argument names. The answers to all lines that were
 // read are written before more is read. What cannot be read or written is reported on standard error, and ends the
-// program. So does output that nobody reads any longer, without a report.
+// program. Output that nobody reads any longer ends it too, without a report.
 #![tactic(auto)]
 
 ghost use Rattle.std.specs.Prelude.{◌≡◌, false, ◌≤◌, ◌<◌, length, drop};
@@ -21,8 +21,8 @@ const BUFFER: usize = 65536;
 const CLOSED: u8 = 141;
 
 // What is left between two reads: the bytes kept of an unfinished line, whether its beginning was left off, whether
-// something failed, whether that is since nobody reads the output any longer, and how many reads may come. A proved loop has to end, and nothing says that the input does: so the
-// reads are counted.
+// something failed, whether that is since nobody reads the output any longer, and how many reads may come. A proved
+// loop has to end, and nothing says that the input does: so the reads are counted.
 #[derive(Clone, Copy)]
 struct State {
     kept: usize,
