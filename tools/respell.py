@@ -72,8 +72,8 @@ def main():
     crates = os.path.join(top, "crates")
     table = dict(line.split("\t") for line in read(os.path.join(HERE, "respell.tsv")).splitlines())
     names = re.compile(NOT_IN_A_NAME.format("(" + "|".join(sorted(table, key=len, reverse=True)) + ")"))
-    done = any(names.search(read(os.path.join(crates, file))) for _, files in LEMMAS for file in files)
-    if done:
+    is_new = any(names.search(read(os.path.join(crates, file))) for _, files in LEMMAS for file in files)
+    if is_new:
         lemmas_apart(crates)
     for folder, folders, files in os.walk(crates):
         folders[:] = sorted(name for name in folders if name != "out")
