@@ -1,12 +1,13 @@
 #!/usr/bin/env python3
-"""Respells the names of definitions and lemmas that are left in camel case, by the table respell.tsv beside this file.
+"""Respells the names of definitions, lemmas and fields of records that port.py leaves, by the table respell.tsv beside
+this file: camel case becomes snake case, and a plain word is joined to a name by `_`.
 
 usage: tools/respell.py [FOLDER]
 
 FOLDER is the top of a checkout, this one if none is given. Below its crates/ every .rt, .antt and .edit file is
 rewritten in place, and of a text in quotes nothing. Four lemmas whose names would fall together with a definition's get
-`_lem` first, and the choice `if a then b else c` of base_notation becomes `when a then b else c`, since the library has one
-of that name. A second run changes nothing.
+`_lem` first, and the choice `if a then b else c` of base_notation becomes `when a then b else c`, since the library has
+one of that name. In a comment only what is in backticks is turned. A second run changes nothing.
 """
 
 import os
@@ -15,6 +16,8 @@ import sys
 
 HERE = os.path.dirname(os.path.realpath(__file__))
 NOT_IN_A_NAME = r"(?<![A-Za-z0-9_'ℤ₀₁₂]){}(?![A-Za-z0-9_'ℤ₀₁₂])"
+NOT_IN_A_DASHED_NAME = r"(?<![A-Za-z0-9_'ℤℕ₀₁₂-]){}(?![A-Za-z0-9_'ℤℕ₀₁₂-])"
+COMMENT = re.compile(r"(^|\s)(--|//).*$", re.M)
 
 # The lemma, the files that name it, and its new name.
 LEMMAS = [
@@ -67,11 +70,25 @@ def choice(path, text):
     return "\n".join(lines)
 
 
+def any_of(names, boundary):
+    return re.compile(boundary.format("(" + "|".join(sorted(map(re.escape, names), key=len, reverse=True)) + ")"))
+
+
+def outside_comments(text, turn):
+    """The text with its code turned, and in its comments what is in backticks."""
+    parts, at = [], 0
+    for it in COMMENT.finditer(text):
+        parts += [turn(text[at : it.start()]), re.sub(r"`[^`\n]*`", lambda name: turn(name.group(0)), it.group(0))]
+        at = it.end()
+    return "".join(parts + [turn(text[at:])])
+
+
 def main():
     top = sys.argv[1] if len(sys.argv) > 1 else os.path.dirname(HERE)
     crates = os.path.join(top, "crates")
     table = dict(line.split("\t") for line in read(os.path.join(HERE, "respell.tsv")).splitlines())
-    names = re.compile(NOT_IN_A_NAME.format("(" + "|".join(sorted(table, key=len, reverse=True)) + ")"))
+    names = any_of((name for name in table if "-" not in name), NOT_IN_A_NAME)
+    dashed = any_of((name for name in table if "-" in name), NOT_IN_A_DASHED_NAME)
     is_new = any(names.search(read(os.path.join(crates, file))) for _, files in LEMMAS for file in files)
     if is_new:
         lemmas_apart(crates)
@@ -84,6 +101,7 @@ def main():
             text = read(path)
             turned = outside_quotes(text, lambda part: names.sub(lambda it: table[it.group(1)], part))
             turned = choice(path, turned)
+            turned = outside_comments(turned, lambda part: dashed.sub(lambda it: table[it.group(1)], part))
             if turned != text:
                 write(path, turned)
 

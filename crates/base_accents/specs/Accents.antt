@@ -39,15 +39,15 @@ pub record Counted (accents : Bool) (s : List ℕ) (at r : ℕ) : Type 0 where
   pub within : r ≤ length s - at
 
 -- unfolds all that a character is measured by
-unfoldable pub measure-computes : ℕ
+unfoldable pub measure_computes : ℕ
 unfolding measure_of mark_at letter_at marks char_length lead class_of
-measure-computes = 0
+measure_computes = 0
 
 -- the characters just outside the marks, and the first and the last of each first byte
 pub ends
     : map (λ c. mark_at (encoded c) 0) (0x2ff ∷ 0x300 ∷ 0x33f ∷ 0x340 ∷ 0x36f ∷ 0x370 ∷ [])
     ≡ false ∷ true ∷ true ∷ true ∷ true ∷ false ∷ []
-unfolding measure-computes
+unfolding measure_computes
 ends = refl
 
 -- ứ in one, two and three characters, the marks in either order: one character in the accents mode
@@ -60,20 +60,20 @@ acute = encoded 0x301
 abbrev spellings : List (List ℕ)
 spellings = utf8 "ứ" ∷ (utf8 "ư" ++ acute) ∷ (utf8 "ú" ++ horn) ∷ (utf8 "u" ++ horn ++ acute) ∷ (utf8 "u" ++ acute ++ horn) ∷ []
 
-pub one-letter
+pub one_letter
     : (map (λ s. measure_of true s 0) spellings ≡ map length spellings)
     × (map (λ s. measure_of false s 0) spellings ≡ 3 ∷ 2 ∷ 2 ∷ 1 ∷ 1 ∷ [])
-unfolding measure-computes
-one-letter = (refl, refl)
+unfolding measure_computes
+one_letter = (refl, refl)
 
 -- a mark after a digit, a space, a separator or nothing counts alone; so does each after a lone mark
 pub alone
     : (map (λ b. measure_of true (b ∷ acute) 0) (code "5" ∷ code " " ∷ code "-" ∷ []) ≡ 1 ∷ 1 ∷ 1 ∷ [])
     × (measure_of true (acute ++ horn) 0 ≡ 2)
-unfolding measure-computes
+unfolding measure_computes
 alone = (refl, refl)
 
 -- any other character outside ASCII is a letter: an ideograph, a musical sign, a space that does not break
 pub letters : map (λ s. measure_of true (s ++ acute ++ utf8 "a") 0) (utf8 "日" ∷ utf8 "𝄞" ∷ encoded 0xa0 ∷ []) ≡ 5 ∷ 6 ∷ 4 ∷ []
-unfolding measure-computes
+unfolding measure_computes
 letters = refl

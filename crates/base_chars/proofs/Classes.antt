@@ -1,8 +1,8 @@
 -- Laws of a byte's class. Assumes nothing.
 -- `the_class`: a class that passed the test for k is k.
--- `space-test`, `digit-test`, `letter-test`, `separator-test`: each test of a byte's class as comparisons of the byte.
--- `digit-bounds`, `digit-class`: the digits are the bytes from 48 to 57.
--- `wide-class`: a byte that is not ASCII is of the class `other`.
+-- `space_test`, `digit_test`, `letter_test`, `separator_test`: each test of a byte's class as comparisons of the byte.
+-- `digit_bounds`, `digit_class`: the digits are the bytes from 48 to 57.
+-- `wide_class`: a byte that is not ASCII is of the class `other`.
 use mathlib.Core.Path.{◌≡◌, ◌∙◌, refl, sym, ap}
 use mathlib.Core.Bool.{Bool, true, false, not, ◌&&◌, ◌||◌, false≢true}
 use mathlib.Core.List.{[], ◌∷◌}
@@ -20,16 +20,16 @@ use Rattle.base_chars.proofs.Ranges.{inside, above, bounds}
 numbered : ℕ → Class
 numbered n = get_or (space ∷ digit ∷ letter ∷ separator ∷ []) n other
 
-of-rank : (c : Class) → numbered (rank c) ≡ c
+of_rank : (c : Class) → numbered (rank c) ≡ c
 unfolding numbered
-of-rank space = refl
-of-rank digit = refl
-of-rank letter = refl
-of-rank separator = refl
-of-rank other = refl
+of_rank space = refl
+of_rank digit = refl
+of_rank letter = refl
+of_rank separator = refl
+of_rank other = refl
 
 pub the_class : (c k : Class) → c is k ≡ true → c ≡ k
-the_class c k e = sym (of-rank c) ∙ ap numbered (eqb-true _ _ e) ∙ of-rank k
+the_class c k e = sym (of_rank c) ∙ ap numbered (eqb-true _ _ e) ∙ of_rank k
 
 -- a class by its four tests, made in order
 abbrev ordered : Bool → Bool → Bool → Bool → Class
@@ -84,49 +84,49 @@ module _ (b : ℕ) where
   printed = b ∈ 33 ‥ 126
 
   -- above the blank there is no space
-  no-space : 33 ≤ b → blank ≡ false
-  no-space h = rw (above (9 ‥ 13) b (omega arith), ne_eqb b 32 (omega arith))
+  no_space : 33 ≤ b → blank ≡ false
+  no_space h = rw (above (9 ‥ 13) b (omega arith), ne_eqb b 32 (omega arith))
 
   -- a letter is 65 or above, and so above the digits
-  letters-from : (u v : Bool) → b ∈ 65 ‥ 90 ≡ u → b ∈ 97 ‥ 122 ≡ v → u || v ≡ true → 65 ≤ b
-  letters-from true v e f t = (bounds (65 ‥ 90) b e).0
-  letters-from false true e f t = omega (arith, bounds (97 ‥ 122) b f)
-  letters-from false false e f t = absurd (false≢true t)
+  letters_from : (u v : Bool) → b ∈ 65 ‥ 90 ≡ u → b ∈ 97 ‥ 122 ≡ v → u || v ≡ true → 65 ≤ b
+  letters_from true v e f t = (bounds (65 ‥ 90) b e).0
+  letters_from false true e f t = omega (arith, bounds (97 ‥ 122) b f)
+  letters_from false false e f t = absurd (false≢true t)
 
-  pub space-test : is_space b ≡ (b ∈ 9 ‥ 13 || eqb b 32)
+  pub space_test : is_space b ≡ (b ∈ 9 ‥ 13 || eqb b 32)
   unfolding class_of
-  space-test = ordered-space blank numeral alphabetic printed
+  space_test = ordered-space blank numeral alphabetic printed
 
-  pub digit-test : is_digit b ≡ b ∈ 48 ‥ 57
+  pub digit_test : is_digit b ≡ b ∈ 48 ‥ 57
   unfolding class_of
-  digit-test = ordered-digit blank numeral alphabetic printed (λ e. no-space (omega (arith, bounds (48 ‥ 57) b e)))
+  digit_test = ordered-digit blank numeral alphabetic printed (λ e. no_space (omega (arith, bounds (48 ‥ 57) b e)))
 
-  pub digit-bounds : is_digit b ≡ true → (48 ≤ b) × (b ≤ 57)
-  digit-bounds e = bounds (48 ‥ 57) b (sym digit-test ∙ e)
+  pub digit_bounds : is_digit b ≡ true → (48 ≤ b) × (b ≤ 57)
+  digit_bounds e = bounds (48 ‥ 57) b (sym digit_test ∙ e)
 
-  pub letter-test : is_letter b ≡ (b ∈ 65 ‥ 90 || b ∈ 97 ‥ 122)
+  pub letter_test : is_letter b ≡ (b ∈ 65 ‥ 90 || b ∈ 97 ‥ 122)
   unfolding class_of
-  letter-test =
+  letter_test =
       ordered-letter blank numeral alphabetic printed
-      (λ e. let from-65 = letters-from _ _ refl refl e in rw (no-space (omega arith), above (48 ‥ 57) b (omega arith)))
+      (λ e. let from_65 = letters_from _ _ refl refl e in rw (no_space (omega arith), above (48 ‥ 57) b (omega arith)))
 
   -- the test of a separator by comparisons alone
-  raw-separator : is_separator b ≡ (printed && not alphabetic && not numeral)
+  raw_separator : is_separator b ≡ (printed && not alphabetic && not numeral)
   unfolding class_of
-  raw-separator = ordered-separator blank numeral alphabetic printed (λ e. no-space (bounds (33 ‥ 126) b e).0)
+  raw_separator = ordered-separator blank numeral alphabetic printed (λ e. no_space (bounds (33 ‥ 126) b e).0)
 
-  pub separator-test : is_separator b ≡ (b ∈ 33 ‥ 126 && not (is_letter b) && not (is_digit b))
-  separator-test = raw-separator ∙ rw (letter-test, digit-test)
+  pub separator_test : is_separator b ≡ (b ∈ 33 ‥ 126 && not (is_letter b) && not (is_digit b))
+  separator_test = raw_separator ∙ rw (letter_test, digit_test)
 
-  pub digit-class : 48 ≤ b → b ≤ 57 → class_of b ≡ digit
+  pub digit_class : 48 ≤ b → b ≤ 57 → class_of b ≡ digit
   unfolding class_of
-  digit-class l h = rw (no-space (omega arith), inside (48 ‥ 57) b l h)
+  digit_class l h = rw (no_space (omega arith), inside (48 ‥ 57) b l h)
 
-  pub wide-class : 128 ≤ b → class_of b ≡ other
+  pub wide_class : 128 ≤ b → class_of b ≡ other
   unfolding class_of
-  wide-class h =
+  wide_class h =
       rw (
-        no-space (omega arith),
+        no_space (omega arith),
         above (48 ‥ 57) b (omega arith),
         above (65 ‥ 90) b (omega arith),
         above (97 ‥ 122) b (omega arith),

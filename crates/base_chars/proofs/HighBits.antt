@@ -1,7 +1,7 @@
 -- The high bits of bytes, as one number. Assumes nothing.
--- `eight-high`: the mask 0x80 on each of eight bytes leaves their high bits.
--- `last-high`: a shift of the last eight bytes leaves the high bits from a place on.
--- `word-passed`: the bytes below the lowest high bit of eight are ASCII, so they are passed.
+-- `eight_high`: the mask 0x80 on each of eight bytes leaves their high bits.
+-- `last_high`: a shift of the last eight bytes leaves the high bits from a place on.
+-- `word_passed`: the bytes below the lowest high bit of eight are ASCII, so they are passed.
 -- `onward`: what is passed in two steps is passed.
 use mathlib.Core.Path.{◌≡◌, ◌∙◌, refl, sym, ap}
 use mathlib.Core.Bool.{Bool, true, false}
@@ -21,7 +21,7 @@ use Rattle.base_chars.specs.Range.{◌‥◌}
 use Rattle.base_chars.specs.Utf8.{well_formed, high_bits, Passed}
 use Rattle.base_chars.proofs.Sequences.{ascii}
 use Rattle.base_chars.proofs.Ranges.{inside}
-use Rattle.base_chars.proofs.WellFormed.{past-sequence-at}
+use Rattle.base_chars.proofs.WellFormed.{past_sequence_at}
 
 -- f 0 to f (n - 1)
 abbrev listed : ℕ → (ℕ → ℕ) → List ℕ
@@ -67,44 +67,44 @@ module _ (s : List ℕ) (at : ℕ) (room : at + 8 ≤ length s) (small : (k : �
   abbrev byte : ℕ → ℕ
   byte k = get_or s (at + k) 0
 
-  first-eight : take 8 (drop at s) ≡ listed 8 byte
-  first-eight = taken 8 (drop at s) (omega (arith, length-drop at s)) ∙ simp get_or-drop
+  first_eight : take 8 (drop at s) ≡ listed 8 byte
+  first_eight = taken 8 (drop at s) (omega (arith, length-drop at s)) ∙ simp get_or-drop
 
-  pub eight-high
+  pub eight_high
       : {a b c d e f g h : ℕ}
       → a ≡ get_or s at 0 → b ≡ byte 1 → c ≡ byte 2 → d ≡ byte 3 → e ≡ byte 4 → f ≡ byte 5 → g ≡ byte 6 → h ≡ byte 7
       → bit_and (word a b c d e f g h) 0x8080808080808080 ≡ high_bits (take 8 (drop at s))
-  eight-high {a} {b} {c} {d} {e} {f} {g} {h} ea eb ec ed ee ef eg eh =
+  eight_high {a} {b} {c} {d} {e} {f} {g} {h} ea eb ec ed ee ef eg eh =
       let sum : word a b c d e f g h ≡ number 8 byte = omega (arith, ap (λ (k : ℕ). get_or s k 0) (add-zero at)) in
-      rw (sum, first-eight) (masked 8 byte (λ k. small (at + k)))
+      rw (sum, first_eight) (masked 8 byte (λ k. small (at + k)))
 
 -- k zeros below a number
-zeros-below : (k j x : ℕ) → count_trailing_zeros (j + k) (x * 2 ^ k) ≡ count_trailing_zeros j x + k
+zeros_below : (k j x : ℕ) → count_trailing_zeros (j + k) (x * 2 ^ k) ≡ count_trailing_zeros j x + k
 unfolding count_trailing_zeros
-zeros-below zero j x = rw (add-zero j, mul-one, add-zero)
-zeros-below (suc k) j x = rw (add-suc j k, shifted_even x k, shifted_half x k) (omega (arith, zeros-below k j x))
+zeros_below zero j x = rw (add-zero j, mul-one, add-zero)
+zeros_below (suc k) j x = rw (add-suc j k, shifted_even x k, shifted_half x k) (omega (arith, zeros_below k j x))
 
 -- none below an odd one
-no-zeros : (j x : ℕ) → count_trailing_zeros (suc j) (x * 2 + 1) ≡ 0
+no_zeros : (j x : ℕ) → count_trailing_zeros (suc j) (x * 2 + 1) ≡ 0
 unfolding count_trailing_zeros
-no-zeros j x = let odd : (x * 2 + 1) % 2 ≡ 1 = omega arith in rw odd
+no_zeros j x = let odd : (x * 2 + 1) % 2 ≡ 1 = omega arith in rw odd
 
 -- a first byte that is ASCII, and one that is not
-zeros-ascii : (j x : ℕ) → count_trailing_zeros (j + 8) (x * 256 + 0) / 8 ≡ suc (count_trailing_zeros j x / 8)
-zeros-ascii j x = rw (add-zero (x * 256), zeros-below 8 j x) (omega arith)
+zeros_ascii : (j x : ℕ) → count_trailing_zeros (j + 8) (x * 256 + 0) / 8 ≡ suc (count_trailing_zeros j x / 8)
+zeros_ascii j x = rw (add-zero (x * 256), zeros_below 8 j x) (omega arith)
 
-zeros-other : (j x : ℕ) → count_trailing_zeros (j + 8) (x * 256 + 0x80) / 8 ≡ 0
-zeros-other j x =
+zeros_other : (j x : ℕ) → count_trailing_zeros (j + 8) (x * 256 + 0x80) / 8 ≡ 0
+zeros_other j x =
     let same : x * 256 + 0x80 ≡ (x * 2 + 1) * 2 ^ 7 = omega arith in
     let count : j + 8 ≡ suc j + 7 = omega arith in
-    rw (same, count, zeros-below 7 (suc j) (x * 2 + 1), no-zeros j x)
+    rw (same, count, zeros_below 7 (suc j) (x * 2 + 1), no_zeros j x)
 
 -- the bytes below the lowest high bit are ASCII: what follows is well-formed exactly when the whole is
-high-run : (n : ℕ) (s : List ℕ) → well_formed (drop (count_trailing_zeros (8 * n) (high_bits (take n s)) / 8) s) ≡ well_formed s
+high_run : (n : ℕ) (s : List ℕ) → well_formed (drop (count_trailing_zeros (8 * n) (high_bits (take n s)) / 8) s) ≡ well_formed s
 unfolding high_bits count_trailing_zeros
-high-run zero s = refl
-high-run (suc n) [] = rw drop-nil
-high-run (suc n) (b ∷ s) = rw (mul-suc 8 n) (split (high-run n s) (ltb b 0x80) refl)
+high_run zero s = refl
+high_run (suc n) [] = rw drop-nil
+high_run (suc n) (b ∷ s) = rw (mul-suc 8 n) (split (high_run n s) (ltb b 0x80) refl)
   where
     rest : ℕ
     rest = high_bits (take n s)
@@ -113,8 +113,8 @@ high-run (suc n) (b ∷ s) = rw (mul-suc 8 n) (split (high-run n s) (ltb b 0x80)
         → well_formed (drop (count_trailing_zeros (8 * n + 8) (rest * 256 + (when t then 0 else 0x80)) / 8) (b ∷ s)) ≡ well_formed (b ∷ s)
     split after true e =
         let small = inside (0x00 ‥ 0x7f) b (omega arith) (omega (arith, ltb-true b 0x80 e)) in
-        rw (zeros-ascii (8 * n) rest) (after ∙ past-sequence-at (b ∷ s) 0 1 (sym (ascii b s small)))
-    split after false e = rw (zeros-other (8 * n) rest)
+        rw (zeros_ascii (8 * n) rest) (after ∙ past_sequence_at (b ∷ s) 0 1 (sym (ascii b s small)))
+    split after false e = rw (zeros_other (8 * n) rest)
 
 -- one byte shifted out
 shifted : (b x : ℕ) → (x * 256 + (when ltb b 0x80 then 0 else 0x80)) / 2 ^ 8 ≡ x
@@ -125,25 +125,25 @@ shifted b x = by_cases (ltb b 0x80)
     by_cases false = omega arith
 
 -- and several
-high-drop : (k : ℕ) (s : List ℕ) → high_bits s / 2 ^ (8 * k) ≡ high_bits (drop k s)
+high_drop : (k : ℕ) (s : List ℕ) → high_bits s / 2 ^ (8 * k) ≡ high_bits (drop k s)
 unfolding high_bits
-high-drop zero s = rw div-one
-high-drop (suc k) [] = zero-div (2 ^ (8 * suc k))
-high-drop (suc k) (b ∷ s) = rw (mul-suc 8 k, add_comm (8 * k) 8, ← shr-shr, shifted b (high_bits s)) (high-drop k s)
+high_drop zero s = rw div-one
+high_drop (suc k) [] = zero-div (2 ^ (8 * suc k))
+high_drop (suc k) (b ∷ s) = rw (mul-suc 8 k, add_comm (8 * k) 8, ← shr-shr, shifted b (high_bits s)) (high_drop k s)
 
-pub last-high
+pub last_high
     : (s : List ℕ) (at : ℕ) → 8 ≤ length s → at ≤ length s → length s < at + 8
     → high_bits (take 8 (drop (length s - 8) s)) / 2 ^ (64 - 8 * (length s - at)) ≡ high_bits (take 8 (drop at s))
-last-high s at long within near =
+last_high s at long within near =
     let k = at + 8 - length s in
     let bits : 64 - 8 * (length s - at) ≡ 8 * k = omega arith in
     let place : length s - 8 + k ≡ at = omega arith in
     let last : take 8 (drop (length s - 8) s) ≡ drop (length s - 8) s = take_all 8 _ (omega (arith, length-drop (length s - 8) s)) in
     let rest : take 8 (drop at s) ≡ drop at s = take_all 8 _ (omega (arith, length-drop at s)) in
-    rw (last, rest, bits) (high-drop k (drop (length s - 8) s) ∙ rw (drop-drop k (length s - 8) s, place))
+    rw (last, rest, bits) (high_drop k (drop (length s - 8) s) ∙ rw (drop-drop k (length s - 8) s, place))
 
-pub word-passed : (s : List ℕ) (at w n : ℕ) → w ≡ high_bits (take 8 (drop at s)) → n ≡ count_trailing_zeros 64 w / 8 → Passed s at (at + n)
-word-passed s at w n is count = record { forward = omega arith; same = rw (← drop-drop n at s, count, is) (high-run 8 (drop at s)) }
+pub word_passed : (s : List ℕ) (at w n : ℕ) → w ≡ high_bits (take 8 (drop at s)) → n ≡ count_trailing_zeros 64 w / 8 → Passed s at (at + n)
+word_passed s at w n is count = record { forward = omega arith; same = rw (← drop-drop n at s, count, is) (high_run 8 (drop at s)) }
 
 pub onward : {s : List ℕ} {a b c : ℕ} → Passed s a b → Passed s b c → Passed s a c
 onward p q = record { forward = omega (arith, p.forward, q.forward); same = q.same ∙ p.same }

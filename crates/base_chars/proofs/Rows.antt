@@ -32,9 +32,9 @@ record Up (m : ℕ) (r : Range) (rows : List (List Range)) : Type 0 where
 
 up : (m : ℕ) (r : Range) (rs : List Range) (rows : List (List Range)) → upwards m ((r ∷ rs) ∷ rows) ≡ true → Up m r rows
 up m r rs rows e =
-    let from-m = both (leb m r.low) _ e in
-    let some_bytes = both (leb r.low r.high) _ from-m.1 in
-    record { from = leb-true _ _ from-m.0; some = leb-true _ _ some_bytes.0; later = some_bytes.1 }
+    let from_m = both (leb m r.low) _ e in
+    let some_bytes = both (leb r.low r.high) _ from_m.1 in
+    record { from = leb-true _ _ from_m.0; some = leb-true _ _ some_bytes.0; later = some_bytes.1 }
 
 pub none : (m : ℕ) (rows : List (List Range)) (b : ℕ) (s : List ℕ) → upwards m rows ≡ true → b < m → first_row rows (b ∷ s) ≡ 0
 none m [] b s e h = refl
@@ -77,7 +77,7 @@ module _ (b : ℕ) (s : List ℕ) where
       rw (q, none (suc r.high) rows b s here.later (omega (arith, bounds r b q)))
   decides m ((r ∷ rs) ∷ rows) (suc k) e h q =
       let here = up m r rs rows e in
-      let after-here = reaches (suc r.high) rows k here.later (le_of_suc-le-suc h) in
+      let after_here = reaches (suc r.high) rows k here.later (le_of_suc-le-suc h) in
       rw (above r b (omega (arith, bounds (first (get_or rows k [])) b q)))
       (decides (suc r.high) rows k here.later (le_of_suc-le-suc h) q)
 

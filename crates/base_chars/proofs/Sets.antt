@@ -12,7 +12,7 @@ use Rattle.base_notation.proofs.Cases.{beq-true}
 use Rattle.base_notation.proofs.Table.{all_from, entry}
 use Rattle.base_chars.specs.Class.{class_of, is_space, is_separator}
 use Rattle.base_chars.specs.Sets.{in_set}
-use Rattle.base_chars.proofs.Classes.{wide-class}
+use Rattle.base_chars.proofs.Classes.{wide_class}
 
 module _ (low high : ℕ) (f : ℕ → Bool) where
   -- the set has exactly those numbers below 128 that have the property f
@@ -27,9 +27,9 @@ module _ (low high : ℕ) (f : ℕ → Bool) where
       split : (b : Bool) → ltb k 128 ≡ b → in_set low high k ≡ f k
       split true q = beq-true _ _ (entry (λ (k x : ℕ). beq (in_set low high k) (f k)) 0 (replicate 128 0) test k (ltb-true _ _ q))
       split false q =
-          let from-128 : 128 ≤ k = ltb-false _ _ q in
-          rw (le-ltb k 64 (omega arith), le-ltb k 128 from-128, none k from-128)
+          let from_128 : 128 ≤ k = ltb-false _ _ q in
+          rw (le-ltb k 64 (omega arith), le-ltb k 128 from_128, none k from_128)
 
 pub blanks : (b : ℕ) → in_set 0xfc00ffff00003e00 0x78000001f8000001 b ≡ (is_space b || is_separator b)
 unfolding in_set class_of
-blanks = set_is 0xfc00ffff00003e00 0x78000001f8000001 (λ (b : ℕ). is_space b || is_separator b) refl (λ b h. rw (wide-class b h))
+blanks = set_is 0xfc00ffff00003e00 0x78000001f8000001 (λ (b : ℕ). is_space b || is_separator b) refl (λ b h. rw (wide_class b h))

@@ -31,6 +31,6 @@ unfolding lead
 leads = refl
 
 -- à, at place 2, has 2 bytes; where the text ends after the first, 1; past the end there are none
-pub cut-at-end : (char_length (utf8 "ngày") 2 ≡ 2) × (char_length (take 3 (utf8 "ngày")) 2 ≡ 1) × (char_length (utf8 "ngày") 5 ≡ 0)
+pub cut_at_end : (char_length (utf8 "ngày") 2 ≡ 2) × (char_length (take 3 (utf8 "ngày")) 2 ≡ 1) × (char_length (utf8 "ngày") 5 ≡ 0)
 unfolding char_length lead
-cut-at-end = (refl, refl, refl)
+cut_at_end = (refl, refl, refl)

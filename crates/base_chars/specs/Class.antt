@@ -42,17 +42,17 @@ abbrev pub is_separator : ℕ → Bool
 is_separator b = class_of b is separator
 
 -- the bytes at the ends of each class
-pub spaces-at : map class_of (8 ∷ 9 ∷ 13 ∷ 14 ∷ 31 ∷ 32 ∷ []) ≡ other ∷ space ∷ space ∷ other ∷ other ∷ space ∷ []
+pub spaces_at : map class_of (8 ∷ 9 ∷ 13 ∷ 14 ∷ 31 ∷ 32 ∷ []) ≡ other ∷ space ∷ space ∷ other ∷ other ∷ space ∷ []
 unfolding class_of
-spaces-at = refl
+spaces_at = refl
 
-pub printed-at
+pub printed_at
     : map class_of (33 ∷ 47 ∷ 48 ∷ 57 ∷ 58 ∷ 64 ∷ 65 ∷ 90 ∷ 91 ∷ 96 ∷ 97 ∷ 122 ∷ 123 ∷ 126 ∷ [])
     ≡ separator ∷ separator ∷ digit ∷ digit ∷ separator ∷ separator ∷ letter ∷ letter ∷ separator ∷ separator
     ∷ letter ∷ letter ∷ separator ∷ separator ∷ []
 unfolding class_of
-printed-at = refl
+printed_at = refl
 
-pub others-at : map class_of (0 ∷ 127 ∷ 128 ∷ 255 ∷ []) ≡ other ∷ other ∷ other ∷ other ∷ []
+pub others_at : map class_of (0 ∷ 127 ∷ 128 ∷ 255 ∷ []) ≡ other ∷ other ∷ other ∷ other ∷ []
 unfolding class_of
-others-at = refl
+others_at = refl

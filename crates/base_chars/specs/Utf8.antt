@@ -54,9 +54,9 @@ unfoldable pub high_bits : List ℕ → ℕ
 high_bits [] = 0
 high_bits (b ∷ s) = high_bits s * 256 + (when ltb b 0x80 then 0 else 0x80)
 
-pub second-and-third : high_bits (utf8 "gà ") ≡ 0x808000
+pub second_and_third : high_bits (utf8 "gà ") ≡ 0x808000
 unfolding high_bits
-second-and-third = refl
+second_and_third = refl
 
 -- texts of characters of 1, 2, 3 and 4 bytes
 pub texts : (well_formed [] ≡ true) × (well_formed (utf8 "ngày 05") ≡ true) × (well_formed (utf8 "€𝄞") ≡ true)

@@ -1,9 +1,9 @@
 -- How large sums and differences of whole numbers are: `mag` is n both for n and for -(n + 1). Assumes nothing.
 -- `add-mag`: a sum is at most 1 larger than its two numbers together.
 -- `sub_is`: the difference of two naturals is `sub_ℕ`, which compares them once.
--- `sub-mag`: that difference is no larger than the two together.
--- `neg-mag`, `neg-mag-le`: the magnitude of -n is n - 1, and so at most any number that n is at most one above.
--- `quot-mag`: a quotient is no larger than the number that is divided.
+-- `sub_mag`: that difference is no larger than the two together.
+-- `neg_mag`, `neg_mag-le`: the magnitude of -n is n - 1, and so at most any number that n is at most one above.
+-- `quot_mag`: a quotient is no larger than the number that is divided.
 use mathlib.Core.Path.{◌≡◌, refl, ap}
 use mathlib.Core.Bool.{Bool, true, false, cond}
 use Prim.Native.Nat.{ℕ, zero, suc, ◌+◌, ◌-◌, ◌/◌, ◌≤◌}
@@ -29,16 +29,16 @@ pub sub_is : (a b : ℕ) → pos a -ℤ pos b ≡ sub_ℕ a b
 sub_is a zero = rw (le-ltb a 0 (omega arith)) (ap pos (omega arith))
 sub_is a (suc b) = refl
 
-pub sub-mag : (a b : ℕ) → mag (pos a -ℤ pos b) ≤ a + b
-sub-mag a b = rw (sub_is a b) (sub_by (ltb a b) a b)
+pub sub_mag : (a b : ℕ) → mag (pos a -ℤ pos b) ≤ a + b
+sub_mag a b = rw (sub_is a b) (sub_by (ltb a b) a b)
 
-pub neg-mag : (n : ℕ) → mag (neg_ℤ (pos n)) ≡ n - 1
-neg-mag zero = refl
-neg-mag (suc n) = omega arith
+pub neg_mag : (n : ℕ) → mag (neg_ℤ (pos n)) ≡ n - 1
+neg_mag zero = refl
+neg_mag (suc n) = omega arith
 
-pub neg-mag-le : (n m : ℕ) → n ≤ suc m → mag (neg_ℤ (pos n)) ≤ m
-neg-mag-le n m h = omega (arith, neg-mag n)
+pub neg_mag-le : (n m : ℕ) → n ≤ suc m → mag (neg_ℤ (pos n)) ≤ m
+neg_mag-le n m h = omega (arith, neg_mag n)
 
-pub quot-mag : (z : ℤ) (k : ℕ) → mag (quot_z z (pos k)) ≤ mag z
-quot-mag (pos a) k = div-le_self a k
-quot-mag (negsuc a) k = neg-mag-le (suc a / k) a (div-le_self (suc a) k)
+pub quot_mag : (z : ℤ) (k : ℕ) → mag (quot_z z (pos k)) ≤ mag z
+quot_mag (pos a) k = div-le_self a k
+quot_mag (negsuc a) k = neg_mag-le (suc a / k) a (div-le_self (suc a) k)

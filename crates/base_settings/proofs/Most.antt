@@ -1,15 +1,15 @@
 -- What lies below the entries has its bounds of 256 and 512. Assumes nothing.
--- `template-most`, `input-most`: no caller's limits are above these.
+-- `template_most`, `input_most`: no caller's limits are above these.
 use Prim.Native.Nat.{◌≤◌}
 use native.Mathlib.Omega.{arith}
 use Rattle.base_settings.specs.Limits.{template_limit, input_limit}
 use Rattle.base_settings.specs.declared.Settings.{Settings}
 
 module _ (set : Settings) where
-  pub template-most : template_limit set ≤ 256
+  pub template_most : template_limit set ≤ 256
   unfolding template_limit
-  template-most = omega arith
+  template_most = omega arith
 
-  pub input-most : input_limit set ≤ 512
+  pub input_most : input_limit set ≤ 512
   unfolding input_limit
-  input-most = omega arith
+  input_most = omega arith

@@ -32,14 +32,14 @@ unfoldable pub input_limit : Settings → ℕ
 input_limit set = min set.limits.input page_limits.input
 
 -- the name that unfolds both, for worked examples
-unfoldable pub limits-compute : ℕ
+unfoldable pub limits_compute : ℕ
 unfolding template_limit input_limit
-limits-compute = 0
+limits_compute = 0
 
 -- the two callers; limits of 300 and 100 bytes are those of 256 and 100
 pub worked
     : (template_limit pages ≡ 256) × (input_limit pages ≡ 512)
     × (template_limit cards ≡ 64) × (input_limit cards ≡ 96)
     × (template_limit (with_limits (limits 300 100) pages) ≡ 256) × (input_limit (with_limits (limits 300 100) pages) ≡ 100)
-unfolding limits-compute
+unfolding limits_compute
 worked = (refl, refl, refl, refl, refl, refl)

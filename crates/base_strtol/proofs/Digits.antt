@@ -13,10 +13,10 @@ use lib.Dec.{ltb}
 use lib.ListN.{length, drop}
 use Rattle.base_notation.specs.Text.{byte_at}
 use Rattle.base_chars.specs.Class.{is_digit}
-use Rattle.base_chars.proofs.Classes.{digit-bounds}
+use Rattle.base_chars.proofs.Classes.{digit_bounds}
 use Rattle.base_strtol.specs.Runs.{digits, number, number_from}
 use Rattle.base_strtol.specs.Strtol.{limit, digits_read}
-use Rattle.base_strtol.proofs.Leading.{leading-on, leading-stop, leading_end, number-on, number-stop, number-end}
+use Rattle.base_strtol.proofs.Leading.{leading_on, leading_stop, leading_end, number_on, number_stop, number_end}
 
 pub limits : (neg : Bool) (most : ℕ) → most ≡ limit neg → (2 ^ 63 - 1 ≤ most) × (most ≤ 2 ^ 63)
 limits true most e = omega arith
@@ -43,18 +43,18 @@ module _ (most : ℕ) (s : List ℕ) (at : ℕ) where
     finish : (lim : ℕ) → most ≡ lim → number_from r.n (drop i s) ≡ r.n → digits (drop i s) ≡ 0 → Answer lim
     finish lim m e d =
         let whole : r.n ≡ number (drop at s) = sym e ∙ r.same in
-        let at-end : i ≡ at + digits (drop at s) = omega (arith, r.ends) in
+        let at_end : i ≡ at + digits (drop at s) = omega (arith, r.ends) in
         λ j. record {
           value = (r.held ∙ ap (λ (n : ℕ). min n most) whole ∙ ap (min (number (drop at s))) m) j;
-          end = at-end j;
+          end = at_end j;
           over = (r.beyond ∙ ap (λ (n : ℕ). ltb most n) whole ∙ ap (λ (k : ℕ). ltb k (number (drop at s))) m) j;
         }
 
     pub stopped : (lim : ℕ) → most ≡ lim → i < length s → is_digit (byte_at s i) ≡ false → Answer lim
-    stopped lim m h e = finish lim m (number-stop r.n s i h e) (leading-stop is_digit s i h e)
+    stopped lim m h e = finish lim m (number_stop r.n s i h e) (leading_stop is_digit s i h e)
 
     pub ended : (lim : ℕ) → most ≡ lim → length s ≤ i → Answer lim
-    ended lim m h = finish lim m (number-end r.n s i h) (leading_end is_digit s i h)
+    ended lim m h = finish lim m (number_end r.n s i h) (leading_end is_digit s i h)
 
     module _ (h : i < length s) (e : is_digit (byte_at s i) ≡ true) (large : 9 ≤ most) where
       -- the number with that digit
@@ -62,7 +62,7 @@ module _ (most : ℕ) (s : List ℕ) (at : ℕ) where
       next = r.n * 10 + (byte_at s i - 48)
 
       digit : byte_at s i - 48 ≤ 9
-      digit = omega (arith, digit-bounds (byte_at s i) e)
+      digit = omega (arith, digit_bounds (byte_at s i) e)
 
       -- after one digit more
       on : (value' : ℕ) (over' : Bool) → value' ≡ min next most → over' ≡ ltb most next → Reading most s at value' over' (i + 1)
@@ -71,8 +71,8 @@ module _ (most : ℕ) (s : List ℕ) (at : ℕ) where
             n = next;
             held = v;
             beyond = o;
-            same = sym (number-on r.n s i h e) ∙ r.same;
-            ends = omega (arith, leading-on is_digit s i h e, r.ends);
+            same = sym (number_on r.n s i h e) ∙ r.same;
+            ends = omega (arith, leading_on is_digit s i h e, r.ends);
           }
 
       -- a digit that takes the number beyond the limit, or further beyond it

@@ -30,8 +30,8 @@ module _ (s : List ℕ) (start at : ℕ) (neg : Bool) (first : ℕ) (run : Run) 
   rest : drop first s ≡ unsigned (drop start s)
   rest = rw (p.past, ← drop-drop (signs (drop at s)) at s, trim)
 
-  sign-first : neg ≡ minus (trimmed (drop start s))
-  sign-first = p.sign ∙ ap minus trim
+  sign_first : neg ≡ minus (trimmed (drop start s))
+  sign_first = p.sign ∙ ap minus trim
 
   ends : run.end ≡ first + digits (unsigned (drop start s))
   ends = ap (λ (r : Run). r.end) p.read ∙ ap (λ (t : List ℕ). first + digits t) rest
@@ -52,7 +52,7 @@ module _ (s : List ℕ) (start at : ℕ) (neg : Bool) (first : ℕ) (run : Run) 
       let end : run.end ≡ start + spaces (drop start s) + signs (trimmed (drop start s)) + digits t = omega (arith, ends, p.past, p.blank, ap signs trim) in
       rw (ne_eqb (digits t) 0 (λ z. some (omega (arith, ends))))
       (λ j. record {
-        value = (v ∙ ap (signed neg) held ∙ ap (λ (g : Bool). signed g (min (number t) (limit g))) sign-first) j;
+        value = (v ∙ ap (signed neg) held ∙ ap (λ (g : Bool). signed g (min (number t) (limit g))) sign_first) j;
         end = end j;
-        overflow = (beyond ∙ ap (λ (g : Bool). ltb (limit g) (number t)) sign-first) j;
+        overflow = (beyond ∙ ap (λ (g : Bool). ltb (limit g) (number t)) sign_first) j;
       })

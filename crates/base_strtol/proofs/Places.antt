@@ -1,7 +1,7 @@
 -- Where the end of a number that strtol reads is. Assumes nothing.
--- `end-from`: it is not before the start.
--- `end-within`: it is within the text, or at a start that is past its end.
--- `end-start`: where it is the start, there are no digits.
+-- `end_from`: it is not before the start.
+-- `end_within`: it is within the text, or at a start that is past its end.
+-- `end_start`: where it is the start, there are no digits.
 use mathlib.Core.Path.{◌≡◌, refl}
 use mathlib.Core.List.{List}
 use Prim.Native.Nat.{ℕ, zero, suc, ◌+◌, ◌≤◌, ◌<◌, max}
@@ -11,7 +11,7 @@ use lib.ListN.{length, drop, length-drop}
 use Rattle.base_chars.specs.Class.{is_space, is_digit}
 use Rattle.base_strtol.specs.Runs.{spaces, digits}
 use Rattle.base_strtol.specs.Strtol.{signs, trimmed, unsigned, strtol}
-use Rattle.base_strtol.proofs.Leading.{leading-within}
+use Rattle.base_strtol.proofs.Leading.{leading_within}
 
 module _ (s : List ℕ) (start : ℕ) where
   -- no digits: the end is the start
@@ -20,11 +20,11 @@ module _ (s : List ℕ) (start : ℕ) where
   end_none e = rw (eq-eqb (digits (unsigned (drop start s))) 0 e)
 
   -- digits: the end is after them
-  pub end-some
+  pub end_some
       : 0 < digits (unsigned (drop start s))
       → (strtol s start).end ≡ start + spaces (drop start s) + signs (trimmed (drop start s)) + digits (unsigned (drop start s))
   unfolding strtol
-  end-some h = rw (ne_eqb (digits (unsigned (drop start s))) 0 (omega arith))
+  end_some h = rw (ne_eqb (digits (unsigned (drop start s))) 0 (omega arith))
 
   -- the text after the spaces and the sign has room for the digits
   room
@@ -35,8 +35,8 @@ module _ (s : List ℕ) (start : ℕ) where
       let u = trimmed t in
       omega (
         arith,
-        leading-within is_digit (unsigned t),
-        leading-within is_space t,
+        leading_within is_digit (unsigned t),
+        leading_within is_space t,
         length-drop (signs u) u,
         length-drop (spaces t) t,
         length-drop start s,
@@ -50,15 +50,15 @@ module _ (s : List ℕ) (start : ℕ) where
         (elim (digits (unsigned (drop start s))) as (λ n. digits (unsigned (drop start s)) ≡ n → P) [
           | zero ↦ λ e. none (end_none e) e
           | suc n ↦ λ e.
-              let some-digits : 0 < digits (unsigned (drop start s)) = omega arith in
-              some (omega (arith, end-some some-digits)) (omega (arith, end-some some-digits, room some-digits)) some-digits
+              let some_digits : 0 < digits (unsigned (drop start s)) = omega arith in
+              some (omega (arith, end_some some_digits)) (omega (arith, end_some some_digits, room some_digits)) some_digits
         ]) refl
 
-  pub end-from : start ≤ (strtol s start).end
-  end-from = either (λ e z. omega arith) (λ a b h. omega arith)
+  pub end_from : start ≤ (strtol s start).end
+  end_from = either (λ e z. omega arith) (λ a b h. omega arith)
 
-  pub end-within : (strtol s start).end ≤ max start (length s)
-  end-within = either (λ e z. omega arith) (λ a b h. omega arith)
+  pub end_within : (strtol s start).end ≤ max start (length s)
+  end_within = either (λ e z. omega arith) (λ a b h. omega arith)
 
-  pub end-start : (strtol s start).end ≡ start → digits (unsigned (drop start s)) ≡ 0
-  end-start e = either (λ q z. z) (λ a b h. absurd (omega arith))
+  pub end_start : (strtol s start).end ≡ start → digits (unsigned (drop start s)) ≡ 0
+  end_start e = either (λ q z. z) (λ a b h. absurd (omega arith))

@@ -63,20 +63,20 @@ Pair s at =
     (at + 1 + 1 < length s) × (is_digit (byte_at s at) ≡ true) × (is_digit (byte_at s (at + 1)) ≡ true) × (is_digit (byte_at s (at + 1 + 1)) ≡ false)
 
 -- unfolds all that a number is computed by, for worked examples
-unfoldable pub strtol-computes : ℕ
+unfoldable pub strtol_computes : ℕ
 unfolding strtol leading number_from class_of
-strtol-computes = 0
+strtol_computes = 0
 
 -- spaces and a sign are skipped, what follows the digits is left
 pub plain : strtol (utf8 "x  -12x") 1 ≡ answer (negsuc 11) 6 false
-unfolding strtol-computes
+unfolding strtol_computes
 plain = refl
 
 -- no digits: the place is where it began, also past the end
 pub missing
     : (strtol (utf8 "+") 0 ≡ answer (pos 0) 0 false) × (strtol (utf8 "  -x") 1 ≡ answer (pos 0) 1 false)
     × (strtol [] 0 ≡ answer (pos 0) 0 false) × (strtol (utf8 "12") 7 ≡ answer (pos 0) 7 false)
-unfolding strtol-computes
+unfolding strtol_computes
 missing = (refl, refl, refl, refl)
 
 -- nine digits and ten, also after zeros; a space is no digit
@@ -85,7 +85,7 @@ pub short
     × (short_at (utf8 "1000000000") 0 ≡ record { value = 0; end = 0 })
     × (short_at (utf8 "0000000000012") 0 ≡ record { value = 12; end = 13 })
     × (short_at (utf8 " 1") 0 ≡ record { value = 0; end = 0 })
-unfolding short_at strtol-computes
+unfolding short_at strtol_computes
 short = (refl, refl, refl, refl)
 
 -- the signed 64-bit numbers end at 2 ^ 63 - 1 and at -2 ^ 63
@@ -94,5 +94,5 @@ pub ends
     × (strtol (utf8 "9223372036854775808") 0 ≡ answer (pos 9223372036854775807) 19 true)
     × (strtol (utf8 "-9223372036854775808") 0 ≡ answer (negsuc 9223372036854775807) 20 false)
     × (strtol (utf8 "-9223372036854775809") 0 ≡ answer (negsuc 9223372036854775807) 20 true)
-unfolding strtol-computes
+unfolding strtol_computes
 ends = (refl, refl, refl, refl)

@@ -32,13 +32,13 @@ pub all_set : low32 (negsuc 0) ≡ 4294967295
 all_set = refl
 
 -- past the largest i32 comes the smallest, and before the smallest the largest
-pub past-max : pos 2147483647 ⊕ pos 1 ≡ negsuc 2147483647
+pub past_max : pos 2147483647 ⊕ pos 1 ≡ negsuc 2147483647
 unfolding wrap32
-past-max = refl
+past_max = refl
 
-pub past-min : negsuc 2147483647 ⊖ pos 1 ≡ pos 2147483647
+pub past_min : negsuc 2147483647 ⊖ pos 1 ≡ pos 2147483647
 unfolding wrap32
-past-min = refl
+past_min = refl
 
 -- a longer number loses what is above its lowest 32 bits
 pub cut : (wrap32 (pos 4294967298) ≡ pos 2) × (wrap32 (negsuc 4294967297) ≡ negsuc 1)

@@ -9,7 +9,7 @@ use native.Mathlib.Omega.{arith}
 use borrow.Author.Tests.{eq-eqb, ne_eqb, eqb-true, eqb-false}
 use lib.Dec.{eqb}
 use Rattle.calendar_gregorian.specs.Gregorian.{multiple, leap, before_year, back_to}
-use Rattle.calendar_gregorian.proofs.Closed.{closed, centuries-le}
+use Rattle.calendar_gregorian.proofs.Closed.{closed, centuries_le}
 
 -- what 400 years add to each quotient
 module _ (z : ℕ) where
@@ -22,17 +22,17 @@ module _ (z : ℕ) where
   cycle : (z + 400) / 400 ≡ z / 400 + 1
   cycle = omega arith
 
-one-cycle : (y : ℕ) → before_year (y + 400) ≡ before_year y + 146097
-one-cycle zero = unfold before_year leap in refl
-one-cycle (suc z) =
+one_cycle : (y : ℕ) → before_year (y + 400) ≡ before_year y + 146097
+one_cycle zero = unfold before_year leap in refl
+one_cycle (suc z) =
     let e : before_year (suc z + 400) ≡ before_year (suc (z + 400)) = ap before_year (omega arith) in
-    rw (e, closed (z + 400), closed z, fourths z, centuries z, cycle z) (omega (arith, centuries-le z))
+    rw (e, closed (z + 400), closed z, fourths z, centuries z, cycle z) (omega (arith, centuries_le z))
 
 pub cycles : (k y : ℕ) → before_year (y + 400 * k) ≡ before_year y + 146097 * k
 cycles zero y = let e : before_year (y + 400 * 0) ≡ before_year y = ap before_year (omega arith) in omega arith
 cycles (suc k) y =
     let e : before_year (y + 400 * suc k) ≡ before_year (y + 400 * k + 400) = ap before_year (omega arith) in
-    omega (arith, e, one-cycle (y + 400 * k), cycles k y)
+    omega (arith, e, one_cycle (y + 400 * k), cycles k y)
 
 -- two tests for 0 that pass together
 same_test : (a b : ℕ) → (a ≡ 0 → b ≡ 0) → (b ≡ 0 → a ≡ 0) → eqb a 0 ≡ eqb b 0

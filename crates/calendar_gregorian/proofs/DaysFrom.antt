@@ -1,8 +1,8 @@
 -- The days since 1970-01-01, from a year shifted by whole cycles of 400 years. Assumes nothing.
 -- `civil`: for a month and a day that are not negative they are the day number, less that of 1970-01-01.
 -- `from_start`: they are the days before the year from a fixed start, less those to 1970, and the day of the year.
--- `days-from-mag`: they have at most 43 bits. `since-start-le`: the days before the year have at most 42.
--- `start_back`, `less-fits`, `day-of-year-fits`: so no step of the code leaves 64 bits.
+-- `days_from_mag`: they have at most 43 bits. `since_start_le`: the days before the year have at most 42.
+-- `start_back`, `less_fits`, `day_of_year_fits`: so no step of the code leaves 64 bits.
 use mathlib.Core.Path.{◌≡◌, ◌∙◌, ap, sym}
 use mathlib.Core.Bool.{Bool, true, false}
 use Prim.Native.Nat.{ℕ, zero, suc, ◌+◌, ◌-◌, ◌*◌, ◌≤◌, ◌<◌, ◌^◌}
@@ -16,33 +16,33 @@ use mir.Facts.{to_z_pos}
 use mir.Val.{SFits, to_z}
 use Rattle.calendar_gregorian.specs.Gregorian.{is_leap, leap, lengths, before_month, before_year, back_to, day_number_ℤ}
 use Rattle.calendar_gregorian.specs.Civil.{month_of, days_before, day_of_year_ℤ, days_from_civil}
-use Rattle.calendar_gregorian.proofs.Closed.{before-bound}
+use Rattle.calendar_gregorian.proofs.Closed.{before_bound}
 use Rattle.calendar_gregorian.proofs.Cycles.{cycles, back}
 use Rattle.calendar_gregorian.proofs.Lengths.{sum-take-le}
 use Rattle.calendar_gregorian.proofs.Shift.{start_small}
-use Rattle.base_notation.proofs.Magnitudes.{add-mag, sub-mag}
-use Rattle.calendar_gregorian.proofs.Signed.{sub_same, sub-sub, swap}
+use Rattle.base_notation.proofs.Magnitudes.{add-mag, sub_mag}
+use Rattle.calendar_gregorian.proofs.Signed.{sub_same, sub_sub, swap}
 
 -- a year has at most 366 days before a month
-pub days-before-le : (in_leap : Bool) (m : ℤ) → days_before in_leap m ≤ 366
+pub days_before-le : (in_leap : Bool) (m : ℤ) → days_before in_leap m ≤ 366
 unfolding days_before
-days-before-le true m = sum-take-le (month_of m - 1) (lengths 1)
-days-before-le false m = omega (arith, sum-take-le (month_of m - 1) (lengths 0))
+days_before-le true m = sum-take-le (month_of m - 1) (lengths 1)
+days_before-le false m = omega (arith, sum-take-le (month_of m - 1) (lengths 0))
 
-pub day-of-year-mag : (y m d : ℤ) → mag (day_of_year_ℤ y m d) ≤ 367 + mag d
+pub day_of_year_mag : (y m d : ℤ) → mag (day_of_year_ℤ y m d) ≤ 367 + mag d
 unfolding day_of_year_ℤ
-day-of-year-mag y m d =
-    omega (arith, add-mag (pos (days_before (is_leap (nat_abs y)) m)) d, days-before-le (is_leap (nat_abs y)) m)
+day_of_year_mag y m d =
+    omega (arith, add-mag (pos (days_before (is_leap (nat_abs y)) m)) d, days_before-le (is_leap (nat_abs y)) m)
 
-pub day-of-year-fits : (y m : ℤ) {d : ℤ} → SFits w32 d → SFits w64 (day_of_year_ℤ y m d)
-day-of-year-fits y m {d} f = omega (arith, day-of-year-mag y m d)
+pub day_of_year_fits : (y m : ℤ) {d : ℤ} → SFits w32 d → SFits w64 (day_of_year_ℤ y m d)
+day_of_year_fits y m {d} f = omega (arith, day_of_year_mag y m d)
 
 -- the days before a year, from the start of the year -2147484000
 abbrev pub since_start : ℤ → ℕ
 since_start y = before_year (nat_abs (y +ℤ pos 2147484000))
 
-pub since-start-le : {y : ℤ} → SFits w32 y → since_start y < 2 ^ 42
-since-start-le {y} f = omega (arith, before-bound (nat_abs (y +ℤ pos 2147484000)), start_small y f)
+pub since_start_le : {y : ℤ} → SFits w32 y → since_start y < 2 ^ 42
+since_start_le {y} f = omega (arith, before_bound (nat_abs (y +ℤ pos 2147484000)), start_small y f)
 
 -- the days from that start to the start of year 0, from there to the end of 1969, and 1
 abbrev pub to1970 : ℕ
@@ -52,7 +52,7 @@ to1970 = 784352424870 + 719528 + 1
 joined : (b c p q n : ℕ) (d : ℤ) → b + n + (q + 2440588) ≡ p + c → pos b -ℤ pos c +ℤ (pos n +ℤ d) ≡ pos p -ℤ pos q +ℤ d -ℤ pos 2440588
 joined b c p q n d e =
     sym (+ℤ_assoc (pos b -ℤ pos c) (pos n) d)
-    ∙ ap (λ (z : ℤ). z +ℤ d) (sym (swap (pos b) (pos n) (pos c)) ∙ sub_same (b + n) c p (q + 2440588) e ∙ sym (sub-sub (pos p) q 2440588))
+    ∙ ap (λ (z : ℤ). z +ℤ d) (sym (swap (pos b) (pos n) (pos c)) ∙ sub_same (b + n) c p (q + 2440588) e ∙ sym (sub_sub (pos p) q 2440588))
     ∙ sym (swap (pos p -ℤ pos q) d (pos 2440588))
 
 pub from_start : (y m d : ℤ) → SFits w32 y → pos (since_start y) -ℤ pos to1970 +ℤ day_of_year_ℤ y m d ≡ days_from_civil y m d
@@ -68,20 +68,20 @@ from_start (negsuc k) m d f =
 -- all fit 64 bits
 module _ {y : ℤ} (f : SFits w32 y) where
   pub start_back : to_z w64 (since_start y) ≡ pos (since_start y)
-  start_back = to_z_pos w64 {n = since_start y} (omega (arith, since-start-le f))
+  start_back = to_z_pos w64 {n = since_start y} (omega (arith, since_start_le f))
 
-  pub less-fits : SFits w64 (pos (since_start y) -ℤ pos to1970)
-  less-fits = omega (arith, sub-mag (since_start y) to1970, since-start-le f)
+  pub less_fits : SFits w64 (pos (since_start y) -ℤ pos to1970)
+  less_fits = omega (arith, sub_mag (since_start y) to1970, since_start_le f)
 
-  pub days-from-mag : (m : ℤ) {d : ℤ} → SFits w32 d → mag (days_from_civil y m d) < 2 ^ 43
-  days-from-mag m {d} g =
+  pub days_from_mag : (m : ℤ) {d : ℤ} → SFits w32 d → mag (days_from_civil y m d) < 2 ^ 43
+  days_from_mag m {d} g =
       rw (← from_start y m d f)
       (omega (
         arith,
         add-mag (pos (since_start y) -ℤ pos to1970) (day_of_year_ℤ y m d),
-        sub-mag (since_start y) to1970,
-        since-start-le f,
-        day-of-year-mag y m d,
+        sub_mag (since_start y) to1970,
+        since_start_le f,
+        day_of_year_mag y m d,
       ))
 
 -- at a month and a day that are not negative: the calendar's day number, less that of 1970-01-01

@@ -1,7 +1,7 @@
 -- The table of month lengths has the calendar's, by one test that computes over both rows. Assumes nothing.
 -- `read`: what the code reads from a row is the month's length. `row_lt`: the table has the row.
 -- `Passed`: a number is the days of the first i months. `add_read`: with what is read at i, it is those of i + 1.
--- `days-passed`: the days of the months before a month are the definition's.
+-- `days_passed`: the days of the months before a month are the definition's.
 -- `sum-suc`, `sum-take-le`: the sum of one number more, and of all.
 use mathlib.Core.Path.{◌≡◌, refl, ◌∙◌, ap}
 use mathlib.Core.Bool.{Bool, true, false, ◌&&◌}
@@ -31,9 +31,9 @@ abbrev pub is_row : Bool → List ℤ → Bool
 is_row in_leap xs = eqb (length xs) 12 && all_from (same in_leap) 0 xs
 
 -- no month has more than 31 days
-pub length-le : (in_leap : Bool) (i : ℕ) → i < 12 → get_or (lengths_in in_leap) i 0 ≤ 31
-length-le true i h = leb-true _ 31 (entry (λ i x. leb x 31) 0 (lengths 1) refl i h)
-length-le false i h = leb-true _ 31 (entry (λ i x. leb x 31) 0 (lengths 0) refl i h)
+pub length_le : (in_leap : Bool) (i : ℕ) → i < 12 → get_or (lengths_in in_leap) i 0 ≤ 31
+length_le true i h = leb-true _ 31 (entry (λ i x. leb x 31) 0 (lengths 1) refl i h)
+length_le false i h = leb-true _ 31 (entry (λ i x. leb x 31) 0 (lengths 0) refl i h)
 
 at_row : (in_leap : Bool) (xs : List ℤ) → is_row in_leap xs ≡ true → (i : ℕ) → i < 12 → of_z w32 (get_or xs i (pos 0)) ≡ get_or (lengths_in in_leap) i 0
 at_row in_leap xs e i h =
@@ -49,7 +49,7 @@ at_rows a b e false i h = at_row false a (both (is_row false a) _ e).0 i h
 pub read : (a b : List ℤ) → (is_row false a && is_row true b) ≡ true → (in_leap : Bool) (i : ℕ) → i < 12
     → to_z w32 (of_z w32 (get_or (get_or {A = List ℤ} (a ∷ b ∷ []) (bool_byte in_leap) []) i (pos 0))) ≡ pos (get_or (lengths_in in_leap) i 0)
 read a b e in_leap i h =
-    ap (to_z w32) (at_rows a b e in_leap i h) ∙ to_z_pos w32 (omega (arith, length-le in_leap i h))
+    ap (to_z w32) (at_rows a b e in_leap i h) ∙ to_z_pos w32 (omega (arith, length_le in_leap i h))
 
 -- the sum of one number more
 pub sum-suc : (xs : List ℕ) (i : ℕ) → i < length xs → sum (take (suc i) xs) ≡ sum (take i xs) + get_or xs i 0
@@ -78,7 +78,7 @@ pub record Added (in_leap : Bool) (i : ℕ) (z : ℤ) : Type 0 where
 pub add_read : (a b : List ℤ) → (is_row false a && is_row true b) ≡ true → {in_leap : Bool} {i n : ℕ} → Passed in_leap i n → i < 12
     → Added in_leap i (to_z w32 n +ℤ to_z w32 (of_z w32 (get_or (get_or {A = List ℤ} (a ∷ b ∷ []) (bool_byte in_leap) []) i (pos 0))))
 add_read a b e {in_leap} {i} {n} p h =
-    let at-most-31 = length-le in_leap i h in
+    let at_most_31 = length_le in_leap i h in
     let summed : n + get_or (lengths_in in_leap) i 0 ≡ sum (take (i + 1) (lengths_in in_leap)) = rw add-one (omega (arith, sum-suc (lengths_in in_leap) i h)) in
     rw (to_z_pos w32 {n = n} (omega arith), read a b e in_leap i h)
     (record {
@@ -99,9 +99,9 @@ clip in_leap k = split (leb k 12) refl
         rw (least, take_all k (lengths_in in_leap) (omega arith))
 
 -- the days before a month, from those of the months before it
-pub days-passed : {in_leap : Bool} {i n : ℕ} (z : ℤ) → Passed in_leap i n → i ≡ min (month_of z - 1) 12 → to_z w32 n ≡ pos (days_before in_leap z)
+pub days_passed : {in_leap : Bool} {i n : ℕ} (z : ℤ) → Passed in_leap i n → i ≡ min (month_of z - 1) 12 → to_z w32 n ≡ pos (days_before in_leap z)
 unfolding days_before
-days-passed {in_leap} {i} {n} z p e =
+days_passed {in_leap} {i} {n} z p e =
     to_z_pos w32 {n = n} (omega arith)
     ∙ ap pos (p.is ∙ ap (λ (k : ℕ). sum (take k (lengths_in in_leap))) e ∙ ap sum (clip in_leap (month_of z - 1)))
 

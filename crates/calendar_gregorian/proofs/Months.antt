@@ -1,9 +1,9 @@
 -- Months as the code counts them. Assumes nothing.
--- `below`, `above`, `not-above`: what a test of the month says of its number.
+-- `below`, `above`, `not_above`: what a test of the month says of its number.
 -- `from`, `unsigned`: a month that is not below 1 is its number as a usize.
--- `length_at`: the row's entry is its length. `no_length`, `past-length`: below 1 and above 12 there is none.
--- `month-length`: the length that the code reads is the calendar's.
--- `of-twelve`: a month that has a length is one of the twelve. `valid`: a day that its month has makes a date.
+-- `length_at`: the row's entry is its length. `no_length`, `past_length`: below 1 and above 12 there is none.
+-- `month_length_lem`: the length that the code reads is the calendar's.
+-- `of_twelve`: a month that has a length is one of the twelve. `valid`: a day that its month has makes a date.
 use mathlib.Core.Path.{◌≡◌, refl, sym}
 use mathlib.Core.Bool.{Bool, true, false, false≢true}
 use Prim.Native.Nat.{ℕ, zero, suc, ◌-◌, ◌≤◌, ◌<◌}
@@ -38,20 +38,20 @@ not_low : (z : ℤ) → lt_z z (pos 1) ≡ false → T (non_neg z) × From z (na
 not_low (pos n) e = (tt, record { from = ltb-false n 1 e; is = refl })
 not_low (negsuc n) e = absurd (false≢true (sym e))
 
-not-high : (z : ℤ) → lt_z (pos 12) z ≡ false → month_of z ≤ 12
-not-high (pos n) e = ltb-false 12 n e
-not-high (negsuc n) e = omega arith
+not_high : (z : ℤ) → lt_z (pos 12) z ≡ false → month_of z ≤ 12
+not_high (pos n) e = ltb-false 12 n e
+not_high (negsuc n) e = omega arith
 
 -- outside 1 to 12 there is no length
-none-low : (in_leap : Bool) (z : ℤ) → lt_z z (pos 1) ≡ true → 0 ≡ length_of in_leap z
-none-low in_leap (pos zero) e = refl
-none-low in_leap (pos (suc n)) e = absurd (let below_one : suc n < 1 = ltb-true (suc n) 1 e in omega arith)
-none-low in_leap (negsuc n) e = refl
+none_low : (in_leap : Bool) (z : ℤ) → lt_z z (pos 1) ≡ true → 0 ≡ length_of in_leap z
+none_low in_leap (pos zero) e = refl
+none_low in_leap (pos (suc n)) e = absurd (let below_one : suc n < 1 = ltb-true (suc n) 1 e in omega arith)
+none_low in_leap (negsuc n) e = refl
 
-none-high : (in_leap : Bool) (z : ℤ) → 12 < month_of z → 0 ≡ length_of in_leap z
-none-high in_leap (pos zero) h = refl
-none-high in_leap (pos (suc i)) h = sym (get_or-eq_default (lengths_in in_leap) 0 {n = i} (omega arith))
-none-high in_leap (negsuc i) h = refl
+none_high : (in_leap : Bool) (z : ℤ) → 12 < month_of z → 0 ≡ length_of in_leap z
+none_high in_leap (pos zero) h = refl
+none_high in_leap (pos (suc i)) h = sym (get_or-eq_default (lengths_in in_leap) 0 {n = i} (omega arith))
+none_high in_leap (negsuc i) h = refl
 
 -- from 1 on the length is the row's entry
 row_at : (in_leap : Bool) (z : ℤ) {n : ℕ} → From z n → get_or (lengths_in in_leap) (n - 1) 0 ≡ length_of in_leap z
@@ -67,8 +67,8 @@ module _ {z : ℤ} (f : SFits w32 z) where
   pub above : lt_z (pos 12) (to_z w32 (of_z w32 z)) ≡ true → 12 < month_of z
   above e = high z (rw (to_z-of_z f) at e)
 
-  pub not-above : lt_z (pos 12) (to_z w32 (of_z w32 z)) ≡ false → month_of z ≤ 12
-  not-above e = not-high z (rw (to_z-of_z f) at e)
+  pub not_above : lt_z (pos 12) (to_z w32 (of_z w32 z)) ≡ false → month_of z ≤ 12
+  not_above e = not_high z (rw (to_z-of_z f) at e)
 
   module _ (e : lt_z (to_z w32 (of_z w32 z)) (pos 1) ≡ false) where
     pub from : From z (nat_abs (to_z w32 (of_z w32 z)))
@@ -83,32 +83,32 @@ module _ {z : ℤ} (f : SFits w32 z) where
 
   -- no length outside 1 to 12
   pub no_length : (in_leap : Bool) → lt_z (to_z w32 (of_z w32 z)) (pos 1) ≡ true → 0 ≡ length_of in_leap z
-  no_length in_leap e = none-low in_leap z (rw (to_z-of_z f) at e)
+  no_length in_leap e = none_low in_leap z (rw (to_z-of_z f) at e)
 
-  pub past-length : (in_leap : Bool) → lt_z (pos 12) (to_z w32 (of_z w32 z)) ≡ true → 0 ≡ length_of in_leap z
-  past-length in_leap e = none-high in_leap z (above e)
+  pub past_length : (in_leap : Bool) → lt_z (pos 12) (to_z w32 (of_z w32 z)) ≡ true → 0 ≡ length_of in_leap z
+  past_length in_leap e = none_high in_leap z (above e)
 
 -- a month that has a length is one of the twelve
-pub of-twelve : (in_leap : Bool) (z : ℤ) → 1 ≤ length_of in_leap z → (1 ≤ month_of z) × (month_of z ≤ 12)
-of-twelve in_leap (pos zero) h = absurd (omega arith)
-of-twelve in_leap (pos (suc i)) h =
+pub of_twelve : (in_leap : Bool) (z : ℤ) → 1 ≤ length_of in_leap z → (1 ≤ month_of z) × (month_of z ≤ 12)
+of_twelve in_leap (pos zero) h = absurd (omega arith)
+of_twelve in_leap (pos (suc i)) h =
     (omega arith, lt_of_not-le (λ l. omega (arith, get_or-eq_default (lengths_in in_leap) 0 {n = i} l)))
-of-twelve in_leap (negsuc n) h = absurd (omega arith)
+of_twelve in_leap (negsuc n) h = absurd (omega arith)
 
 -- the length that the code reads is the calendar's
-pub month-length : (y m : ℕ) → 1 ≤ m → length_of (is_leap y) (pos m) ≡ month_length y m
+pub month_length_lem : (y m : ℕ) → 1 ≤ m → length_of (is_leap y) (pos m) ≡ month_length y m
 unfolding leap
-month-length y m h = sym (row_at (is_leap y) (pos m) {n = m} (record { from = h; is = refl }))
+month_length_lem y m h = sym (row_at (is_leap y) (pos m) {n = m} (record { from = h; is = refl }))
 
 -- a date whose day its month has
 pub valid : (y m d : ℕ) → 1 ≤ y → y ≤ 9999 → 1 ≤ d → d ≤ length_of (is_leap y) (pos m) → Valid y m d
-valid y m d year-from year-to day-from h =
-    let twelve = of-twelve (is_leap y) (pos m) (omega arith) in
+valid y m d year_from year_to day_from h =
+    let twelve = of_twelve (is_leap y) (pos m) (omega arith) in
     record {
-      year-from = year-from;
-      year-to = year-to;
-      month-from = twelve.0;
-      month-to = twelve.1;
-      day-from = day-from;
-      day-to = rw (month-length y m twelve.0) at h;
+      year_from = year_from;
+      year_to = year_to;
+      month_from = twelve.0;
+      month_to = twelve.1;
+      day_from = day_from;
+      day_to = rw (month_length_lem y m twelve.0) at h;
     }

@@ -1,7 +1,7 @@
 -- A date and its day of the year determine each other. Assumes nothing.
--- `ordinal`: the code's day of the year at a date is the calendar's. `from-new-year`: it counts from January 1.
--- `ordinal-range`: it is 1 to 366. `ordinal-month`: the month of that day is the date's.
--- `day-of-month`: less the days before the month it is the day of the month.
+-- `ordinal`: the code's day of the year at a date is the calendar's. `from_new_year`: it counts from January 1.
+-- `ordinal_range`: it is 1 to 366. `ordinal_month`: the month of that day is the date's.
+-- `day_of_month`: less the days before the month it is the day of the month.
 use mathlib.Core.Path.{◌≡◌, refl, ◌∙◌, ap}
 use mathlib.Core.Bool.{Bool}
 use mathlib.Core.List.{List, [], ◌∷◌}
@@ -25,19 +25,19 @@ found (x ∷ xs) zero e d n h from to is = rw (le-leb n (e + x) (omega arith))
 found (x ∷ xs) (suc i) e d n h from to is =
     rw (lt-leb n (e + x) (omega arith)) (ap suc (found xs i (e + x) d n (omega arith) from to (omega arith)))
 
-module _ (in_leap : Bool) (m d : ℕ) (month-from : 1 ≤ m) (from : 1 ≤ d) (to : d ≤ get_or (lengths_in in_leap) (m - 1) 0) where
-  month-to : m - 1 < 12
-  month-to = lt_of_not-le (λ h. omega (arith, get_or-eq_default (lengths_in in_leap) 0 {n = m - 1} h))
+module _ (in_leap : Bool) (m d : ℕ) (month_from : 1 ≤ m) (from : 1 ≤ d) (to : d ≤ get_or (lengths_in in_leap) (m - 1) 0) where
+  month_to : m - 1 < 12
+  month_to = lt_of_not-le (λ h. omega (arith, get_or-eq_default (lengths_in in_leap) 0 {n = m - 1} h))
 
   -- a day of a month is found in it
   pub found_in : month_of_day in_leap (pos (days_before in_leap (pos m) + d)) ≡ m
   unfolding month_of_day days_before
-  found_in = ap suc (found (lengths_in in_leap) (m - 1) 0 d _ month-to from to (omega arith)) ∙ omega arith
+  found_in = ap suc (found (lengths_in in_leap) (m - 1) 0 d _ month_to from to (omega arith)) ∙ omega arith
 
   -- and is one of the year
-  pub in-year : days_before in_leap (pos m) + d ≤ sum (lengths_in in_leap)
+  pub in_year : days_before in_leap (pos m) + d ≤ sum (lengths_in in_leap)
   unfolding days_before
-  in-year = omega (arith, sum-suc (lengths_in in_leap) (m - 1) month-to, sum-take-le (suc (m - 1)) (lengths_in in_leap))
+  in_year = omega (arith, sum-suc (lengths_in in_leap) (m - 1) month_to, sum-take-le (suc (m - 1)) (lengths_in in_leap))
 
 module _ (y m d : ℕ) where
   -- the code's day of the year at a date
@@ -46,19 +46,19 @@ module _ (y m d : ℕ) where
   ordinal = refl
 
   -- it counts from January 1
-  pub from-new-year : day_of_year y m d ≡ day_number y m d + 1 - day_number y 1 1
-  from-new-year = omega arith
+  pub from_new_year : day_of_year y m d ≡ day_number y m d + 1 - day_number y 1 1
+  from_new_year = omega arith
 
   -- less the days before the month it is the day of the month
-  pub day-of-month : pos (day_of_year y m d) -ℤ pos (days_before (is_leap y) (pos m)) ≡ pos d
+  pub day_of_month : pos (day_of_year y m d) -ℤ pos (days_before (is_leap y) (pos m)) ≡ pos d
   unfolding days_before leap
-  day-of-month = sub_same (day_of_year y m d) (before_month (leap y) m) d 0 (omega arith) ∙ ap pos (omega arith)
+  day_of_month = sub_same (day_of_year y m d) (before_month (leap y) m) d 0 (omega arith) ∙ ap pos (omega arith)
 
 module _ {y m d : ℕ} (v : Valid y m d) where
-  pub ordinal-range : (1 ≤ day_of_year y m d) × (day_of_year y m d ≤ 366)
+  pub ordinal_range : (1 ≤ day_of_year y m d) × (day_of_year y m d ≤ 366)
   unfolding leap days_before
-  ordinal-range = omega (arith, leap-le y, in-year (is_leap y) m d v.month-from v.day-from v.day-to)
+  ordinal_range = omega (arith, leap-le y, in_year (is_leap y) m d v.month_from v.day_from v.day_to)
 
-  pub ordinal-month : month_of_day (is_leap y) (pos (day_of_year y m d)) ≡ m
+  pub ordinal_month : month_of_day (is_leap y) (pos (day_of_year y m d)) ≡ m
   unfolding leap days_before
-  ordinal-month = found_in (is_leap y) m d v.month-from v.day-from v.day-to
+  ordinal_month = found_in (is_leap y) m d v.month_from v.day_from v.day_to

@@ -45,40 +45,40 @@ unfoldable pub days_from_civil : ℤ → ℤ → ℤ → ℤ
 days_from_civil y m d = day_number_ℤ y (month_of m) 0 +ℤ d -ℤ pos 2440588
 
 -- unfolds all that a day, a month or the days since 1970 are computed by, for worked examples
-unfoldable pub civil-computes : ℕ
+unfoldable pub civil_computes : ℕ
 unfolding days_before day_of_year_ℤ ended_before month_of_day days_from_civil day_number_ℤ before_year back_to leap
-civil-computes = 0
+civil_computes = 0
 
 -- February has 28 or 29 days, and there are no months 0 and 13
-pub month-lengths : (length_of false (pos 2) ≡ 28) × (length_of true (pos 2) ≡ 29) × (length_of true (pos 0) ≡ 0)
+pub month_lengths : (length_of false (pos 2) ≡ 28) × (length_of true (pos 2) ≡ 29) × (length_of true (pos 0) ≡ 0)
     × (length_of true (pos 13) ≡ 0)
-month-lengths = (refl, refl, refl, refl)
+month_lengths = (refl, refl, refl, refl)
 
 -- before March there are 59 or 60 days, before a month past December all
-pub days-before : (days_before false (pos 3) ≡ 59) × (days_before true (pos 3) ≡ 60) × (days_before false (pos 13) ≡ 365)
+pub days_before_computes : (days_before false (pos 3) ≡ 59) × (days_before true (pos 3) ≡ 60) × (days_before false (pos 13) ≡ 365)
     × (days_before false (negsuc 4) ≡ 0)
-unfolding civil-computes
-days-before = (refl, refl, refl, refl)
+unfolding civil_computes
+days_before_computes = (refl, refl, refl, refl)
 
 -- March 1 of the leap year -4
-pub march-first : day_of_year_ℤ (negsuc 3) (pos 3) (pos 1) ≡ pos 61
-unfolding civil-computes
-march-first = refl
+pub march_first : day_of_year_ℤ (negsuc 3) (pos 3) (pos 1) ≡ pos 61
+unfolding civil_computes
+march_first = refl
 
 -- day 60 is in March, or in a leap year in February; day 366 of a common year is past the last month.
 -- A day before day 1 counts to January
-pub months-of-days : (month_of_day false (pos 60) ≡ 3) × (month_of_day true (pos 60) ≡ 2) × (month_of_day false (pos 366) ≡ 13)
+pub months_of_days : (month_of_day false (pos 60) ≡ 3) × (month_of_day true (pos 60) ≡ 2) × (month_of_day false (pos 366) ≡ 13)
     × (month_of_day true (negsuc 6) ≡ 1)
-unfolding civil-computes
-months-of-days = (refl, refl, refl, refl)
+unfolding civil_computes
+months_of_days = (refl, refl, refl, refl)
 
 -- January 1 of 1970, the day before, and the day from which Julian days are counted
 pub epoch : (days_from_civil (pos 1970) (pos 1) (pos 1) ≡ pos 0) × (days_from_civil (pos 1969) (pos 12) (pos 31) ≡ negsuc 0)
     × (days_from_civil (negsuc 4712) (pos 11) (pos 24) ≡ negsuc 2440587)
-unfolding civil-computes
+unfolding civil_computes
 epoch = (refl, refl, refl)
 
 -- February 30 of 2023 is March 2
 pub runs_on : days_from_civil (pos 2023) (pos 2) (pos 30) ≡ days_from_civil (pos 2023) (pos 3) (pos 2)
-unfolding civil-computes
+unfolding civil_computes
 runs_on = refl

@@ -52,12 +52,12 @@ day_number_ℤ (negsuc n) m d = pos (1721059 + before_month (leap (suc n)) m + d
 
 -- a date of the years 1 to 9999
 pub record Valid (y m d : ℕ) : Type 0 where
-  pub year-from : 1 ≤ y
-  pub year-to : y ≤ 9999
-  pub month-from : 1 ≤ m
-  pub month-to : m ≤ 12
-  pub day-from : 1 ≤ d
-  pub day-to : d ≤ month_length y m
+  pub year_from : 1 ≤ y
+  pub year_to : y ≤ 9999
+  pub month_from : 1 ≤ m
+  pub month_to : m ≤ 12
+  pub day_from : 1 ≤ d
+  pub day_to : d ≤ month_length y m
 
 -- the day of the year, from 1
 abbrev pub day_of_year : ℕ → ℕ → ℕ → ℕ
@@ -68,16 +68,16 @@ pub centuries : (is_leap 1900 ≡ false) × (is_leap 2000 ≡ true) × (is_leap 
 centuries = (refl, refl, refl)
 
 -- December 31 is day 366 of a leap year
-pub last-day : day_of_year 2024 12 31 ≡ 366
+pub last_day : day_of_year 2024 12 31 ≡ 366
 unfolding leap
-last-day = refl
+last_day = refl
 
 -- the Julian day number of January 1 of year 1
-pub first-day : day_number 1 1 1 ≡ 1721426
+pub first_day : day_number 1 1 1 ≡ 1721426
 unfolding before_year leap
-first-day = refl
+first_day = refl
 
 -- Julian days are counted from November 24 of year -4713
-pub day-zero : day_number_ℤ (negsuc 4712) 11 24 ≡ pos 0
+pub day_zero : day_number_ℤ (negsuc 4712) 11 24 ≡ pos 0
 unfolding day_number_ℤ back_to before_year leap
-day-zero = refl
+day_zero = refl

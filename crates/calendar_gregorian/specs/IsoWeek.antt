@@ -27,16 +27,16 @@ unfoldable pub iso_week : ℕ → ℕ → ℕ → ℕ
 iso_week y m d = (day_number y m d - iso_monday (iso_year y m d) 1) / 7 + 1
 
 -- unfolds all that an ISO week is computed by, for worked examples
-unfoldable pub weeks-compute : ℕ
+unfoldable pub weeks_compute : ℕ
 unfolding iso_year iso_week iso_monday leap before_year
-weeks-compute = 0
+weeks_compute = 0
 
 -- Friday, January 1 of 2021 belongs to week 53 of 2020
-pub new-year : (iso_year 2021 1 1 ≡ 2020) × (iso_week 2021 1 1 ≡ 53) × (iso_weekday (day_number 2021 1 1) ≡ 5)
-unfolding weeks-compute
-new-year = (refl, refl, refl)
+pub new_year : (iso_year 2021 1 1 ≡ 2020) × (iso_week 2021 1 1 ≡ 53) × (iso_weekday (day_number 2021 1 1) ≡ 5)
+unfolding weeks_compute
+new_year = (refl, refl, refl)
 
 -- Monday, December 30 of 2019 belongs to week 1 of 2020
-pub year-end : (iso_year 2019 12 30 ≡ 2020) × (iso_week 2019 12 30 ≡ 1) × (iso_weekday (day_number 2019 12 30) ≡ 1)
-unfolding weeks-compute
-year-end = (refl, refl, refl)
+pub year_end : (iso_year 2019 12 30 ≡ 2020) × (iso_week 2019 12 30 ≡ 1) × (iso_weekday (day_number 2019 12 30) ≡ 1)
+unfolding weeks_compute
+year_end = (refl, refl, refl)

@@ -1,81 +1,81 @@
 -- `j2day` is the weekday; `isoweek2j`, `date2isoweek` and `date2isoyear` are those of ISO 8601. Assumes nothing.
--- `j2day-is`: the weekday of a Julian day, with 0 for Sunday.
--- `isoweek2j-is`: the Monday of an ISO week, to the year 1000000. `week_one-is`: that of week 1.
--- `date2isoyear-is`, `date2isoweek-is`: the ISO year and week of a date of the years 1 to 9999.
+-- `j2day_is`: the weekday of a Julian day, with 0 for Sunday.
+-- `isoweek2j_is`: the Monday of an ISO week, to the year 1000000. `week_one_is`: that of week 1.
+-- `date2isoyear_is`, `date2isoweek_is`: the ISO year and week of a date of the years 1 to 9999.
 use Rattle.std.proofs.Common.{◌≡◌, ℕ, ◌+◌, ◌-◌, ◌*◌, ◌/◌, ◌%◌, ◌<◌, ◌≤◌, Bool, true, false, ℤ, pos, refl, ap, ◌∙◌, arith, le-ltb, lt-ltb}
 use lib.Signed.{lt_z}
 use Rattle.base_notation.specs.Choice.{when◌then◌else◌}
 use Rattle.base_wrapping.specs.Wrap.{◌⊖◌}
-use Rattle.base_wrapping.proofs.Small.{wrap-pos, sub-pos}
+use Rattle.base_wrapping.proofs.Small.{wrap_pos, sub-pos}
 use Rattle.calendar_gregorian.specs.Gregorian.{day_number, Valid}
 use Rattle.calendar_gregorian.specs.IsoWeek.{iso_weekday, monday, iso_monday, iso_year, iso_week}
-use Rattle.calendar_gregorian.proofs.Closed.{before-bound}
-use Rattle.calendar_gregorian.proofs.Dates.{real, first-to-last}
-use Rattle.calendar_gregorian.proofs.Weeks.{weeks, week-after, Side, before, within, after, side, in-iso-year, year-range}
+use Rattle.calendar_gregorian.proofs.Closed.{before_bound}
+use Rattle.calendar_gregorian.proofs.Dates.{real, first_to_last}
+use Rattle.calendar_gregorian.proofs.Weeks.{weeks, week_after, Side, before, within, after, side, in_iso_year, year_range}
 use Rattle.calendar_julian.specs.Week.{j2day, week_one, isoweek2j, counted_from, week_of, week_year, date2isoweek, date2isoyear}
-use Rattle.calendar_julian.proofs.DayNumber.{date2j-is, date2j-valid}
+use Rattle.calendar_julian.proofs.DayNumber.{date2j_is, date2j_valid}
 
 -- the weekday: Sunday, 7 by ISO 8601, is 0
-pub j2day-is : (n : ℕ) → n < 2147483647 → j2day (pos n) ≡ pos (iso_weekday n % 7)
+pub j2day_is : (n : ℕ) → n < 2147483647 → j2day (pos n) ≡ pos (iso_weekday n % 7)
 unfolding j2day
-j2day-is n h = rw (wrap-pos (n + 1) (omega arith), le-ltb ((n + 1) % 7) 0 (omega arith)) (ap pos (omega arith))
+j2day_is n h = rw (wrap_pos (n + 1) (omega arith), le-ltb ((n + 1) % 7) 0 (omega arith)) (ap pos (omega arith))
 
 -- the Monday of a day's week
-monday-is : (n : ℕ) → 1 ≤ n → n < 2147483647 → pos n ⊖ j2day (pos n ⊖ pos 1) ≡ pos (monday n)
-monday-is n h k =
+monday_is : (n : ℕ) → 1 ≤ n → n < 2147483647 → pos n ⊖ j2day (pos n ⊖ pos 1) ≡ pos (monday n)
+monday_is n h k =
     let yesterday : iso_weekday (n - 1) % 7 ≡ n % 7 = omega arith in
     rw (
       sub-pos n 1 h,
-      wrap-pos (n - 1) (omega arith),
-      j2day-is (n - 1) (omega arith),
+      wrap_pos (n - 1) (omega arith),
+      j2day_is (n - 1) (omega arith),
       yesterday,
       sub-pos n (n % 7) (omega arith),
-      wrap-pos (n - n % 7) (omega arith),
+      wrap_pos (n - n % 7) (omega arith),
     )
 
 module _ (y : ℕ) (to : y ≤ 1000000) where
   january4 : day_number y 1 4 ≤ 1000000000
-  january4 = omega (arith, before-bound y)
+  january4 = omega (arith, before_bound y)
 
-  monday-lt : iso_monday y 1 ≤ 1000000000
+  monday_lt : iso_monday y 1 ≤ 1000000000
   unfolding iso_monday
-  monday-lt = omega (arith, january4)
+  monday_lt = omega (arith, january4)
 
-  pub week_one-is : week_one (pos y) ≡ pos (iso_monday y 1)
+  pub week_one_is : week_one (pos y) ≡ pos (iso_monday y 1)
   unfolding week_one iso_monday
-  week_one-is =
-      rw (date2j-is y 1 4 to (omega arith) (omega arith) (omega arith))
-      (monday-is (day_number y 1 4) (omega arith) (omega (arith, january4)) ∙ ap pos (omega arith))
+  week_one_is =
+      rw (date2j_is y 1 4 to (omega arith) (omega arith) (omega arith))
+      (monday_is (day_number y 1 4) (omega arith) (omega (arith, january4)) ∙ ap pos (omega arith))
 
-  pub isoweek2j-is : (w : ℕ) → 1 ≤ w → w ≤ 1000000 → isoweek2j (pos y) (pos w) ≡ pos (iso_monday y w)
+  pub isoweek2j_is : (w : ℕ) → 1 ≤ w → w ≤ 1000000 → isoweek2j (pos y) (pos w) ≡ pos (iso_monday y w)
   unfolding isoweek2j
-  isoweek2j-is w h k =
+  isoweek2j_is w h k =
       rw (
         sub-pos w 1 h,
-        wrap-pos (w - 1) (omega arith),
-        wrap-pos ((w - 1) * 7) (omega arith),
-        week_one-is,
-        wrap-pos ((w - 1) * 7 + iso_monday y 1) (omega (arith, monday-lt)),
-      ) (ap pos (omega (arith, week-after y w)))
+        wrap_pos (w - 1) (omega arith),
+        wrap_pos ((w - 1) * 7) (omega arith),
+        week_one_is,
+        wrap_pos ((w - 1) * 7 + iso_monday y 1) (omega (arith, monday_lt)),
+      ) (ap pos (omega (arith, week_after y w)))
 
   -- the week of a day, from week 1 on
-  week_of-is : (j : ℕ) → iso_monday y 1 ≤ j → j < 2147483648 → week_of (pos j) (pos y) ≡ pos ((j - iso_monday y 1) / 7 + 1)
+  week_of_is : (j : ℕ) → iso_monday y 1 ≤ j → j < 2147483648 → week_of (pos j) (pos y) ≡ pos ((j - iso_monday y 1) / 7 + 1)
   unfolding week_of
-  week_of-is j h k = rw (week_one-is, sub-pos j (iso_monday y 1) h, wrap-pos (j - iso_monday y 1) (omega arith))
+  week_of_is j h k = rw (week_one_is, sub-pos j (iso_monday y 1) h, wrap_pos (j - iso_monday y 1) (omega arith))
 
   -- the year that a day is counted from
-  from-year : (j : ℕ) → iso_monday y 1 ≤ j → counted_from (pos j) (pos y) ≡ pos y
+  from_year : (j : ℕ) → iso_monday y 1 ≤ j → counted_from (pos j) (pos y) ≡ pos y
   unfolding counted_from
-  from-year j h = rw (week_one-is, le-ltb j (iso_monday y 1) h)
+  from_year j h = rw (week_one_is, le-ltb j (iso_monday y 1) h)
 
-  from-before : (j : ℕ) → 1 ≤ y → j < iso_monday y 1 → counted_from (pos j) (pos y) ≡ pos (y - 1)
+  from_before : (j : ℕ) → 1 ≤ y → j < iso_monday y 1 → counted_from (pos j) (pos y) ≡ pos (y - 1)
   unfolding counted_from
-  from-before j f h = rw (week_one-is, lt-ltb j (iso_monday y 1) h, sub-pos y 1 f, wrap-pos (y - 1) (omega arith))
+  from_before j f h = rw (week_one_is, lt-ltb j (iso_monday y 1) h, sub-pos y 1 f, wrap_pos (y - 1) (omega arith))
 
 -- a day before week 1 of the next year, whatever its week
 not_yet : (j k : ℕ) (from : ℤ) → k ≤ 1000000 → j < iso_monday k 1 → week_year (pos j) from (pos k) ≡ from
 unfolding week_year
-not_yet j k from h l = rw (week_one-is k h, lt-ltb j (iso_monday k 1) l) (either_way (lt_z (week_of (pos j) from) (pos 52)))
+not_yet j k from h l = rw (week_one_is k h, lt-ltb j (iso_monday k 1) l) (either_way (lt_z (week_of (pos j) from) (pos 52)))
   where
     either_way : (t : Bool) → (when t then from else from) ≡ from
     either_way true = refl
@@ -85,11 +85,11 @@ not_yet j k from h l = rw (week_one-is k h, lt-ltb j (iso_monday k 1) l) (either
 reached : (j k : ℕ) → k ≤ 999999 → j < 2147483648 → iso_monday (k + 1) 1 ≤ j → week_year (pos j) (pos k) (pos (k + 1)) ≡ pos (k + 1)
 unfolding week_year
 reached j k h f l =
-    let past-51 : 52 ≤ (j - iso_monday k 1) / 7 + 1 = omega (arith, weeks k) in
+    let past_51 : 52 ≤ (j - iso_monday k 1) / 7 + 1 = omega (arith, weeks k) in
     rw (
-      week_of-is k (omega arith) j (omega (arith, weeks k)) f,
-      le-ltb ((j - iso_monday k 1) / 7 + 1) 52 past-51,
-      week_one-is (k + 1) (omega arith),
+      week_of_is k (omega arith) j (omega (arith, weeks k)) f,
+      le-ltb ((j - iso_monday k 1) / 7 + 1) 52 past_51,
+      week_one_is (k + 1) (omega arith),
       le-ltb j (iso_monday (k + 1) 1) l,
     )
 
@@ -99,12 +99,12 @@ record Counted (j y z : ℕ) : Type 0 where
   k : ℕ
   to : k ≤ 9999
   from : counted_from (pos j) (pos y) ≡ pos k
-  after-k : week_year (pos j) (pos k) (pos (k + 1)) ≡ pos z
-  after-y : week_year (pos j) (pos k) (pos (y + 1)) ≡ pos z
+  after_k : week_year (pos j) (pos k) (pos (k + 1)) ≡ pos z
+  after_y : week_year (pos j) (pos k) (pos (y + 1)) ≡ pos z
 
 module _ {y m d : ℕ} (v : Valid y m d) where
-  day-lt : day_number y m d < 2147483648
-  day-lt = omega (arith, first-to-last v)
+  day_lt : day_number y m d < 2147483648
+  day_lt = omega (arith, first_to_last v)
 
   counted : Side y m d → Counted (day_number y m d) y (iso_year y m d)
   counted (before h e) =
@@ -113,27 +113,27 @@ module _ {y m d : ℕ} (v : Valid y m d) where
       (record {
         k = y - 1;
         to = omega arith;
-        from = from-before y (omega arith) (day_number y m d) v.year-from h;
-        after-k = not_yet (day_number y m d) (y - 1 + 1) (pos (y - 1)) (omega arith) (rw back h);
-        after-y = not_yet (day_number y m d) (y + 1) (pos (y - 1)) (omega arith) (omega (arith, weeks y));
+        from = from_before y (omega arith) (day_number y m d) v.year_from h;
+        after_k = not_yet (day_number y m d) (y - 1 + 1) (pos (y - 1)) (omega arith) (rw back h);
+        after_y = not_yet (day_number y m d) (y + 1) (pos (y - 1)) (omega arith) (omega (arith, weeks y));
       })
   counted (within h l e) =
-      let in-year = not_yet (day_number y m d) (y + 1) (pos y) (omega arith) l in
-      rw e (record { k = y; to = v.year-to; from = from-year y (omega arith) (day_number y m d) h; after-k = in-year; after-y = in-year })
+      let in_year = not_yet (day_number y m d) (y + 1) (pos y) (omega arith) l in
+      rw e (record { k = y; to = v.year_to; from = from_year y (omega arith) (day_number y m d) h; after_k = in_year; after_y = in_year })
   counted (after h e) =
-      let from-y = from-year y (omega arith) (day_number y m d) (omega (arith, weeks y)) in
-      let next-year = reached (day_number y m d) y (omega arith) day-lt h in
-      rw e (record { k = y; to = v.year-to; from = from-y; after-k = next-year; after-y = next-year })
+      let from_y = from_year y (omega arith) (day_number y m d) (omega (arith, weeks y)) in
+      let next_year = reached (day_number y m d) y (omega arith) day_lt h in
+      rw e (record { k = y; to = v.year_to; from = from_y; after_k = next_year; after_y = next_year })
 
-  pub date2isoyear-is : date2isoyear (pos y) (pos m) (pos d) ≡ pos (iso_year y m d)
+  pub date2isoyear_is : date2isoyear (pos y) (pos m) (pos d) ≡ pos (iso_year y m d)
   unfolding date2isoyear
-  date2isoyear-is =
+  date2isoyear_is =
       let year = counted (side y m d) in
-      rw (date2j-valid v, year.from, wrap-pos (year.k + 1) (omega arith)) year.after-k
+      rw (date2j_valid v, year.from, wrap_pos (year.k + 1) (omega arith)) year.after_k
 
-  pub date2isoweek-is : date2isoweek (pos y) (pos m) (pos d) ≡ pos (iso_week y m d)
+  pub date2isoweek_is : date2isoweek (pos y) (pos m) (pos d) ≡ pos (iso_week y m d)
   unfolding date2isoweek iso_week
-  date2isoweek-is =
+  date2isoweek_is =
       let year = counted (side y m d) in
-      rw (date2j-valid v, year.from, wrap-pos (y + 1) (omega arith), year.after-y)
-      (week_of-is (iso_year y m d) (omega (arith, year-range v)) (day_number y m d) (in-iso-year (real v)).from day-lt)
+      rw (date2j_valid v, year.from, wrap_pos (y + 1) (omega arith), year.after_y)
+      (week_of_is (iso_year y m d) (omega (arith, year_range v)) (day_number y m d) (in_iso_year (real v)).from day_lt)

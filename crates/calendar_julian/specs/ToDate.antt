@@ -53,9 +53,9 @@ unfolding j2date day_from_march with_skipped shifted
 y2000 = refl
 
 -- the day before day 0
-pub before-zero : j2date (negsuc 0) ≡ date (negsuc 4712) (pos 11) (pos 23)
+pub before_zero : j2date (negsuc 0) ≡ date (negsuc 4712) (pos 11) (pos 23)
 unfolding j2date day_from_march with_skipped shifted
-before-zero = refl
+before_zero = refl
 
 -- the smallest number, which counts as the one past the largest
 pub smallest : j2date (negsuc 2147483647) ≡ date (pos 5874898) (pos 6) (pos 4)

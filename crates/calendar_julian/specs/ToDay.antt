@@ -20,6 +20,6 @@ unfolding date2j from_march wrap32
 y2000 = refl
 
 -- December 31 of the largest year
-pub largest-year : date2j (pos 2147483647) (pos 12) (pos 31) ≡ pos 1628439923
+pub largest_year : date2j (pos 2147483647) (pos 12) (pos 31) ≡ pos 1628439923
 unfolding date2j from_march wrap32
-largest-year = refl
+largest_year = refl

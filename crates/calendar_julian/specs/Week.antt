@@ -51,26 +51,26 @@ date2isoyear y m d =
     week_year day from (from ⊕ pos 1)
 
 -- unfolds all that dates, Julian days and ISO weeks are computed by, for worked examples
-unfoldable pub julian-computes : ℕ
+unfoldable pub julian_computes : ℕ
 unfolding j2date day_from_march with_skipped shifted date2j from_march j2day week_one isoweek2j counted_from week_of week_year date2isoweek date2isoyear wrap32
-julian-computes = 0
+julian_computes = 0
 
 -- January 1 of 2000 was a Saturday
 pub y2000 : j2day (pos 2451545) ≡ pos 6
-unfolding julian-computes
+unfolding julian_computes
 y2000 = refl
 
 -- week 53 of 2020 begins on December 28
 pub week53 : isoweek2j (pos 2020) (pos 53) ≡ date2j (pos 2020) (pos 12) (pos 28)
-unfolding julian-computes
+unfolding julian_computes
 week53 = refl
 
 -- January 1 of 2021 is in it
-pub new-year : (date2isoyear (pos 2021) (pos 1) (pos 1) ≡ pos 2020) × (date2isoweek (pos 2021) (pos 1) (pos 1) ≡ pos 53)
-unfolding julian-computes
-new-year = (refl, refl)
+pub new_year : (date2isoyear (pos 2021) (pos 1) (pos 1) ≡ pos 2020) × (date2isoweek (pos 2021) (pos 1) (pos 1) ≡ pos 53)
+unfolding julian_computes
+new_year = (refl, refl)
 
 -- January 1 of the largest year is in week 52 of the year before
-pub largest-year : (date2isoyear (pos 2147483647) (pos 1) (pos 1) ≡ pos 2147483646) × (date2isoweek (pos 2147483647) (pos 1) (pos 1) ≡ pos 52)
-unfolding julian-computes
-largest-year = (refl, refl)
+pub largest_year : (date2isoyear (pos 2147483647) (pos 1) (pos 1) ≡ pos 2147483646) × (date2isoweek (pos 2147483647) (pos 1) (pos 1) ≡ pos 52)
+unfolding julian_computes
+largest_year = (refl, refl)

@@ -1,5 +1,5 @@
 -- The name of a pattern in its row of the table. Assumes nothing.
--- `found-named`: the bytes of a row before its first space are the name. `none_named`, `some-named`: a pattern by its
+-- `found_named`: the bytes of a row before its first space are the name. `none_named`, `some_named`: a pattern by its
 -- test.
 use mathlib.Core.Path.{◌≡◌, ◌∙◌, refl, sym}
 use mathlib.Core.List.{List, [], ◌∷◌, ◌++◌}
@@ -13,42 +13,42 @@ use Rattle.base_strtol.specs.Runs.{leading}
 use Rattle.template_patterns.specs.Patterns.{name_of}
 use Rattle.template_patterns.specs.Rows.{filled}
 use Rattle.template_patterns.specs.Search.{name_table}
-use Rattle.template_patterns.proofs.Names.{name-length, name-byte, no-space}
+use Rattle.template_patterns.proofs.Names.{name_length, name_byte, no_space}
 use Rattle.line_buffers.specs.Input.{before, Found}
 use Rattle.moment_parts.specs.Patterns.{pattern_name}
 
 -- the bytes before the spaces that fill a row
-before-filled : (name : List ℕ) (n : ℕ) → ((j : ℕ) → j < length name → get_or name j 0 ≡ 32 → ⊥) → before 32 (name ++ replicate n 32) ≡ length name
+before_filled : (name : List ℕ) (n : ℕ) → ((j : ℕ) → j < length name → get_or name j 0 ≡ 32 → ⊥) → before 32 (name ++ replicate n 32) ≡ length name
 unfolding leading
-before-filled [] zero h = refl
-before-filled [] (suc n) h = refl
-before-filled (c ∷ name) n h =
+before_filled [] zero h = refl
+before_filled [] (suc n) h = refl
+before_filled (c ∷ name) n h =
     let other = h 0 (omega arith) in
-    rw (ne_eqb c 32 other) (rw (before-filled name n (λ j l. h (suc j) (omega arith))))
+    rw (ne_eqb c 32 other) (rw (before_filled name n (λ j l. h (suc j) (omega arith))))
 
 module _ (k : ℕ) (here : k < 112) where
   abbrev row : List ℕ
   row = take 5 (drop (5 * k) name_table)
 
-  row-size : length row ≡ 5
+  row_size : length row ≡ 5
   unfolding name_table
-  row-size = length-take 5 (drop (5 * k) name_table) ∙ omega (arith, length-drop (5 * k) name_table)
+  row_size = length-take 5 (drop (5 * k) name_table) ∙ omega (arith, length-drop (5 * k) name_table)
 
   row_is : row ≡ filled 5 (name_of k)
   row_is =
-      let within = (name-length k here).1 in
+      let within = (name_length k here).1 in
       let size : length (filled 5 (name_of k)) ≡ 5 = simp (length-append, length-replicate) (omega arith) in
-      ext_get_or 0 row (filled 5 (name_of k)) (row-size ∙ sym size)
-      (λ j h. let in_row : j < 5 = omega (arith, row-size) in
-      get_or-take 5 (drop (5 * k) name_table) j 0 in_row ∙ get_or-drop (5 * k) name_table j 0 ∙ name-byte k here j in_row)
+      ext_get_or 0 row (filled 5 (name_of k)) (row_size ∙ sym size)
+      (λ j h. let in_row : j < 5 = omega (arith, row_size) in
+      get_or-take 5 (drop (5 * k) name_table) j 0 in_row ∙ get_or-drop (5 * k) name_table j 0 ∙ name_byte k here j in_row)
 
   named : take (before 32 row) row ≡ name_of k
-  named = rw (row_is, before-filled (name_of k) (5 - length (name_of k)) (no-space k here)) (take-append_seam (name_of k) (replicate (5 - length (name_of k)) 32))
+  named = rw (row_is, before_filled (name_of k) (5 - length (name_of k)) (no_space k here)) (take-append_seam (name_of k) (replicate (5 - length (name_of k)) 32))
 
   -- so they are where they are found in the table
-  pub found-named : (names : List ℕ) (n r : ℕ) → names ≡ name_table → n ≡ 5 → Found (take n (drop (5 * k) names)) 0 32 r → take (r - 0) (take n (drop (5 * k) names)) ≡ name_of k
-  found-named names n r e h f =
-      let found-is : r ≡ 0 + before 32 row = rw (e, h) at f.is in
+  pub found_named : (names : List ℕ) (n r : ℕ) → names ≡ name_table → n ≡ 5 → Found (take n (drop (5 * k) names)) 0 32 r → take (r - 0) (take n (drop (5 * k) names)) ≡ name_of k
+  found_named names n r e h f =
+      let found_is : r ≡ 0 + before 32 row = rw (e, h) at f.is in
       let size : r - 0 ≡ before 32 row = omega arith in
       rw (e, h, size) named
 
@@ -56,6 +56,6 @@ pub none_named : (p : ℕ) → 112 ≤ p → pattern_name p ≡ utf8 "-"
 unfolding pattern_name
 none_named p h = rw (le-ltb p 112 h)
 
-pub some-named : (p : ℕ) → p < 112 → pattern_name p ≡ name_of p
+pub some_named : (p : ℕ) → p < 112 → pattern_name p ≡ name_of p
 unfolding pattern_name
-some-named p h = rw (lt-ltb p 112 h)
+some_named p h = rw (lt-ltb p 112 h)

@@ -3,7 +3,7 @@ use Rattle.std.specs.Prelude.{◌≡◌, refl, ◌&&◌, List, [], ◌∷◌, ma
 use Prim.Native.Char.{code}
 use Rattle.base_notation.specs.Choice.{when◌then◌else◌}
 use Rattle.base_notation.specs.Text.{utf8}
-use Rattle.base_strtol.specs.Strtol.{strtol-computes}
+use Rattle.base_strtol.specs.Strtol.{strtol_computes}
 use Rattle.line_numbers.specs.Items.{items_of}
 use Rattle.line_numbers.specs.Numbers.{int_of, narrow, narrowed, number_of}
 use Rattle.line_numbers.specs.declared.Int.{Int}
@@ -36,5 +36,5 @@ moment_of s =
 pub sevens
     : (seven_of (utf8 "2024 2 29 23 59 59 -1") ≡ pos 2024 ∷ pos 2 ∷ pos 29 ∷ pos 23 ∷ pos 59 ∷ pos 59 ∷ negsuc 0 ∷ [])
     × (map seven_of (utf8 "1 2 3 4 5 6 7 8" ∷ utf8 "1 2 3 4 5 6" ∷ utf8 "1 2 3 4 5 6 x" ∷ []) ≡ replicate 3 (replicate 7 (pos 0)))
-unfolding seven_of numbers_in items_of narrow narrowed number_of strtol-computes
+unfolding seven_of numbers_in items_of narrow narrowed number_of strtol_computes
 sevens = (refl, refl)

@@ -1,6 +1,6 @@
 -- The magnitude of a number of 64 bits, by its sign.
 -- `positive`, `negative`: what the code casts, x or -1 - x with 1 more, fits and is the magnitude (`Cast`).
--- `positive-text`, `negative-text`: the number in decimal is the digits of its magnitude, below 0 after a minus sign.
+-- `positive_text`, `negative_text`: the number in decimal is the digits of its magnitude, below 0 after a minus sign.
 -- `decimal-length`: in decimal it has at most 20 bytes. Assumes nothing.
 use mathlib.Core.Path.{◌≡◌, ap, subst}
 use mathlib.Core.Bool.{true, false}
@@ -35,13 +35,13 @@ negative (negsuc n) f e =
     rw inverted (record { fits = omega arith; cast = (tt, omega arith); room = omega arith; is = omega arith })
 
 -- a number in decimal by its sign and its magnitude
-pub positive-text : (x : ℤ) (n : ℕ) → n ≡ nat_abs x → lt_z x (pos 0) ≡ false → decimal x ≡ digits n
-positive-text (pos n) m h e = rw h
-positive-text (negsuc n) m h e = absurd (subst T e tt)
+pub positive_text : (x : ℤ) (n : ℕ) → n ≡ nat_abs x → lt_z x (pos 0) ≡ false → decimal x ≡ digits n
+positive_text (pos n) m h e = rw h
+positive_text (negsuc n) m h e = absurd (subst T e tt)
 
-pub negative-text : (x : ℤ) (n : ℕ) → n ≡ nat_abs x → lt_z x (pos 0) ≡ true → decimal x ≡ 45 ∷ digits n
-negative-text (pos n) m h e = absurd (let l = ltb-true n 0 e in omega arith)
-negative-text (negsuc n) m h e = rw h
+pub negative_text : (x : ℤ) (n : ℕ) → n ≡ nat_abs x → lt_z x (pos 0) ≡ true → decimal x ≡ 45 ∷ digits n
+negative_text (pos n) m h e = absurd (let l = ltb-true n 0 e in omega arith)
+negative_text (negsuc n) m h e = rw h
 
 -- a minus sign and 19 digits at most
 pub decimal-length : (x : ℤ) → SFits w64 x → length (decimal x) ≤ 20

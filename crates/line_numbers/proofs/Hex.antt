@@ -1,7 +1,7 @@
 -- Hexadecimal digits by comparisons, and the bytes of their pairs.
 -- `numeral`, `small`, `capital`, `other`: the value of a digit, by the range that its byte is in.
 -- `begun`, `more`: the bytes put, then those of the pairs that are left, are the item's (`Decoded`), at first and with
--- a pair more. `no-high`, `no-low`, `ended`: at a pair that is none, and where no pair is left, all are put.
+-- a pair more. `no_high`, `no_low`, `ended`: at a pair that is none, and where no pair is left, all are put.
 -- Assumes nothing.
 use mathlib.Core.Path.{◌≡◌, ◌∙◌, refl}
 use mathlib.Core.Bool.{Bool, true, false, and-false}
@@ -62,9 +62,9 @@ module _ (text : List ℕ) (i : ℕ) where
   unfolding bytes_of
   bytes_low w a = rw (pair w, le-ltb (hex_digit (byte_at text (i + 1))) 16 (omega arith), and-false)
 
-  bytes-end : length text ≤ i + 1 → bytes_of (drop i text) ≡ []
+  bytes_end : length text ≤ i + 1 → bytes_of (drop i text) ≡ []
   unfolding bytes_of
-  bytes-end h = short (drop i text) (omega (arith, length-drop i text))
+  bytes_end h = short (drop i text) (omega (arith, length-drop i text))
     where
       short : (s : List ℕ) → length s ≤ 1 → bytes_of s ≡ []
       short [] g = refl
@@ -96,11 +96,11 @@ module _ (text out₀ : List ℕ) (at i : ℕ) (out : List ℕ) (next : ℕ) (d 
   all_done : bytes_of (drop i text) ≡ [] → Put out₀ at (bytes_of text) out next
   all_done e = rw (rw (e, append-nil) at d.whole) at d.put
 
-  pub no-high : i + 1 < length text → 15 < hex_digit (byte_at text i) → Put out₀ at (bytes_of text) out next
-  no-high w a = all_done (bytes_high text i w a)
+  pub no_high : i + 1 < length text → 15 < hex_digit (byte_at text i) → Put out₀ at (bytes_of text) out next
+  no_high w a = all_done (bytes_high text i w a)
 
-  pub no-low : i + 1 < length text → 15 < hex_digit (byte_at text (i + 1)) → Put out₀ at (bytes_of text) out next
-  no-low w a = all_done (bytes_low text i w a)
+  pub no_low : i + 1 < length text → 15 < hex_digit (byte_at text (i + 1)) → Put out₀ at (bytes_of text) out next
+  no_low w a = all_done (bytes_low text i w a)
 
   pub ended : length text ≤ i + 1 → Put out₀ at (bytes_of text) out next
-  ended h = all_done (bytes-end text i h)
+  ended h = all_done (bytes_end text i h)

@@ -2,7 +2,7 @@
 use Rattle.std.specs.Prelude.{◌≡◌, refl, Bool, ◌&&◌, ◌||◌, not, List, [], ◌∷◌, map, ℕ, ◌+◌, ◌-◌, ◌*◌, eqb, ltb, ℤ, pos, negsuc, length}
 use Prim.Native.Char.{code}
 use Rattle.std.specs.Int.Signed.{lt_z}
-use Rattle.base_strtol.specs.Strtol.{strtol-computes, strtol}
+use Rattle.base_strtol.specs.Strtol.{strtol_computes, strtol}
 use Rattle.base_notation.specs.Choice.{when◌then◌else◌}
 use Rattle.base_notation.specs.Text.{utf8}
 use Rattle.base_chars.specs.Range.{◌‥◌, ◌∈◌}
@@ -46,13 +46,13 @@ bytes_of (a ∷ b ∷ s) =
 pub numbers
     : map number_of (utf8 "2024" ∷ utf8 "-7" ∷ utf8 "" ∷ utf8 "-" ∷ utf8 "12x" ∷ utf8 "9223372036854775808" ∷ [])
     ≡ Value (pos 2024) ∷ Value (negsuc 6) ∷ Malformed ∷ Malformed ∷ Malformed ∷ Malformed ∷ []
-unfolding number_of strtol-computes
+unfolding number_of strtol_computes
 numbers = refl
 
 pub ints
     : map int_of (utf8 "2147483647" ∷ utf8 "2147483648" ∷ utf8 "-2147483648" ∷ utf8 "-2147483649" ∷ utf8 "7 " ∷ [])
     ≡ Whole (pos 2147483647) ∷ NoInt ∷ Whole (negsuc 2147483647) ∷ NoInt ∷ NoInt ∷ []
-unfolding narrow narrowed number_of strtol-computes
+unfolding narrow narrowed number_of strtol_computes
 ints = refl
 
 pub hexadecimal : (bytes_of (utf8 "4a0Fff") ≡ 0x4a ∷ 0x0f ∷ 0xff ∷ []) × (bytes_of (utf8 "4ag0ff") ≡ 0x4a ∷ []) × (bytes_of (utf8 "4a0") ≡ 0x4a ∷ [])

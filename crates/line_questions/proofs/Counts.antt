@@ -17,35 +17,35 @@ use Rattle.line_numbers.specs.declared.Int.TheVariants.{Value as Whole, Malforme
 use Rattle.line_questions.specs.Items.{are_numbers, value_of, numbers, numbers_of, numbers_at, items_at}
 
 -- numbers alone
-all-numbers : (zs : List ℤ) → are_numbers (map Whole zs) ≡ true
+all_numbers : (zs : List ℤ) → are_numbers (map Whole zs) ≡ true
 unfolding are_numbers
-all-numbers [] = refl
-all-numbers (z ∷ zs) = all-numbers zs
+all_numbers [] = refl
+all_numbers (z ∷ zs) = all_numbers zs
 
-values-back : (zs : List ℤ) → map value_of (map Whole zs) ≡ zs
-values-back [] = refl
-values-back (z ∷ zs) = ap (λ (l : List ℤ). z ∷ l) (values-back zs)
+values_back : (zs : List ℤ) → map value_of (map Whole zs) ≡ zs
+values_back [] = refl
+values_back (z ∷ zs) = ap (λ (l : List ℤ). z ∷ l) (values_back zs)
 
 numbers_of_lem : (zs : List ℤ) → length zs ≤ 3 → numbers_of (map Whole zs) ≡ numbers zs
 unfolding numbers_of
-numbers_of_lem zs h = rw (all-numbers zs, length-map zs Whole, le-leb (length zs) 3 h, values-back zs)
+numbers_of_lem zs h = rw (all_numbers zs, length-map zs Whole, le-leb (length zs) 3 h, values_back zs)
 
 -- an item that is none
-one-is-none : (zs : List ℤ) (ns : List Int) → are_numbers (map Whole zs ++ NoInt ∷ ns) ≡ false
+one_is_none : (zs : List ℤ) (ns : List Int) → are_numbers (map Whole zs ++ NoInt ∷ ns) ≡ false
 unfolding are_numbers
-one-is-none [] ns = refl
-one-is-none (z ∷ zs) ns = one-is-none zs ns
+one_is_none [] ns = refl
+one_is_none (z ∷ zs) ns = one_is_none zs ns
 
 -- the numbers read up to a place
 pub record Read (line : List ℕ) (from : ℕ) (values : List ℤ) (count at : ℕ) : Type 0 where
   pub done : List ℤ
   pub few : length done ≤ 3
   pub size : length done ≡ count
-  pub values-are : values ≡ done ++ replicate (3 - count) (pos 0)
+  pub values_are : values ≡ done ++ replicate (3 - count) (pos 0)
   pub whole : numbers_of (map Whole done ++ map int_of (items_at line at)) ≡ numbers_at line from
 
 pub begun : (line : List ℕ) (from : ℕ) → Read line from (replicate 3 (pos 0)) 0 from
-begun line from = record { done = []; few = omega arith; size = refl; values-are = refl; whole = refl }
+begun line from = record { done = []; few = omega arith; size = refl; values_are = refl; whole = refl }
 
 -- a number in place of the first zero
 put : (done : List ℤ) (count : ℕ) (n : ℤ) → length done ≡ count → count ≤ 2
@@ -61,13 +61,13 @@ map-append (x ∷ xs) ys = ap (λ (l : List Int). Whole x ∷ l) (map-append xs 
 module _ {line : List ℕ} {from : ℕ} {values : List ℤ} {count at : ℕ} (d : Read line from values count at) where
   pub ended : items_at line at ≡ [] → record { values = values; count = count } ≡ numbers_at line from
   ended e =
-      rw (← d.whole, e, append-nil, numbers_of_lem d.done d.few, d.values-are, d.size)
+      rw (← d.whole, e, append-nil, numbers_of_lem d.done d.few, d.values_are, d.size)
 
   module _ (item : List ℕ) (end : ℕ) (items : items_at line at ≡ item ∷ items_at line end) where
     pub no_number : int_of item ≡ NoInt → numbers [] ≡ numbers_at line from
     unfolding numbers_of
     no_number e =
-        rw (← d.whole, items, e, one-is-none d.done (map int_of (items_at line end)))
+        rw (← d.whole, items, e, one_is_none d.done (map int_of (items_at line end)))
 
     pub too_many : 2 < count → numbers [] ≡ numbers_at line from
     unfolding numbers_of
@@ -82,6 +82,6 @@ module _ {line : List ℕ} {from : ℕ} {values : List ℤ} {count at : ℕ} (d 
           done = d.done ++ n ∷ [];
           few = rw length-append (omega (arith, d.size));
           size = rw length-append (omega (arith, d.size));
-          values-are = rw d.values-are (put d.done count n d.size h);
+          values_are = rw d.values_are (put d.done count n d.size h);
           whole = rw (map-append d.done (n ∷ []), append_assoc, ← e) (rw items at d.whole);
         }

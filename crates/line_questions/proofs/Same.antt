@@ -15,14 +15,14 @@ unfolding same
 same_refl [] = refl
 same_refl (a ∷ s) = rw (eq-eqb a a refl, same_refl s)
 
-same-eq : (s t : List ℕ) → same s t ≡ true → s ≡ t
+same_eq : (s t : List ℕ) → same s t ≡ true → s ≡ t
 unfolding same
-same-eq [] [] e = refl
-same-eq [] (b ∷ t) e = absurd (false≢true e)
-same-eq (a ∷ s) [] e = absurd (false≢true e)
-same-eq (a ∷ s) (b ∷ t) e =
+same_eq [] [] e = refl
+same_eq [] (b ∷ t) e = absurd (false≢true e)
+same_eq (a ∷ s) [] e = absurd (false≢true e)
+same_eq (a ∷ s) (b ∷ t) e =
     (elim (eqb a b) as (λ x. eqb a b ≡ x → a ∷ s ≡ b ∷ t) [
-      | true ↦ λ p. rw (eqb-true a b p, same-eq s t (rw p at e))
+      | true ↦ λ p. rw (eqb-true a b p, same_eq s t (rw p at e))
       | false ↦ λ p. absurd (false≢true (rw p at e))
     ]) refl
 
@@ -33,6 +33,6 @@ same_by {s} {t} {r} h = by _
     by true e = rw (h.0 e) (same_refl t)
     by false e =
         (elim (same s t) as (λ x. same s t ≡ x → x ≡ false) [
-          | true ↦ λ p. sym (h.1 (same-eq s t p)) ∙ e
+          | true ↦ λ p. sym (h.1 (same_eq s t p)) ∙ e
           | false ↦ λ p. refl
         ]) refl

@@ -1,7 +1,7 @@
 -- The bytes of the last item, in front of a buffer.
--- `no_item`, `no_bytes`, `no_text`, `whole-text`: what is read of them where there is no item, of `-`, of an item that
+-- `no_item`, `no_bytes`, `no_text`, `whole_text`: what is read of them where there is no item, of `-`, of an item that
 -- is not hexadecimal or has more bytes than there is room for, and of any other.
--- `text-front`: the bytes that are not malformed are in front of the buffer, and within it. Assumes nothing.
+-- `text_front`: the bytes that are not malformed are in front of the buffer, and within it. Assumes nothing.
 use mathlib.Core.Path.{◌≡◌, ◌∙◌, refl, sym}
 use mathlib.Core.Bool.{Bool, true, false, false≢true, ◌&&◌, and-false}
 use mathlib.Core.List.{List, [], ◌∷◌}
@@ -42,24 +42,24 @@ module _ (line : List ℕ) (from : ℕ) (before : List ℕ) where
   abbrev item : List ℕ
   item = take (length line - (from + 1)) (drop (from + 1) line)
 
-  item-is : item ≡ drop (from + 1) line
-  item-is = take_all (length line - (from + 1)) (drop (from + 1) line) (omega (arith, length-drop (from + 1) line))
+  item_is : item ≡ drop (from + 1) line
+  item_is = take_all (length line - (from + 1)) (drop (from + 1) line) (omega (arith, length-drop (from + 1) line))
 
   module _ (after : List ℕ) (count : ℕ) (within : from < length line) (p : Put before 0 (bytes_of item) after count) where
     front : after ≡ sets before 0 (text_at line from)
-    front = p.is ∙ rw item-is
+    front = p.is ∙ rw item_is
 
     size : length (drop (from + 1) line) ≡ length line - (from + 1)
     size = length-drop (from + 1) line
 
-    count-is : count ≡ min (length (text_at line from)) (length before)
-    count-is = omega (arith, rw item-is at p.next)
+    count_is : count ≡ min (length (text_at line from)) (length before)
+    count_is = omega (arith, rw item_is at p.next)
 
     pub no_bytes : item ≡ utf8 "-" → ReadBytes line from before after (record { count = 0; malformed = false })
     unfolding bytes_at bytes_of same
     no_bytes e =
         record {
-          is = rw (sym item-is ∙ e, lt-ltb from (length line) within, le-leb 0 (length before) (omega arith));
+          is = rw (sym item_is ∙ e, lt-ltb from (length line) within, le-leb 0 (length before) (omega arith));
           front = front;
         }
 
@@ -73,8 +73,8 @@ module _ (line : List ℕ) (from : ℕ) (before : List ℕ) where
                   | true ↦ λ e.
                       let fit = leb-true (length (text_at line from)) (length before) e in
                       rw (
-                        rw item-is at other,
-                        ne_eqb (2 * length (text_at line from)) (length (drop (from + 1) line)) (λ q. n (omega (arith, count-is, size))),
+                        rw item_is at other,
+                        ne_eqb (2 * length (text_at line from)) (length (drop (from + 1) line)) (λ q. n (omega (arith, count_is, size))),
                         lt-ltb from (length line) within,
                       )
                   | false ↦ λ e. rw (e, and-false, and-false)
@@ -82,32 +82,32 @@ module _ (line : List ℕ) (from : ℕ) (before : List ℕ) where
             front = front;
           }
 
-      pub whole-text : 2 * count ≡ length line - (from + 1) → ReadBytes line from before after (record { count = count; malformed = false })
+      pub whole_text : 2 * count ≡ length line - (from + 1) → ReadBytes line from before after (record { count = count; malformed = false })
       unfolding bytes_at
-      whole-text e =
+      whole_text e =
           let most = half (drop (from + 1) line) in
-          let all : count ≡ length (text_at line from) = omega (arith, count-is, size) in
+          let all : count ≡ length (text_at line from) = omega (arith, count_is, size) in
           record {
             is = rw (
-              rw item-is at other,
+              rw item_is at other,
               eq-eqb (2 * length (text_at line from)) (length (drop (from + 1) line)) (omega (arith, size)),
               lt-ltb from (length line) within,
-              le-leb (length (text_at line from)) (length before) (omega (arith, count-is)),
+              le-leb (length (text_at line from)) (length before) (omega (arith, count_is)),
               all,
             );
             front = front;
           }
 
-last-holds : (a b c : Bool) → a && (b && c) ≡ true → c ≡ true
-last-holds true true c e = e
-last-holds true false c e = absurd (false≢true e)
-last-holds false b c e = absurd (false≢true e)
+last_holds : (a b c : Bool) → a && (b && c) ≡ true → c ≡ true
+last_holds true true c e = e
+last_holds true false c e = absurd (false≢true e)
+last_holds false b c e = absurd (false≢true e)
 
 -- the text that was read
-pub text-front : {line before after : List ℕ} {from : ℕ} {r : Bytes} → ReadBytes line from before after r → r.malformed ≡ false
+pub text_front : {line before after : List ℕ} {from : ℕ} {r : Bytes} → ReadBytes line from before after r → r.malformed ≡ false
     → (r.count ≤ length before) × (take r.count after ≡ text_at line from)
 unfolding bytes_at
-text-front {line} {before} {after} {from} {r} p e =
+text_front {line} {before} {after} {from} {r} p e =
     split (ltb from (length line) && (is_hex (drop (from + 1) line) && leb (length (text_at line from)) (length before))) refl
   where
     split : (t : Bool) → ltb from (length line) && (is_hex (drop (from + 1) line) && leb (length (text_at line from)) (length before)) ≡ t
@@ -115,7 +115,7 @@ text-front {line} {before} {after} {from} {r} p e =
     split true q =
         let size = length (text_at line from) in
         let is : r ≡ record { count = size; malformed = false } = rw q at p.is in
-        let fits = leb-true size (length before) (last-holds (ltb from (length line)) (is_hex (drop (from + 1) line)) (leb size (length before)) q) in
+        let fits = leb-true size (length before) (last_holds (ltb from (length line)) (is_hex (drop (from + 1) line)) (leb size (length before)) q) in
         (rw is fits, rw (is, p.front, sets-eq (text_at line from) before 0 (omega arith), zero-add) (take_at (text_at line from) (drop size before) size refl))
     split false q =
         let is : r ≡ record { count = 0; malformed = true } = rw q at p.is in

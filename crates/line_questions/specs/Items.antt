@@ -4,7 +4,7 @@ use Prim.Native.Char.{code}
 use Rattle.std.proofs.lemmas.List.Edits.{sets}
 use Rattle.base_notation.specs.Choice.{when◌then◌else◌}
 use Rattle.base_notation.specs.Text.{utf8}
-use Rattle.base_strtol.specs.Strtol.{strtol-computes}
+use Rattle.base_strtol.specs.Strtol.{strtol_computes}
 use Rattle.line_numbers.specs.Items.{items_of, items_after}
 use Rattle.line_numbers.specs.Numbers.{number_of, narrowed, narrow, int_of, hex_digit, bytes_of}
 use Rattle.line_numbers.specs.declared.Int.{Int}
@@ -85,22 +85,22 @@ pub record ReadBytes (line : List ℕ) (from : ℕ) (before after : List ℕ) (r
   pub front : after ≡ sets before 0 (text_at line from)
 
 -- unfolds all that items are computed by, for worked examples
-unfoldable pub items-compute : ℕ
-unfolding items_of are_numbers numbers_of place_of same bytes_at narrow narrowed number_of bytes_of hex_digit strtol-computes
-items-compute = 0
+unfoldable pub items_compute : ℕ
+unfolding items_of are_numbers numbers_of place_of same bytes_at narrow narrowed number_of bytes_of hex_digit strtol_computes
+items_compute = 0
 
 -- two numbers; a third item that is empty, which is no number; four numbers; no items
-pub three-numbers
+pub three_numbers
     : (numbers_at (utf8 "q 5 -7") 1 ≡ record { values = pos 5 ∷ negsuc 6 ∷ pos 0 ∷ []; count = 2 })
     × (numbers_at (utf8 "q 5 -7 ") 1 ≡ numbers []) × (numbers_at (utf8 "q 1 2 3 4") 1 ≡ numbers []) × (numbers_at (utf8 "q") 1 ≡ numbers [])
-unfolding items-compute
-three-numbers = (refl, refl, refl, refl)
+unfolding items_compute
+three_numbers = (refl, refl, refl, refl)
 
 -- a place; one below 0; one past 64 bits; none
 pub places
     : (place_at (utf8 "q 12 3132") 1 ≡ record { at = 12; end = 4; malformed = false }) × (place_at (utf8 "q -1 31") 1 ≡ no_place 1)
     × (place_at (utf8 "q 9223372036854775808 31") 1 ≡ no_place 1) × (place_at (utf8 "q") 1 ≡ no_place 1)
-unfolding items-compute
+unfolding items_compute
 places = (refl, refl, refl, refl)
 
 -- two bytes; none; half a byte; a letter past f; no room; no item
@@ -108,5 +108,5 @@ pub bytes
     : (bytes_at (utf8 "q 4a0F") 1 2 ≡ record { count = 2; malformed = false }) × (bytes_at (utf8 "q -") 1 2 ≡ record { count = 0; malformed = false })
     × ((bytes_at (utf8 "q 4a0") 1 2).malformed ≡ true) × ((bytes_at (utf8 "q 4g") 1 2).malformed ≡ true)
     × ((bytes_at (utf8 "q 4a0F") 1 1).malformed ≡ true) × ((bytes_at (utf8 "q") 1 2).malformed ≡ true)
-unfolding items-compute
+unfolding items_compute
 bytes = (refl, refl, refl, refl, refl, refl)

@@ -19,15 +19,15 @@ use Rattle.line_texts.specs.declared.modes.Choice.TheVariants.{Of, Unknown}
 abbrev by_letter : ℕ → Mode
 by_letter b = when eqb b (code "p") then Parts else when eqb b (code "i") then Instant else when eqb b (code "d") then Date else Write
 
-letter-back : (m : Mode) → by_letter (get_or (mode_name m) 0 0) ≡ m
-letter-back Parts = refl
-letter-back Instant = refl
-letter-back Date = refl
-letter-back Write = refl
+letter_back : (m : Mode) → by_letter (get_or (mode_name m) 0 0) ≡ m
+letter_back Parts = refl
+letter_back Instant = refl
+letter_back Date = refl
+letter_back Write = refl
 
 -- two modes have two names
 one_name : (m n : Mode) → mode_name m ≡ mode_name n → m ≡ n
-one_name m n e = sym (letter-back m) ∙ ap (λ (l : List ℕ). by_letter (get_or l 0 0)) e ∙ letter-back n
+one_name m n e = sym (letter_back m) ∙ ap (λ (l : List ℕ). by_letter (get_or l 0 0)) e ∙ letter_back n
 
 abbrev mode_in : Choice → Mode
 mode_in (Of m) = m

@@ -1,6 +1,6 @@
 -- The answers to a text, line by line.
--- `next-line`: they are the answer to the first line and then those to the rest.
--- `long-answered`, `line-answered`: an answer and its newline are put.
+-- `next_line`: they are the answer to the first line and then those to the rest.
+-- `long_answered`, `line_answered`: an answer and its newline are put.
 -- `begun`, `more`: the answers put, and those to the rest, are the answers to the text (`Answering`): at first none is
 -- put, then one more. `full`, `ended`: so it is where there is no room for one more, and where no line is left.
 -- `past_end`, `to_end`: no line is left past the end of a text, or where none is in the part up to the end.
@@ -20,17 +20,17 @@ use Rattle.line_answers.specs.Lines.{Answered, answer_line, too_long_answer}
 use Rattle.line_answers.specs.declared.Mode.{Mode}
 use Rattle.line_buffers.specs.Input.{before, Found}
 use Rattle.line_buffers.specs.Output.{Put}
-use Rattle.line_buffers.proofs.Puts.{put_then, put-size}
+use Rattle.line_buffers.proofs.Puts.{put_then, put_size}
 use Rattle.line_texts.specs.Texts.{newline, answer_to, answers_after, answers_to, longest, NoneLeft, AnswersLine, AnswersLines}
 use Rattle.line_texts.specs.declared.Done.{Done}
 
 -- the first line that ends in a text, after the bytes before the text
-pub next-line : (mode : Mode) (long : Bool) (line text : List ℕ) → before newline text < length text
+pub next_line : (mode : Mode) (long : Bool) (line text : List ℕ) → before newline text < length text
     → answers_after mode long line text
     ≡ answer_to mode long (line ++ take (before newline text) text) ++ answers_to mode false (drop (suc (before newline text)) text)
 unfolding answers_after leading
-next-line mode long line [] h = absurd (omega arith)
-next-line mode long line (b ∷ text) h = split (eqb b newline) refl (λ line' h. next-line mode long line' text h)
+next_line mode long line [] h = absurd (omega arith)
+next_line mode long line (b ∷ text) h = split (eqb b newline) refl (λ line' h. next_line mode long line' text h)
   where
     split : (t : Bool) → eqb b newline ≡ t
         → ((line' : List ℕ) → before newline text < length text
@@ -47,13 +47,13 @@ with_newline {l} {at = at} a q = (put_then l at a.put q, rw length-append (omega
 
 -- the answer to a line whose beginning was left off, and to a whole one
 module _ (mode : Mode) (line : List ℕ) {l l₁ l₂ : List ℕ} {at m r : ℕ} where
-  pub long-answered : Answered l at too_long_answer l₁ m → Put l₁ m (newline ∷ []) l₂ r → AnswersLine mode true line l at l₂ r
-  long-answered a q =
+  pub long_answered : Answered l at too_long_answer l₁ m → Put l₁ m (newline ∷ []) l₂ r → AnswersLine mode true line l at l₂ r
+  long_answered a q =
       let both = with_newline a q in
       record { put = both.0; short = both.1 }
 
-  pub line-answered : Answered l at (answer_line mode line) l₁ m → Put l₁ m (newline ∷ []) l₂ r → AnswersLine mode false line l at l₂ r
-  line-answered a q =
+  pub line_answered : Answered l at (answer_line mode line) l₁ m → Put l₁ m (newline ∷ []) l₂ r → AnswersLine mode false line l at l₂ r
+  line_answered a q =
       let both = with_newline a q in
       record { put = both.0; short = both.1 }
 
@@ -89,7 +89,7 @@ module _ (mode : Mode) (long : Bool) (text out₀ : List ℕ) where
 
   module _ {out : List ℕ} {s : Done} {end : ℕ} (a : Answering mode long text out₀ out s end) where
     pub size : length out ≡ length out₀
-    size = put-size out₀ 0 a.put
+    size = put_size out₀ 0 a.put
 
     abbrev rest : List ℕ
     rest = drop s.from text
@@ -98,14 +98,14 @@ module _ (mode : Mode) (long : Bool) (text out₀ : List ℕ) where
     abbrev line : List ℕ
     line = take (end - s.from) rest
 
-    next-is : end < length text → answers_to mode s.long rest ≡ answer_to mode s.long line ++ answers_to mode false (drop (end + 1) text)
-    next-is h =
-        let n-is : before newline rest ≡ end - s.from = omega (arith, a.ends) in
+    next_is : end < length text → answers_to mode s.long rest ≡ answer_to mode s.long line ++ answers_to mode false (drop (end + 1) text)
+    next_is h =
+        let n_is : before newline rest ≡ end - s.from = omega (arith, a.ends) in
         let here : before newline rest < length rest = omega (arith, length-drop s.from text, a.ends) in
-        let next-from : s.from + suc (before newline rest) ≡ end + 1 = omega (arith, a.ends) in
+        let next_from : s.from + suc (before newline rest) ≡ end + 1 = omega (arith, a.ends) in
         let after : drop (suc (before newline rest)) rest ≡ drop (end + 1) text =
-        drop-drop (suc (before newline rest)) s.from text ∙ ap (λ (k : ℕ). drop k text) next-from in
-        rw (next-line mode s.long [] rest here, after, n-is)
+        drop-drop (suc (before newline rest)) s.from text ∙ ap (λ (k : ℕ). drop k text) next_from in
+        rw (next_line mode s.long [] rest here, after, n_is)
 
     -- one line more
     pub more : end < length text → longest ≤ length out₀ - s.at → {after : List ℕ} {next end' : ℕ}
@@ -116,7 +116,7 @@ module _ (mode : Mode) (long : Bool) (text out₀ : List ℕ) where
         let put_both = put_then out₀ 0 a.put l.put in
         record {
           done = a.done ++ answer_to mode s.long line;
-          is = rw append_assoc (rw (next-is h) at a.is);
+          is = rw append_assoc (rw (next_is h) at a.is);
           put = put_both;
           whole = rw length-append (omega (arith, l.put.next, l.short, a.whole));
           within = omega (arith, l.put.next, l.short);
@@ -142,8 +142,8 @@ module _ (mode : Mode) (long : Bool) (text out₀ : List ℕ) where
         }
 
     -- no line is left
-    first-line : length text ≤ end → s.from ≡ 0 → NoneLeft text
-    first-line h e =
+    first_line : length text ≤ end → s.from ≡ 0 → NoneLeft text
+    first_line h e =
         let whole : before newline text ≡ before newline rest = rw e in
         omega (arith, a.ends, a.last)
 
@@ -156,7 +156,7 @@ module _ (mode : Mode) (long : Bool) (text out₀ : List ℕ) where
           whole = a.whole;
           within = a.within;
           from = a.from;
-          some = λ room e. first-line h e;
+          some = λ room e. first_line h e;
         }
 
 -- no line is past the end of a text; and a part that goes to the end is the rest of the text

@@ -4,7 +4,7 @@ use Prim.Native.Char.{code}
 use Rattle.base_notation.specs.Choice.{when◌then◌else◌}
 use Rattle.base_notation.specs.Text.{utf8}
 use Rattle.line_answers.specs.Answers.{moment_text, parts_answer}
-use Rattle.line_answers.specs.Examples.{line-computes}
+use Rattle.line_answers.specs.Examples.{line_computes}
 use Rattle.line_answers.specs.Lines.{answer_line, too_long_answer}
 use Rattle.line_answers.specs.declared.Mode.{Mode}
 use Rattle.line_answers.specs.declared.Mode.TheVariants.{Parts}
@@ -58,5 +58,5 @@ pub record AnswersLines (mode : Mode) (long : Bool) (text before₀ after : List
 
 -- a line of which the beginning was left off, a line, and one that does not end in the text
 pub worked : answers_to Parts true (utf8 "MM\nDD\t5\nDD") ≡ utf8 "1 - 0 0\n0 0 1 5 0 0 0 0 0 none 4\n"
-unfolding answers_after too_long_answer line-computes parts_answer moment_text
+unfolding answers_after too_long_answer line_computes parts_answer moment_text
 worked = refl

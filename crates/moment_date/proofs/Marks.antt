@@ -6,7 +6,7 @@ use Prim.Native.Nat.{ℕ, ◌<◌}
 use lib.Bits.{or_lt}
 use lib.Dec.{lit<}
 use lib.IntN.{ℤ, pos}
-use Rattle.base_notation.proofs.Cases.{by-if}
+use Rattle.base_notation.proofs.Cases.{by_if}
 use Rattle.calendar_julian.specs.ToDate.{j2date}
 use Rattle.calendar_julian.specs.Week.{isoweek2j}
 use Rattle.calendar_julian.specs.declared.Date.{Date as JulianDate}
@@ -20,7 +20,7 @@ use Rattle.moment_date.specs.declared.Dated.TheVariants.{Date, Refused}
 use Rattle.moment_date.specs.declared.Days.{Days}
 use Rattle.moment_sums.specs.declared.Value.{Value}
 use Rattle.moment_sums.specs.declared.Value.TheVariants.{Is, Not}
-use Rattle.moment_date.proofs.Bits.{unset-before, unset-added}
+use Rattle.moment_date.proofs.Bits.{unset_before, unset_added}
 
 -- what is not set is the year 0, January, the first of the month
 pub record Marked (r : Days) : Type 0 where
@@ -40,9 +40,9 @@ value_of (Is z) = z
 value_of (Not why) = pos 0
 
 -- without a year and a century the year is 0
-year-marked : (f : Fields) (y : ℤ) → year_of f ≡ Is y → is_set year_bit (year_mask f) ≡ false → y ≡ pos 0
+year_marked : (f : Fields) (y : ℤ) → year_of f ≡ Is y → is_set year_bit (year_mask f) ≡ false → y ≡ pos 0
 unfolding year_of value_of
-year-marked f y is unset = split (is_zero (get f year)) (is_zero (get f cc)) refl refl
+year_marked f y is unset = split (is_zero (get f year)) (is_zero (get f cc)) refl refl
   where
     split : (a b : Bool) → is_zero (get f year) ≡ a → is_zero (get f cc) ≡ b → y ≡ pos 0
     split true true p q = sym (ap value_of (rw (p, q) at is))
@@ -50,99 +50,99 @@ year-marked f y is unset = split (is_zero (get f year)) (is_zero (get f cc)) ref
     split false b p q = absurd (false≢true (sym (rw p at unset)))
 
 -- at first, and after each step
-begun-marked : (f : Fields) (y : ℤ) → year_of f ≡ Is y → Marked (begun f y)
+begun_marked : (f : Fields) (y : ℤ) → year_of f ≡ Is y → Marked (begun f y)
 unfolding begun
-begun-marked f y is = record {
-  mask = by-if (λ (n : ℕ). n < 8) (is_zero (get f year) && is_zero (get f cc)) 0 year_bit (λ e. lit< tt) (λ e. lit< tt);
-  year = year-marked f y is;
+begun_marked f y is = record {
+  mask = by_if (λ (n : ℕ). n < 8) (is_zero (get f year) && is_zero (get f cc)) 0 year_bit (λ e. lit< tt) (λ e. lit< tt);
+  year = year_marked f y is;
   month = λ e. refl;
   day = λ e. refl;
 }
 
-whole-marked : (a : JulianDate) (r : Days) → Marked (whole a r)
-whole-marked a r = record {
+whole_marked : (a : JulianDate) (r : Days) → Marked (whole a r)
+whole_marked a r = record {
   mask = lit< tt;
   year = λ e. absurd (false≢true (sym e));
   month = λ e. absurd (false≢true (sym e));
   day = λ e. absurd (false≢true (sym e));
 }
 
-julian-marked : (f : Fields) (r : Days) → Marked r → Marked (with_julian f r)
+julian_marked : (f : Fields) (r : Days) → Marked r → Marked (with_julian f r)
 unfolding with_julian
-julian-marked f r m = by-if Marked (is_zero (get f j)) r (whole (j2date (get f j)) r) (λ e. m) (λ e. whole-marked (j2date (get f j)) r)
+julian_marked f r m = by_if Marked (is_zero (get f j)) r (whole (j2date (get f j)) r) (λ e. m) (λ e. whole_marked (j2date (get f j)) r)
 
-day-of-year-marked : (r : Days) (v : Value) → Marked r → MarkedDate (on_day_of_year r v)
-day-of-year-marked r (Is n) m = record { mask = m.mask; year = m.year; month = m.month; day = m.day }
-day-of-year-marked r (Not why) m = tt
+day_of_year_marked : (r : Days) (v : Value) → Marked r → MarkedDate (on_day_of_year r v)
+day_of_year_marked r (Is n) m = record { mask = m.mask; year = m.year; month = m.month; day = m.day }
+day_of_year_marked r (Not why) m = tt
 
-day-of-month-marked : (r : Days) (v : Value) → Marked r → MarkedDate (on_day_of_month r v)
-day-of-month-marked r (Is n) m = record { mask = m.mask; year = m.year; month = m.month; day = m.day }
-day-of-month-marked r (Not why) m = tt
+day_of_month_marked : (r : Days) (v : Value) → Marked r → MarkedDate (on_day_of_month r v)
+day_of_month_marked r (Is n) m = record { mask = m.mask; year = m.year; month = m.month; day = m.day }
+day_of_month_marked r (Not why) m = tt
 
-week-marked : (f : Fields) (r : Days) → Marked r → MarkedDate (with_week f r)
+week_marked : (f : Fields) (r : Days) → Marked r → MarkedDate (with_week f r)
 unfolding with_week
-week-marked f r m =
-    by-if MarkedDate (is_zero (get f ww)) _ _ (λ e. m)
-    (λ e. by-if MarkedDate (eq_ℤ (get f mode) (pos iso_week)) _ _
-    (λ e. whole-marked (j2date (day_of_week (isoweek2j r.year (get f ww)) (get f d))) r)
-    (λ e. day-of-year-marked r (first_of_week (get f ww)) m))
+week_marked f r m =
+    by_if MarkedDate (is_zero (get f ww)) _ _ (λ e. m)
+    (λ e. by_if MarkedDate (eq_ℤ (get f mode) (pos iso_week)) _ _
+    (λ e. whole_marked (j2date (day_of_week (isoweek2j r.year (get f ww)) (get f d))) r)
+    (λ e. day_of_year_marked r (first_of_week (get f ww)) m))
 
-month-week-marked : (f : Fields) (r : Days) → Marked r → MarkedDate (with_month_week f r)
+month_week_marked : (f : Fields) (r : Days) → Marked r → MarkedDate (with_month_week f r)
 unfolding with_month_week
-month-week-marked f r m =
-    by-if MarkedDate (is_zero (get f w)) _ _ (λ e. m) (λ e. day-of-month-marked r (first_of_week (get f w)) m)
+month_week_marked f r m =
+    by_if MarkedDate (is_zero (get f w)) _ _ (λ e. m) (λ e. day_of_month_marked r (first_of_week (get f w)) m)
 
-day-marked : (r : Days) → Marked r → Marked (with_day r)
-day-marked r m =
-    by-if Marked (is_zero r.dd) _ _ (λ e. m)
+day_marked : (r : Days) → Marked r → Marked (with_day r)
+day_marked r m =
+    by_if Marked (is_zero r.dd) _ _ (λ e. m)
     (λ e. record {
       mask = or_lt 3 r.set day_bit m.mask (lit< tt);
-      year = λ u. m.year (unset-before r.set day_bit year_bit (lit< tt) u);
-      month = λ u. m.month (unset-before r.set day_bit month_bit (lit< tt) u);
-      day = λ u. absurd (false≢true (sym (unset-added r.set day_bit day_bit (lit< tt) u)));
+      year = λ u. m.year (unset_before r.set day_bit year_bit (lit< tt) u);
+      month = λ u. m.month (unset_before r.set day_bit month_bit (lit< tt) u);
+      day = λ u. absurd (false≢true (sym (unset_added r.set day_bit day_bit (lit< tt) u)));
     })
 
-month-marked : (f : Fields) (r : Days) → Marked r → Marked (with_month f r)
-month-marked f r m =
-    by-if Marked (is_zero (get f mm)) _ _ (λ e. m)
+month_marked : (f : Fields) (r : Days) → Marked r → Marked (with_month f r)
+month_marked f r m =
+    by_if Marked (is_zero (get f mm)) _ _ (λ e. m)
     (λ e. record {
       mask = or_lt 3 r.set month_bit m.mask (lit< tt);
-      year = λ u. m.year (unset-before r.set month_bit year_bit (lit< tt) u);
-      month = λ u. absurd (false≢true (sym (unset-added r.set month_bit month_bit (lit< tt) u)));
-      day = λ u. m.day (unset-before r.set month_bit day_bit (lit< tt) u);
+      year = λ u. m.year (unset_before r.set month_bit year_bit (lit< tt) u);
+      month = λ u. absurd (false≢true (sym (unset_added r.set month_bit month_bit (lit< tt) u)));
+      day = λ u. m.day (unset_before r.set month_bit day_bit (lit< tt) u);
     })
 
-both-marked : (r : Days) → Marked r → Marked (from_day_of_year r)
+both_marked : (r : Days) → Marked r → Marked (from_day_of_year r)
 unfolding from_day_of_year
-both-marked r m = record {
+both_marked r m = record {
   mask = or_lt 3 r.set 6 m.mask (lit< tt);
-  year = λ u. m.year (unset-before r.set 6 year_bit (lit< tt) u);
-  month = λ u. absurd (false≢true (sym (unset-added r.set 6 month_bit (lit< tt) u)));
-  day = λ u. absurd (false≢true (sym (unset-added r.set 6 day_bit (lit< tt) u)));
+  year = λ u. m.year (unset_before r.set 6 year_bit (lit< tt) u);
+  month = λ u. absurd (false≢true (sym (unset_added r.set 6 month_bit (lit< tt) u)));
+  day = λ u. absurd (false≢true (sym (unset_added r.set 6 day_bit (lit< tt) u)));
 }
 
-with-day-of-year-marked : (f : Fields) (r : Days) → Marked r → MarkedDate (with_day_of_year f r)
+with_day_of_year_marked : (f : Fields) (r : Days) → Marked r → MarkedDate (with_day_of_year f r)
 unfolding with_day_of_year
-with-day-of-year-marked f r m =
-    by-if MarkedDate (not (counts_day_of_year r)) _ _ (λ e. m)
-    (λ e. by-if MarkedDate (lacks_year f r) _ _ (λ e. tt)
-    (λ e. by-if MarkedDate (eq_ℤ (get f mode) (pos iso_week)) _ _ (λ e. whole-marked _ r) (λ e. both-marked r m)))
+with_day_of_year_marked f r m =
+    by_if MarkedDate (not (counts_day_of_year r)) _ _ (λ e. m)
+    (λ e. by_if MarkedDate (lacks_year f r) _ _ (λ e. tt)
+    (λ e. by_if MarkedDate (eq_ℤ (get f mode) (pos iso_week)) _ _ (λ e. whole_marked _ r) (λ e. both_marked r m)))
 
 -- each step on what the one before left
-then-day-of-year : (f : Fields) (a : Dated) → MarkedDate a → MarkedDate (then_day_of_year f a)
-then-day-of-year f (Refused why) m = tt
-then-day-of-year f (Date r) m = with-day-of-year-marked f (with_month f (with_day r)) (month-marked f (with_day r) (day-marked r m))
+then_day_of_year_lem : (f : Fields) (a : Dated) → MarkedDate a → MarkedDate (then_day_of_year f a)
+then_day_of_year_lem f (Refused why) m = tt
+then_day_of_year_lem f (Date r) m = with_day_of_year_marked f (with_month f (with_day r)) (month_marked f (with_day r) (day_marked r m))
 
-then-month-week : (f : Fields) (a : Dated) → MarkedDate a → MarkedDate (then_month_week f a)
-then-month-week f (Refused why) m = tt
-then-month-week f (Date r) m = then-day-of-year f (with_month_week f r) (month-week-marked f r m)
+then_month_week_lem : (f : Fields) (a : Dated) → MarkedDate a → MarkedDate (then_month_week f a)
+then_month_week_lem f (Refused why) m = tt
+then_month_week_lem f (Date r) m = then_day_of_year_lem f (with_month_week f r) (month_week_marked f r m)
 
-then-week : (f : Fields) (v : Value) → year_of f ≡ v → MarkedDate (then_week f v)
-then-week f (Not why) is = tt
-then-week f (Is y) is =
-    then-month-week f (with_week f (with_julian f (begun f y)))
-    (week-marked f (with_julian f (begun f y)) (julian-marked f (begun f y) (begun-marked f y is)))
+then_week_lem : (f : Fields) (v : Value) → year_of f ≡ v → MarkedDate (then_week f v)
+then_week_lem f (Not why) is = tt
+then_week_lem f (Is y) is =
+    then_month_week_lem f (with_week f (with_julian f (begun f y)))
+    (week_marked f (with_julian f (begun f y)) (julian_marked f (begun f y) (begun_marked f y is)))
 
 pub marked : (f : Fields) → MarkedDate (dated_of f)
 unfolding dated_of
-marked f = then-week f (year_of f) refl
+marked f = then_week_lem f (year_of f) refl

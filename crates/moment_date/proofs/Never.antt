@@ -1,6 +1,6 @@
 -- Days that a month never has. Assumes nothing.
 -- `longest`: in no year has a month more days than in a leap year.
--- `three-bits`: a mask below 8 is the sum of its three bits.
+-- `three_bits`: a mask below 8 is the sum of its three bits.
 -- `has_first`: every month has a first day, and January has 31: unless month and day are both marked, the month has the
 -- day in every year.
 use mathlib.Core.Path.{◌≡◌, refl}
@@ -31,15 +31,15 @@ longest false (negsuc n) = omega arith
 abbrev pub value_of : ℕ → ℕ → ℕ
 value_of bit set = when is_set bit set then bit else 0
 
-pub three-bits : (set : ℕ) → set < 8 → set ≡ value_of year_bit set + value_of month_bit set + value_of day_bit set
-three-bits set h =
+pub three_bits : (set : ℕ) → set < 8 → set ≡ value_of year_bit set + value_of month_bit set + value_of day_bit set
+three_bits set h =
     eqb-true set _
     (each (λ n. eqb n (value_of year_bit n + value_of month_bit n + value_of day_bit n) ≡ true) 0 7
     (refl, (refl, (refl, (refl, (refl, (refl, (refl, refl))))))) set zero-le (omega arith))
 
 -- each of the twelve months has a day
-some-day : (in_leap : Bool) (m : ℕ) → 1 ≤ m → m ≤ 12 → 1 ≤ length_of in_leap (pos m)
-some-day in_leap = each (λ m. 1 ≤ length_of in_leap (pos m)) 1 11 (omega arith)
+some_day : (in_leap : Bool) (m : ℕ) → 1 ≤ m → m ≤ 12 → 1 ≤ length_of in_leap (pos m)
+some_day in_leap = each (λ m. 1 ≤ length_of in_leap (pos m)) 1 11 (omega arith)
 
 pub has_first : (in_leap : Bool) (r : Days) → Marked r → Within 1 12 r.month → Within 1 31 r.day
     → (is_set month_bit r.set ≡ true → is_set day_bit r.set ≡ true → Within 1 (length_of in_leap r.month) r.day)
@@ -52,6 +52,6 @@ has_first in_leap r marks month day marked = split (is_set month_bit r.set) (is_
       at = 1;
       is = marks.day q;
       from = omega arith;
-      to = rw month.is (some-day in_leap month.at month.from month.to);
+      to = rw month.is (some_day in_leap month.at month.from month.to);
     }
     split true true p q = marked p q

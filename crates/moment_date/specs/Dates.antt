@@ -15,7 +15,7 @@ use Rattle.read_fields.specs.Fields.{get, is_zero, eq_ℤ, mode, d, dd, ddd, mm,
 use Rattle.read_fields.specs.declared.Fields.{Fields}
 use Rattle.base_wrapping.specs.Wrap.{◌⊕◌, ◌⊖◌}
 use Rattle.moment_sums.specs.Checked.{◌plus◌, ◌times◌}
-use Rattle.moment_year.specs.Year.{year_of, year-computes}
+use Rattle.moment_year.specs.Year.{year_of, year_computes}
 use Rattle.moment_date.specs.declared.Days.{Days}
 use Rattle.moment_date.specs.declared.Dated.{Dated}
 use Rattle.moment_date.specs.declared.Dated.TheVariants.{Date as DateOf, Refused}
@@ -160,16 +160,16 @@ unfoldable pub no_such_day : ℕ → ℤ → ℤ → Bool
 no_such_day set m n = eqb set (bit_or month_bit day_bit) && lt_z (pos (length_of true m)) n
 
 -- unfolds all that a date is computed by, for worked examples
-unfoldable pub date-computes : ℕ
-unfolding begun with_julian first_of_week with_week with_month_week from_day_of_year with_day_of_year dated_of date_in_range no_such_day year-computes days_before ended_before month_of_day shifted with_skipped day_from_march j2date from_march date2j j2day week_one isoweek2j
-date-computes = 0
+unfoldable pub date_computes : ℕ
+unfolding begun with_julian first_of_week with_week with_month_week from_day_of_year with_day_of_year dated_of date_in_range no_such_day year_computes days_before ended_before month_of_day shifted with_skipped day_from_march j2date from_march date2j j2day week_one isoweek2j
+date_computes = 0
 
 -- without a year February has 30 days; 2023 with its month and day set, and day 60 of it
 pub worked
     : (date_in_range (days (pos 0) (pos 2) (pos 30) 6 (pos 30) (pos 0)) ≡ true)
     × (date_in_range (days (pos 2023) (pos 2) (pos 29) 7 (pos 29) (pos 0)) ≡ false)
     × (from_day_of_year (days (pos 2023) (pos 1) (pos 1) 1 (pos 0) (pos 60)) ≡ days (pos 2023) (pos 3) (pos 1) 7 (pos 0) (pos 60))
-unfolding date-computes
+unfolding date_computes
 worked = (refl, refl, refl)
 
 -- February 30 and April 31 are never there, February 29 and March 31 are; with a year or without a month none is asked

@@ -1,5 +1,5 @@
 -- The order of whole numbers: a bound of a sum is a bound of one summand, less the other. Assumes nothing.
--- `below-sum`: c - b < a exactly where c < a + b.
+-- `below_sum`: c - b < a exactly where c < a + b.
 -- `sum_below`: a < c - b exactly where a + b < c.
 use mathlib.Core.Path.{◌≡◌, refl, ◌∙◌, ap, sym}
 use mathlib.Core.Bool.{Bool, true, false, not, cond}
@@ -25,8 +25,8 @@ by_sign (negsuc a) (pos (suc b)) = refl
 by_sign (negsuc a) (negsuc b) = sym (leb-suc-suc (suc b) a) ∙ below (ltb (suc b) (suc a)) _ _
 
 module _ (a b c : ℤ) where
-  pub below-sum : lt_z (c -ℤ b) a ≡ lt_z c (a +ℤ b)
-  below-sum =
+  pub below_sum : lt_z (c -ℤ b) a ≡ lt_z c (a +ℤ b)
+  below_sum =
       by_sign (c -ℤ b) a
       ∙ ap (λ (z : ℤ). not (non_neg z)) (+ℤ_assoc c (neg_ℤ b) (neg_ℤ a) ∙ ap (λ (z : ℤ). c +ℤ z) (+ℤ_comm (neg_ℤ b) (neg_ℤ a) ∙ sym (neg_ℤ-+ℤ a b)))
       ∙ sym (by_sign c (a +ℤ b))

@@ -1,7 +1,7 @@
 -- The instant and the day of a date and time of the years 1 to 9999 are the calendar's. Assumes nothing.
 -- `plain_parts`: the parts of a date and time with no offset, no precision and all three marks.
--- `day-is`: their day is the calendar's, counted from 1970-01-01.
--- `instant-is`: their instant is the calendar's microseconds since then.
+-- `day_is`: their day is the calendar's, counted from 1970-01-01.
+-- `instant_is`: their instant is the calendar's microseconds since then.
 use mathlib.Core.Path.{◌≡◌, refl, ◌∙◌, ap, sym}
 use mathlib.Core.Bool.{true, false, ◌&&◌}
 use Prim.Native.Nat.{ℕ, zero, suc, ◌+◌, ◌-◌, ◌*◌, ◌≤◌, ◌<◌, ◌^◌}
@@ -10,10 +10,10 @@ use native.Mathlib.Omega.{arith}
 use borrow.Author.Tests.{lt-ltb, le-ltb}
 use lib.IntN.{ℤ, pos, negsuc, neg_ℤ, ◌+ℤ◌, ◌-ℤ◌, ◌*ℤ◌}
 use lib.Signed.{lt_z, mag}
-use Rattle.base_notation.proofs.Magnitudes.{add-mag, sub-mag}
+use Rattle.base_notation.proofs.Magnitudes.{add-mag, sub_mag}
 use Rattle.calendar_gregorian.specs.Civil.{days_from_civil}
 use Rattle.calendar_gregorian.specs.Gregorian.{Valid, day_number, day_number_ℤ}
-use Rattle.calendar_gregorian.proofs.Dates.{first-to-last}
+use Rattle.calendar_gregorian.proofs.Dates.{first_to_last}
 use Rattle.calendar_gregorian.proofs.DaysFrom.{civil}
 use Rattle.moment_date.specs.Dates.{all_bits}
 use Rattle.moment_time.specs.declared.Offset.TheVariants.{Absent}
@@ -23,7 +23,7 @@ use Rattle.moment_instants.specs.Plain.{days_since_1970, micros_of_day, micros_s
 use Rattle.moment_instants.specs.declared.epoch.Day.TheVariants.{Number}
 use Rattle.moment_instants.specs.declared.epoch.Instant.TheVariants.{Micros}
 use Rattle.moment_instants.proofs.Range.{between}
-use Rattle.moment_instants.proofs.Seconds.{times-mag}
+use Rattle.moment_instants.proofs.Seconds.{times_mag}
 
 -- the parts of a date and time with no offset, no precision and all three marks
 abbrev pub plain_parts : ℕ → ℕ → ℕ → ℕ → ℕ → ℕ → ℕ → Parts
@@ -66,66 +66,66 @@ scaled (negsuc n) t us h k =
     )
 
 -- a number far from the ends is an instant, or a day
-plain-within : (z : ℤ) → mag z < 2 ^ 62 → within z ≡ Micros z
-plain-within (pos n) h = sym (between (pos n) (le-ltb 9223372036854775806 n (omega arith)) refl)
-plain-within (negsuc n) h = sym (between (negsuc n) refl (le-ltb 9223372036854775806 n (omega arith)))
+plain_within : (z : ℤ) → mag z < 2 ^ 62 → within z ≡ Micros z
+plain_within (pos n) h = sym (between (pos n) (le-ltb 9223372036854775806 n (omega arith)) refl)
+plain_within (negsuc n) h = sym (between (negsuc n) refl (le-ltb 9223372036854775806 n (omega arith)))
 
-plain-day : (z : ℤ) → mag z < 2147483647 → (lt_z (negsuc 2147483647) z && lt_z z (pos 2147483647)) ≡ true
-plain-day (pos n) h = lt-ltb n 2147483647 h
-plain-day (negsuc n) h = rw (lt-ltb n 2147483647 h)
+plain_day : (z : ℤ) → mag z < 2147483647 → (lt_z (negsuc 2147483647) z && lt_z z (pos 2147483647)) ≡ true
+plain_day (pos n) h = lt-ltb n 2147483647 h
+plain_day (negsuc n) h = rw (lt-ltb n 2147483647 h)
 
 module _ {y m d : ℕ} (v : Valid y m d) where
-  civil-days : days_from_civil (pos y) (pos m) (pos d) ≡ days_since_1970 y m d
+  civil_days : days_from_civil (pos y) (pos m) (pos d) ≡ days_since_1970 y m d
   unfolding days_since_1970 day_number_ℤ
-  civil-days = civil (pos y) m d
+  civil_days = civil (pos y) m d
 
-  days-mag : mag (days_since_1970 y m d) < 2 ^ 23
+  days_mag : mag (days_since_1970 y m d) < 2 ^ 23
   unfolding days_since_1970
-  days-mag = omega (arith, sub-mag (day_number y m d) 2440588, first-to-last v)
+  days_mag = omega (arith, sub_mag (day_number y m d) 2440588, first_to_last v)
 
   -- the day of the date
-  pub day-is : (h mi s us : ℕ) → day_of (plain_parts y m d h mi s us) ≡ Number (days_since_1970 y m d)
+  pub day_is : (h mi s us : ℕ) → day_of (plain_parts y m d h mi s us) ≡ Number (days_since_1970 y m d)
   unfolding day_of
-  day-is h mi s us = rw (civil-days, plain-day (days_since_1970 y m d) (omega (arith, days-mag)))
+  day_is h mi s us = rw (civil_days, plain_day (days_since_1970 y m d) (omega (arith, days_mag)))
 
   module _ (h mi s us : ℕ) (hour : h < 24) (minute : mi < 60) (second : s < 60) (micros : us < 1000000) where
     abbrev time : ℕ
     time = (h * 60 + mi) * 60 + s
 
-    seconds-are : seconds_of (plain_parts y m d h mi s us) ≡ days_since_1970 y m d *ℤ pos 86400 +ℤ pos time
+    seconds_are : seconds_of (plain_parts y m d h mi s us) ≡ days_since_1970 y m d *ℤ pos 86400 +ℤ pos time
     unfolding seconds_of
-    seconds-are = let same : h * 3600 + mi * 60 + s ≡ time = omega arith in rw (civil-days, same)
+    seconds_are = let same : h * 3600 + mi * 60 + s ≡ time = omega arith in rw (civil_days, same)
 
-    whole-mag : mag ((days_since_1970 y m d *ℤ pos 86400 +ℤ pos time) *ℤ pos 1000000) < 2 ^ 61
-    whole-mag =
+    whole_mag : mag ((days_since_1970 y m d *ℤ pos 86400 +ℤ pos time) *ℤ pos 1000000) < 2 ^ 61
+    whole_mag =
         omega (
           arith,
-          days-mag,
-          times-mag (days_since_1970 y m d) 86400,
+          days_mag,
+          times_mag (days_since_1970 y m d) 86400,
           add-mag (days_since_1970 y m d *ℤ pos 86400) (pos time),
-          times-mag (days_since_1970 y m d *ℤ pos 86400 +ℤ pos time) 1000000,
+          times_mag (days_since_1970 y m d *ℤ pos 86400 +ℤ pos time) 1000000,
         )
 
     sum_is : (days_since_1970 y m d *ℤ pos 86400 +ℤ pos time) *ℤ pos 1000000 +ℤ pos us ≡ micros_since_1970 y m d h mi s us
     unfolding micros_since_1970
     sum_is = scaled (days_since_1970 y m d) time us (omega arith) micros
 
-    sum-mag : mag (micros_since_1970 y m d h mi s us) < 2 ^ 62
-    sum-mag =
+    sum_mag : mag (micros_since_1970 y m d h mi s us) < 2 ^ 62
+    sum_mag =
         rw (← sum_is)
-        (omega (arith, whole-mag, add-mag ((days_since_1970 y m d *ℤ pos 86400 +ℤ pos time) *ℤ pos 1000000) (pos us)))
+        (omega (arith, whole_mag, add-mag ((days_since_1970 y m d *ℤ pos 86400 +ℤ pos time) *ℤ pos 1000000) (pos us)))
 
-    wall-is : wall_of (plain_parts y m d h mi s us) ≡ Micros (micros_since_1970 y m d h mi s us)
+    wall_is : wall_of (plain_parts y m d h mi s us) ≡ Micros (micros_since_1970 y m d h mi s us)
     unfolding wall_of
-    wall-is =
+    wall_is =
         rw (
-          seconds-are,
-          lt-ltb (mag ((days_since_1970 y m d *ℤ pos 86400 +ℤ pos time) *ℤ pos 1000000)) (2 ^ 63) (omega (arith, whole-mag)),
+          seconds_are,
+          lt-ltb (mag ((days_since_1970 y m d *ℤ pos 86400 +ℤ pos time) *ℤ pos 1000000)) (2 ^ 63) (omega (arith, whole_mag)),
           sum_is,
         )
-        (plain-within (micros_since_1970 y m d h mi s us) sum-mag)
+        (plain_within (micros_since_1970 y m d h mi s us) sum_mag)
 
     -- the instant of the date and time
-    pub instant-is : instant_of (plain_parts y m d h mi s us) ≡ Micros (micros_since_1970 y m d h mi s us)
+    pub instant_is : instant_of (plain_parts y m d h mi s us) ≡ Micros (micros_since_1970 y m d h mi s us)
     unfolding instant_of less_offset rounded_to
-    instant-is = rw (wall-is, plain-within (micros_since_1970 y m d h mi s us) sum-mag)
+    instant_is = rw (wall_is, plain_within (micros_since_1970 y m d h mi s us) sum_mag)

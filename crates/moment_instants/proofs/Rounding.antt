@@ -1,8 +1,8 @@
 -- Rounding half away from 2000: by magnitude and sign, and where the count with its half fits 64 bits. Assumes nothing.
--- `turned`, `away-before`: a count before 2000 is turned positive, and what it is rounded to is turned back.
--- `kept`, `away-after`: a count from 2000 on is rounded as it is.
--- `rounded-fits`, `turned-fits`: what a magnitude is rounded to fits 64 bits, and so does its negative.
--- `limit-fits`: the limit that the code compares an instant with fits 64 bits.
+-- `turned`, `away_before`: a count before 2000 is turned positive, and what it is rounded to is turned back.
+-- `kept`, `away_after`: a count from 2000 on is rounded as it is.
+-- `rounded_fits`, `turned_fits`: what a magnitude is rounded to fits 64 bits, and so does its negative.
+-- `limit_fits`: the limit that the code compares an instant with fits 64 bits.
 -- `early`, `counted`: an instant below the limit has no count from 2000 that fits with its half; any other has.
 -- `digits`: what passes the tests of the precision is one to five digits.
 -- `half_le`: for one to five digits the half that rounds is at most 50000.
@@ -19,46 +19,46 @@ use mir.Syntax.{w64}
 use mir.Val.{SFits}
 use Rattle.moment_instants.specs.Instant.{fits64, epoch2000, rounded, away}
 use Rattle.calendar_gregorian.proofs.Dates.{each}
-use Rattle.moment_instants.proofs.Order.{below-sum, sum_below}
+use Rattle.moment_instants.proofs.Order.{below_sum, sum_below}
 use Rattle.moment_instants.proofs.Range.{first, sub_small}
-use Rattle.base_notation.proofs.Magnitudes.{neg-mag}
+use Rattle.base_notation.proofs.Magnitudes.{neg_mag}
 
 -- a count before 2000
 pub turned : (z : ℤ) → lt_z z (pos 0) ≡ true → pos 0 -ℤ z ≡ pos (nat_abs z)
 turned (pos n) h = absurd (let bound = ltb-true n 0 h in omega arith)
 turned (negsuc n) h = ap pos (omega arith)
 
-pub away-before : (scale : ℕ) (z : ℤ) → lt_z z (pos 0) ≡ true → neg_ℤ (pos (rounded scale (nat_abs z))) ≡ away scale z
-away-before scale (pos n) h = absurd (let bound = ltb-true n 0 h in omega arith)
-away-before scale (negsuc n) h = ap (λ (k : ℕ). neg_ℤ (pos (rounded scale k))) (omega arith)
+pub away_before : (scale : ℕ) (z : ℤ) → lt_z z (pos 0) ≡ true → neg_ℤ (pos (rounded scale (nat_abs z))) ≡ away scale z
+away_before scale (pos n) h = absurd (let bound = ltb-true n 0 h in omega arith)
+away_before scale (negsuc n) h = ap (λ (k : ℕ). neg_ℤ (pos (rounded scale k))) (omega arith)
 
 -- and one from then on
 pub kept : (z : ℤ) → lt_z z (pos 0) ≡ false → z ≡ pos (nat_abs z)
 kept (pos n) h = refl
 kept (negsuc n) h = absurd (false≢true (sym h))
 
-pub away-after : (scale : ℕ) (z : ℤ) → lt_z z (pos 0) ≡ false → pos (rounded scale (nat_abs z)) ≡ away scale z
-away-after scale (pos n) h = refl
-away-after scale (negsuc n) h = absurd (false≢true (sym h))
+pub away_after : (scale : ℕ) (z : ℤ) → lt_z z (pos 0) ≡ false → pos (rounded scale (nat_abs z)) ≡ away scale z
+away_after scale (pos n) h = refl
+away_after scale (negsuc n) h = absurd (false≢true (sym h))
 
 -- rounding adds at most the half
 rounded-le : (scale n : ℕ) → rounded scale n ≤ n + scale / 2
 rounded-le scale n = div-mul-le_self (n + scale / 2) scale
 
 module _ (scale n : ℕ) (h : n + scale / 2 < 2 ^ 63) where
-  pub rounded-fits : SFits w64 (pos (rounded scale n))
-  rounded-fits = omega (arith, rounded-le scale n)
+  pub rounded_fits : SFits w64 (pos (rounded scale n))
+  rounded_fits = omega (arith, rounded-le scale n)
 
-  pub turned-fits : SFits w64 (neg_ℤ (pos (rounded scale n)))
-  turned-fits = omega (arith, rounded-le scale n, neg-mag (rounded scale n))
+  pub turned_fits : SFits w64 (neg_ℤ (pos (rounded scale n)))
+  turned_fits = omega (arith, rounded-le scale n, neg_mag (rounded scale n))
 
 -- the first count that fits with its half, of one to five digits
 lowest : (half : ℕ) → half ≤ 50000 → first +ℤ pos half ≡ negsuc (9223372036854775807 - suc half)
 lowest half h = rw (lt-ltb half 9223372036854775807 (omega arith))
 
 module _ (half : ℕ) (h : half ≤ 50000) where
-  too-low : (z : ℤ) → lt_z z (first +ℤ pos half) ≡ true → (fits64 z && ltb (nat_abs z + half) (2 ^ 63)) ≡ false
-  too-low z = rw (lowest half h) (by z)
+  too_low : (z : ℤ) → lt_z z (first +ℤ pos half) ≡ true → (fits64 z && ltb (nat_abs z + half) (2 ^ 63)) ≡ false
+  too_low z = rw (lowest half h) (by z)
     where
       by : (z : ℤ) → lt_z z (negsuc (9223372036854775807 - suc half)) ≡ true → (fits64 z && ltb (nat_abs z + half) (2 ^ 63)) ≡ false
       by (pos n) l = absurd (false≢true l)
@@ -73,28 +73,28 @@ module _ (half : ℕ) (h : half ≤ 50000) where
       by (pos n) k l = let bound = ltb-false 9222425352054775807 n k in (omega arith, omega arith)
       by (negsuc n) k l = let bound = ltb-false (9223372036854775807 - suc half) n l in (omega arith, omega arith)
 
-  pub limit-fits : SFits w64 (negsuc 9222425352054775806 +ℤ pos half)
-  limit-fits = record { sfits = sub_small half 9222425352054775807 (2 ^ 63) (omega arith) (omega arith) }
+  pub limit_fits : SFits w64 (negsuc 9222425352054775806 +ℤ pos half)
+  limit_fits = record { sfits = sub_small half 9222425352054775807 (2 ^ 63) (omega arith) (omega arith) }
 
   -- the same of an instant
-  from-2000 : (t : ℤ) → lt_z t (negsuc 9222425352054775806 +ℤ pos half) ≡ lt_z (t -ℤ epoch2000) (first +ℤ pos half)
-  from-2000 t =
+  from_2000 : (t : ℤ) → lt_z t (negsuc 9222425352054775806 +ℤ pos half) ≡ lt_z (t -ℤ epoch2000) (first +ℤ pos half)
+  from_2000 t =
       ap (lt_z t) (+ℤ_assoc first epoch2000 (pos half) ∙ ap (λ (z : ℤ). first +ℤ z) (+ℤ_comm epoch2000 (pos half)) ∙ sym (+ℤ_assoc first (pos half) epoch2000))
       ∙ sum_below t (neg_ℤ epoch2000) (first +ℤ pos half)
 
-  not-past : (t : ℤ) → SFits w64 t → lt_z (pos 9223372036854775807) t ≡ false
-  not-past (pos n) f = le-ltb 9223372036854775807 n (omega arith)
-  not-past (negsuc n) f = refl
+  not_past : (t : ℤ) → SFits w64 t → lt_z (pos 9223372036854775807) t ≡ false
+  not_past (pos n) f = le-ltb 9223372036854775807 n (omega arith)
+  not_past (negsuc n) f = refl
 
   pub early : (t : ℤ) → lt_z t (negsuc 9222425352054775806 +ℤ pos half) ≡ true
       → (fits64 (t -ℤ epoch2000) && ltb (nat_abs (t -ℤ epoch2000) + half) (2 ^ 63)) ≡ false
-  early t l = too-low (t -ℤ epoch2000) (sym (from-2000 t) ∙ l)
+  early t l = too_low (t -ℤ epoch2000) (sym (from_2000 t) ∙ l)
 
   -- the count of an instant from 2000, and what is asked of it
   pub counted : (t : ℤ) → SFits w64 t → lt_z t (negsuc 9222425352054775806 +ℤ pos half) ≡ false
       → (mag (t -ℤ epoch2000) < 2 ^ 63) × (nat_abs (t -ℤ epoch2000) + half < 2 ^ 63)
   counted t f l =
-      fitting (t -ℤ epoch2000) (sym (below-sum t (neg_ℤ epoch2000) (pos 9222425352054775807)) ∙ not-past t f) (sym (from-2000 t) ∙ l)
+      fitting (t -ℤ epoch2000) (sym (below_sum t (neg_ℤ epoch2000) (pos 9222425352054775807)) ∙ not_past t f) (sym (from_2000 t) ∙ l)
 
 -- one to five digits
 pub record Digits (p : ℤ) : Type 0 where

@@ -1,7 +1,7 @@
 -- The instant and the day of a moment's parts, counted from 1970 as to_timestamp and to_date count them.
 use Rattle.std.specs.Prelude.{◌≡◌, refl, Bool, true, false, not, ◌&&◌, ◌||◌, ℕ, ◌+◌, ◌-◌, ◌*◌, ◌/◌, ◌^◌, ltb, eqb, ℤ, pos, negsuc, nat_abs, neg_ℤ, ◌+ℤ◌, ◌-ℤ◌, ◌*ℤ◌}
 use Rattle.std.specs.Int.Signed.{lt_z, mag}
-use Rattle.calendar_gregorian.specs.Civil.{civil-computes, days_from_civil}
+use Rattle.calendar_gregorian.specs.Civil.{civil_computes, days_from_civil}
 use Rattle.base_notation.specs.Choice.{when◌then◌else◌}
 use Rattle.moment_date.specs.Dates.{all_bits}
 use Rattle.moment_time.specs.declared.Offset.{Offset}
@@ -91,5 +91,5 @@ pub worked
     : (instant_of (parts (pos 2000) 1 1 0 0 (East (pos 3600))) ≡ Micros (pos 946681200000000))
     × (instant_of (parts (pos 2000) 1 1 50000 1 Absent) ≡ Micros (pos 946684800100000))
     × (instant_of (parts (pos 1999) 12 31 50000 1 Absent) ≡ Micros (pos 946598400000000))
-unfolding instant_of wall_of seconds_of less_offset rounded_to civil-computes
+unfolding instant_of wall_of seconds_of less_offset rounded_to civil_computes
 worked = (refl, refl, refl)

@@ -1,5 +1,5 @@
 -- The moment of plain fields in range. From the definitions alone; assumes nothing.
--- `plain-moment`: it is that of year, month, day, hour, minute, second and microsecond as they were read, with the first
+-- `plain_moment`: it is that of year, month, day, hour, minute, second and microsecond as they were read, with the first
 -- of the year or the month where a month or a day is absent, without an offset; the strict switch does not change it.
 use mathlib.Core.Path.{◌≡◌, refl, sym, ◌∙◌, ap}
 use mathlib.Core.Bool.{Bool, true, false, not, ◌&&◌, false≢true}
@@ -15,7 +15,7 @@ use mir.Syntax.{w32}
 use Rattle.calendar_gregorian.specs.Civil.{length_of, month_of}
 use Rattle.calendar_gregorian.specs.Gregorian.{is_leap}
 use Rattle.calendar_gregorian.proofs.Dates.{each}
-use Rattle.calendar_gregorian.proofs.Months.{of-twelve}
+use Rattle.calendar_gregorian.proofs.Months.{of_twelve}
 use Rattle.base_notation.specs.Choice.{when◌then◌else◌}
 use Rattle.base_notation.proofs.Cases.{both}
 use Rattle.base_wrapping.specs.Wrap.{wrap32, ◌⊕◌}
@@ -39,51 +39,51 @@ use Rattle.moment_parts.proofs.Absent.{zero_is, zeros}
 
 -- the fields of other steps are 0
 record Plain (f : Fields) : Type 0 where
-  j-is : get f j ≡ pos 0
-  ww-is : get f ww ≡ pos 0
-  w-is : get f w ≡ pos 0
-  ddd-is : get f ddd ≡ pos 0
-  cc-is : get f cc ≡ pos 0
-  bc-is : get f bc ≡ pos 0
-  clock-is : get f clock ≡ pos 0
-  ssss-is : get f ssss ≡ pos 0
-  ms-is : get f ms ≡ pos 0
-  tzsign-is : get f tzsign ≡ pos 0
+  j_is : get f j ≡ pos 0
+  ww_is : get f ww ≡ pos 0
+  w_is : get f w ≡ pos 0
+  ddd_is : get f ddd ≡ pos 0
+  cc_is : get f cc ≡ pos 0
+  bc_is : get f bc ≡ pos 0
+  clock_is : get f clock ≡ pos 0
+  ssss_is : get f ssss ≡ pos 0
+  ms_is : get f ms ≡ pos 0
+  tzsign_is : get f tzsign ≡ pos 0
 
 plain : (f : Fields) → is_plain f ≡ true → Plain f
 unfolding is_plain
 plain f e =
     let z = zeros f (j ∷ ww ∷ w ∷ ddd ∷ cc ∷ bc ∷ clock ∷ ssss ∷ ms ∷ tzsign ∷ []) e in
     record {
-      j-is = z.0;
-      ww-is = z.1.0;
-      w-is = z.1.1.0;
-      ddd-is = z.1.1.1.0;
-      cc-is = z.1.1.1.1.0;
-      bc-is = z.1.1.1.1.1.0;
-      clock-is = z.1.1.1.1.1.1.0;
-      ssss-is = z.1.1.1.1.1.1.1.0;
-      ms-is = z.1.1.1.1.1.1.1.1.0;
-      tzsign-is = z.1.1.1.1.1.1.1.1.1.0;
+      j_is = z.0;
+      ww_is = z.1.0;
+      w_is = z.1.1.0;
+      ddd_is = z.1.1.1.0;
+      cc_is = z.1.1.1.1.0;
+      bc_is = z.1.1.1.1.1.0;
+      clock_is = z.1.1.1.1.1.1.0;
+      ssss_is = z.1.1.1.1.1.1.1.0;
+      ms_is = z.1.1.1.1.1.1.1.1.0;
+      tzsign_is = z.1.1.1.1.1.1.1.1.1.0;
     }
 
 -- a field, or 0 where it is 0
-or-zero : (z : ℤ) → (z or pos 0) ≡ z
-or-zero z = split (is_zero z) refl
+or_zero : (z : ℤ) → (z or pos 0) ≡ z
+or_zero z = split (is_zero z) refl
   where
     split : (b : Bool) → is_zero z ≡ b → (when b then pos 0 else z) ≡ z
     split true e = sym (zero_is z e)
     split false e = refl
 
 -- microseconds in range do not wrap
-small-sum : (n : ℕ) → n ≤ 999999 → (pos 0 ⊕ pos n) ≡ pos n
+small_sum : (n : ℕ) → n ≤ 999999 → (pos 0 ⊕ pos n) ≡ pos n
 unfolding wrap32
-small-sum n h = let same : (0 + n) % 2 ^ 32 ≡ n = omega arith in rw same (to_z_pos w32 {n = n} (omega arith))
+small_sum n h = let same : (0 + n) % 2 ^ 32 ≡ n = omega arith in rw same (to_z_pos w32 {n = n} (omega arith))
 
 -- what is marked with a year is no day without one
-with-year : (m n month day : ℤ) → no_such_day (plain_marks m n) month day ≡ false
+with_year : (m n month day : ℤ) → no_such_day (plain_marks m n) month day ≡ false
 unfolding no_such_day plain_marks
-with-year m n month day = split (is_zero m) (is_zero n)
+with_year m n month day = split (is_zero m) (is_zero n)
   where
     split : (a b : Bool)
         → (eqb (when a then (when b then 1 else 5) else when b then 3 else 7) 6 && lt_z (pos (length_of true month)) day) ≡ false
@@ -103,9 +103,9 @@ above (pos n) e = record { at = n; is = refl; from = ltb-false n 1 (failed _ e) 
 above (negsuc n) e = absurd (false≢true e)
 
 -- microseconds that are in range with their time
-in-second : (f : Fields) → time_in_range (get f hh) (get f mi) (get f ss) (get f us) ≡ true → Within 0 999999 (get f us)
+in_second : (f : Fields) → time_in_range (get f hh) (get f mi) (get f ss) (get f us) ≡ true → Within 0 999999 (get f us)
 unfolding time_in_range
-in-second f e = from_zero (get f us) (both (below (get f hh) 24 && below (get f mi) 60 && below (get f ss) 60) (below (get f us) 1000000) e).1
+in_second f e = from_zero (get f us) (both (below (get f hh) 24 && below (get f mi) 60 && below (get f ss) 60) (below (get f us) 1000000) e).1
 
 and-false : (b : Bool) → (b && false) ≡ false
 and-false true = refl
@@ -116,49 +116,49 @@ abbrev plain_date : Fields → Days
 plain_date f = days (get f year) (or_first (get f mm)) (or_first (get f dd)) (plain_marks (get f mm) (get f dd)) (get f dd) (get f ddd)
 
 module _ (f : Fields) (p : Plain f) where
-  hour-is : clock_hour f ≡ Is (get f hh)
+  hour_is : clock_hour f ≡ Is (get f hh)
   unfolding clock_hour hour_of
-  hour-is = rw (p.clock-is, p.ssss-is) (ap Is (or-zero (get f hh)))
+  hour_is = rw (p.clock_is, p.ssss_is) (ap Is (or_zero (get f hh)))
 
-  minute-is : minute_of f ≡ get f mi
+  minute_is : minute_of f ≡ get f mi
   unfolding minute_of
-  minute-is = rw p.ssss-is (or-zero (get f mi))
+  minute_is = rw p.ssss_is (or_zero (get f mi))
 
   second_is : second_of f ≡ get f ss
   unfolding second_of
-  second_is = rw p.ssss-is (or-zero (get f ss))
+  second_is = rw p.ssss_is (or_zero (get f ss))
 
-  micros-is : Within 0 999999 (get f us) → micros_of f ≡ Is (get f us)
+  micros_is : Within 0 999999 (get f us) → micros_of f ≡ Is (get f us)
   unfolding micros_of
-  micros-is h = rw (p.ms-is, h.is) (ap Is (small-sum h.at h.to))
+  micros_is h = rw (p.ms_is, h.is) (ap Is (small_sum h.at h.to))
 
-  offset-is : checked_offset f ≡ At Absent
+  offset_is : checked_offset f ≡ At Absent
   unfolding checked_offset offset_in_range offset_of
-  offset-is = rw p.tzsign-is
+  offset_is = rw p.tzsign_is
 
   -- a year above 0
   module _ (y : Above (get f year)) where
-    year-is : year_of f ≡ Is (get f year)
+    year_is : year_of f ≡ Is (get f year)
     unfolding year_of
-    year-is = rw (p.cc-is, p.bc-is, y.is, ne_eqb y.at 0 (λ e. omega (arith, e, y.from)), le-ltb y.at 0 (omega arith))
+    year_is = rw (p.cc_is, p.bc_is, y.is, ne_eqb y.at 0 (λ e. omega (arith, e, y.from)), le-ltb y.at 0 (omega arith))
 
-    not-absent : is_zero (get f year) ≡ false
-    not-absent = rw y.is (ne_eqb y.at 0 (λ e. omega (arith, e, y.from)))
+    not_absent : is_zero (get f year) ≡ false
+    not_absent = rw y.is (ne_eqb y.at 0 (λ e. omega (arith, e, y.from)))
 
-    date-by : (a b : Bool) → is_zero (get f mm) ≡ a → is_zero (get f dd) ≡ b → dated_of f ≡ Date (plain_date f)
+    date_by : (a b : Bool) → is_zero (get f mm) ≡ a → is_zero (get f dd) ≡ b → dated_of f ≡ Date (plain_date f)
     unfolding dated_of begun with_julian with_week with_month_week with_day_of_year or_first plain_marks
-    date-by true true u v = simp (year-is, not-absent, p.j-is, p.ww-is, p.w-is, p.ddd-is, u, v)
-    date-by true false u v = simp (year-is, not-absent, p.j-is, p.ww-is, p.w-is, p.ddd-is, u, v)
-    date-by false true u v = simp (year-is, not-absent, p.j-is, p.ww-is, p.w-is, p.ddd-is, u, v)
-    date-by false false u v = simp (year-is, not-absent, p.j-is, p.ww-is, p.w-is, p.ddd-is, u, v)
+    date_by true true u v = simp (year_is, not_absent, p.j_is, p.ww_is, p.w_is, p.ddd_is, u, v)
+    date_by true false u v = simp (year_is, not_absent, p.j_is, p.ww_is, p.w_is, p.ddd_is, u, v)
+    date_by false true u v = simp (year_is, not_absent, p.j_is, p.ww_is, p.w_is, p.ddd_is, u, v)
+    date_by false false u v = simp (year_is, not_absent, p.j_is, p.ww_is, p.w_is, p.ddd_is, u, v)
 
-    date-is : dated_of f ≡ Date (plain_date f)
-    date-is = date-by (is_zero (get f mm)) (is_zero (get f dd)) refl refl
+    date_is : dated_of f ≡ Date (plain_date f)
+    date_is = date_by (is_zero (get f mm)) (is_zero (get f dd)) refl refl
 
 -- a month from 1 to 12, by its tests; none has more than 31 days
-of-year : (z : ℤ) → 1 ≤ month_of z → month_of z ≤ 12 → (lt_z z (pos 1) ≡ false) × (lt_z (pos 12) z ≡ false)
-of-year (pos m) h l = (le-ltb m 1 h, le-ltb 12 m l)
-of-year (negsuc m) h l = absurd (omega arith)
+of_year : (z : ℤ) → 1 ≤ month_of z → month_of z ≤ 12 → (lt_z z (pos 1) ≡ false) × (lt_z (pos 12) z ≡ false)
+of_year (pos m) h l = (le-ltb m 1 h, le-ltb 12 m l)
+of_year (negsuc m) h l = absurd (omega arith)
 
 most : (in_leap : Bool) (z : ℤ) → 1 ≤ month_of z → month_of z ≤ 12 → length_of in_leap z ≤ 31
 most true (pos m) h l = each (λ m. length_of true (pos m) ≤ 31) 1 11 (omega arith) m h l
@@ -171,38 +171,38 @@ module _ (y m n : ℤ) (has : has_day y m n ≡ true) where
   unfolding has_day
   tests = let two = both (not (lt_z n (pos 1))) _ has in (failed _ two.0, failed _ two.1)
 
-  day-within : Within 1 (length_of (is_leap (nat_abs y)) m) n
-  day-within = within n tests.0 tests.1
+  day_within : Within 1 (length_of (is_leap (nat_abs y)) m) n
+  day_within = within n tests.0 tests.1
 
-  month-within : (1 ≤ month_of m) × (month_of m ≤ 12)
-  month-within = of-twelve (is_leap (nat_abs y)) m (omega (arith, day-within.from, day-within.to))
+  month_within : (1 ≤ month_of m) × (month_of m ≤ 12)
+  month_within = of_twelve (is_leap (nat_abs y)) m (omega (arith, day_within.from, day_within.to))
 
   at_most : lt_z (pos 31) n ≡ false
   at_most =
-      rw day-within.is (le-ltb 31 day-within.at (omega (arith, day-within.to, most (is_leap (nat_abs y)) m month-within.0 month-within.1)))
+      rw day_within.is (le-ltb 31 day_within.at (omega (arith, day_within.to, most (is_leap (nat_abs y)) m month_within.0 month_within.1)))
 
-  in-range : (set : ℕ) (in_month in_year : ℤ) → date_in_range (days y m n set in_month in_year) ≡ true
+  in_range : (set : ℕ) (in_month in_year : ℤ) → date_in_range (days y m n set in_month in_year) ≡ true
   unfolding date_in_range
-  in-range set in_month in_year =
-      let month-tests = of-year m month-within.0 month-within.1 in
-      simp (month-tests.0, month-tests.1, tests.0, tests.1, at_most, and-false)
+  in_range set in_month in_year =
+      let month_tests = of_year m month_within.0 month_within.1 in
+      simp (month_tests.0, month_tests.1, tests.0, tests.1, at_most, and-false)
 
-pub plain-moment : (strict : Bool) (f : Fields) → has_plain_moment f ≡ true → moment_of strict f ≡ Moment (plain_parts f)
+pub plain_moment : (strict : Bool) (f : Fields) → has_plain_moment f ≡ true → moment_of strict f ≡ Moment (plain_parts f)
 unfolding has_plain_moment moment_of checked_moment plain_parts
-plain-moment strict f e =
-    let plain-test = both (is_plain f) _ e in
-    let year-test = both (not (lt_z (get f year) (pos 1))) _ plain-test.1 in
-    let range-tests = both (has_day (get f year) (or_first (get f mm)) (or_first (get f dd))) (time_in_range (get f hh) (get f mi) (get f ss) (get f us)) year-test.1 in
-    let p = plain f plain-test.0 in
+plain_moment strict f e =
+    let plain_test = both (is_plain f) _ e in
+    let year_test = both (not (lt_z (get f year) (pos 1))) _ plain_test.1 in
+    let range_tests = both (has_day (get f year) (or_first (get f mm)) (or_first (get f dd))) (time_in_range (get f hh) (get f mi) (get f ss) (get f us)) year_test.1 in
+    let p = plain f plain_test.0 in
     simp (
-      hour-is f p,
-      date-is f p (above (get f year) year-test.0),
-      micros-is f p (in-second f range-tests.1),
-      minute-is f p,
+      hour_is f p,
+      date_is f p (above (get f year) year_test.0),
+      micros_is f p (in_second f range_tests.1),
+      minute_is f p,
       second_is f p,
-      offset-is f p,
-      in-range _ _ _ range-tests.0 (plain_marks (get f mm) (get f dd)) (get f dd) (get f ddd),
-      range-tests.1,
-      with-year (get f mm) (get f dd) (or_first (get f mm)) (or_first (get f dd)),
+      offset_is f p,
+      in_range _ _ _ range_tests.0 (plain_marks (get f mm) (get f dd)) (get f dd) (get f ddd),
+      range_tests.1,
+      with_year (get f mm) (get f dd) (or_first (get f mm)) (or_first (get f dd)),
       and-false strict,
     )

@@ -1,9 +1,9 @@
 -- Every answer is a moment in range or a refusal by its number. From the definitions alone; assumes nothing.
--- `parts-by-answered`: for any nodes, template and input, of any bytes and length, the answer is a moment in range,
+-- `parts_by_answered`: for any nodes, template and input, of any bytes and length, the answer is a moment in range,
 -- with what its marks say, or a refusal by a number from 1 to 16, or by 25 under the strict switch. `answered`: the
 -- same by a template.
--- `parts-in-range`: so the parts of every moment that is answered are in range.
--- `moment-answered`, `moment-in-range`: the same for any fields whose digits of a fraction are 0 to 6, however they
+-- `parts_in_range`: so the parts of every moment that is answered are in range.
+-- `moment_answered`, `moment_in_range`: the same for any fields whose digits of a fraction are 0 to 6, however they
 -- were read.
 use mathlib.Core.Path.{◌≡◌, refl, subst}
 use mathlib.Core.Bool.{Bool, true, false, not, ◌&&◌, ◌||◌, false≢true}
@@ -17,7 +17,7 @@ use lib.IntN.{ℤ, pos, neg_ℤ, nat_abs}
 use lib.ListN.{length}
 use lib.Signed.{lt_z}
 use Rattle.base_notation.specs.Choice.{when◌then◌else◌}
-use Rattle.base_notation.proofs.Cases.{by-if, both}
+use Rattle.base_notation.proofs.Cases.{by_if, both}
 use Rattle.base_settings.specs.Limits.{template_limit, input_limit}
 use Rattle.base_settings.specs.declared.Settings.{Settings}
 use Rattle.base_refusals.specs.Report.{report_of}
@@ -50,10 +50,10 @@ use Rattle.moment_parts.specs.declared.Parts.{Parts}
 use Rattle.moment_sums.specs.declared.Value.{Value}
 use Rattle.moment_sums.specs.declared.Value.TheVariants.{Is, Not}
 use Rattle.moment_time.specs.declared.Zoned.TheVariants.{At, Refused as NoZone}
-use Rattle.read_input.proofs.Precision.{read-precise}
+use Rattle.read_input.proofs.Precision.{read_precise}
 use Rattle.moment_date.proofs.Marks.{Marked, MarkedDate, marked}
-use Rattle.moment_date.proofs.Never.{has_first, longest, three-bits}
-use Rattle.moment_time.proofs.Offsets.{seconds, east-range, west-range}
+use Rattle.moment_date.proofs.Never.{has_first, longest, three_bits}
+use Rattle.moment_time.proofs.Offsets.{seconds, east_range, west_range}
 use Rattle.moment_sums.proofs.Tests.{failed, passed}
 use Rattle.moment_sums.proofs.Within.{within, from_zero}
 
@@ -82,25 +82,25 @@ unfolding unread_report
 refused strict why = inl (numbered why)
 
 -- an offset in its range is at most 15:59 east or west
-east-within : (f : Fields) → Within 0 15 (get f tzh) → Within 0 59 (get f tzm) → nat_abs (east_of f) ≤ 57540
+east_within : (f : Fields) → Within 0 15 (get f tzh) → Within 0 59 (get f tzm) → nat_abs (east_of f) ≤ 57540
 unfolding east_of
-east-within f h m =
-    by-if (λ z. nat_abs z ≤ 57540) (lt_z (get f tzsign) (pos 0)) (neg_ℤ (seconds (get f tzh) (get f tzm))) (seconds (get f tzh) (get f tzm))
-    (λ e. west-range h m) (λ e. east-range h m)
+east_within f h m =
+    by_if (λ z. nat_abs z ≤ 57540) (lt_z (get f tzsign) (pos 0)) (neg_ℤ (seconds (get f tzh) (get f tzm))) (seconds (get f tzh) (get f tzm))
+    (λ e. west_range h m) (λ e. east_range h m)
 
-offset-within : (f : Fields) → offset_in_range f ≡ true → OffsetWithin (offset_of f)
+offset_within : (f : Fields) → offset_in_range f ≡ true → OffsetWithin (offset_of f)
 unfolding offset_in_range offset_of
-offset-within f e = split (is_zero (get f tzsign)) e
+offset_within f e = split (is_zero (get f tzsign)) e
   where
     split : (b : Bool) → (b || below (get f tzh) 16 && below (get f tzm) 60) ≡ true → OffsetWithin (when b then Absent else East (east_of f))
     split true e = tt
     split false e =
         let tests = both (below (get f tzh) 16) (below (get f tzm) 60) e in
-        east-within f (from_zero (get f tzh) tests.0) (from_zero (get f tzm) tests.1)
+        east_within f (from_zero (get f tzh) tests.0) (from_zero (get f tzm) tests.1)
 
 -- a month or day: outside its range it is not set, and so 1
-part-within : (set bit high : ℕ) (z : ℤ) → 1 ≤ high → (is_set bit set ≡ false → z ≡ pos 1) → part_in_range set bit z (pos high) ≡ true → Within 1 high z
-part-within set bit high z h unset e = split (is_set bit set) refl (lt_z z (pos 1)) refl (lt_z (pos high) z) refl
+part_within : (set bit high : ℕ) (z : ℤ) → 1 ≤ high → (is_set bit set ≡ false → z ≡ pos 1) → part_in_range set bit z (pos high) ≡ true → Within 1 high z
+part_within set bit high z h unset e = split (is_set bit set) refl (lt_z z (pos 1)) refl (lt_z (pos high) z) refl
   where
     split : (b : Bool) → is_set bit set ≡ b → (l : Bool) → lt_z z (pos 1) ≡ l → (u : Bool) → lt_z (pos high) z ≡ u → Within 1 high z
     split false p l q u r = record { at = 1; is = unset p; from = omega arith; to = h }
@@ -109,17 +109,17 @@ part-within set bit high z h unset e = split (is_set bit set) refl (lt_z z (pos 
     split true p false q true r = absurd (false≢true (rw (p, q, r) at e))
 
 -- a day that is at least 1, in a month that has it
-in-month : (r : Days) {high : ℕ} → Within 1 high r.day → day_in_month r ≡ true → r.set ≡ all_bits
+in_month : (r : Days) {high : ℕ} → Within 1 high r.day → day_in_month r ≡ true → r.set ≡ all_bits
     → Within 1 (length_of (is_leap (nat_abs r.year)) r.month) r.day
-in-month r w e m =
+in_month r w e m =
     within r.day (rw w.is (le-ltb w.at 1 w.from))
     (failed (lt_z (pos (length_of (is_leap (nat_abs r.year)) r.month)) r.day) (rw (eq-eqb r.set all_bits m) at e))
 
 -- a date in its ranges, whose month has the day where year, month and day are all marked
 module _ (r : Days) (marks : Marked r) (month : Within 1 12 r.month) (day : Within 1 31 r.day)
     (whole : r.set ≡ all_bits → Within 1 (length_of (is_leap (nat_abs r.year)) r.month) r.day) where
-  year-marked : (r.year ≡ pos 0 → ⊥) → is_set year_bit r.set ≡ true
-  year-marked year = not-false _ (split (is_set year_bit r.set) refl)
+  year_marked : (r.year ≡ pos 0 → ⊥) → is_set year_bit r.set ≡ true
+  year_marked year = not-false _ (split (is_set year_bit r.set) refl)
     where
       split : (b : Bool) → is_set year_bit r.set ≡ b → not b ≡ false
       split true e = refl
@@ -129,14 +129,14 @@ module _ (r : Days) (marks : Marked r) (month : Within 1 12 r.month) (day : With
   dated : (r.year ≡ pos 0 → ⊥) → Within 1 (length_of (is_leap (nat_abs r.year)) r.month) r.day
   dated year =
       has_first (is_leap (nat_abs r.year)) r marks month day
-      (λ m d. whole (rw (year-marked year, m, d) at (three-bits r.set marks.mask)))
+      (λ m d. whole (rw (year_marked year, m, d) at (three_bits r.set marks.mask)))
 
   -- and where it is not one that its month never has, it is one of a leap year
   possible : no_such_day r.set r.month r.day ≡ false → Within 1 (length_of true r.month) r.day
   unfolding no_such_day
   possible e =
       has_first true r marks month day
-      (λ m d. split (is_set year_bit r.set) (rw (m, d) at (three-bits r.set marks.mask)) refl)
+      (λ m d. split (is_set year_bit r.set) (rw (m, d) at (three_bits r.set marks.mask)) refl)
     where
       split : (y : Bool) → r.set ≡ (when is_set year_bit r.set then 1 else 0) + 2 + 4 → is_set year_bit r.set ≡ y → Within 1 (length_of true r.month) r.day
       split true is y =
@@ -151,92 +151,92 @@ second a b e p = rw p at e
 
 -- what the checks leave is in range
 module _ (strict : Bool) (f : Fields) (few : Within 0 6 (get f ff)) (r : Days) (hour us : ℤ) (m : Marked r) where
-  in-range-of : date_in_range r ≡ true → (strict && no_such_day r.set r.month r.day) ≡ false
+  in_range_of : date_in_range r ≡ true → (strict && no_such_day r.set r.month r.day) ≡ false
       → time_in_range hour (minute_of f) (second_of f) us ≡ true → offset_in_range f ≡ true
       → Answered strict (with_offset f r hour us (At (offset_of f)))
   unfolding date_in_range time_in_range
-  in-range-of d n t o =
-      let month-test = both (part_in_range r.set month_bit r.month (pos 12)) _ d in
-      let day-test = both (part_in_range r.set day_bit r.day (pos 31)) _ month-test.1 in
-      let micros-test = both (below hour 24 && below (minute_of f) 60 && below (second_of f) 60) (below us 1000000) t in
-      let second-test = both (below hour 24 && below (minute_of f) 60) (below (second_of f) 60) micros-test.0 in
-      let hour-minute = both (below hour 24) (below (minute_of f) 60) second-test.0 in
-      let day = part-within r.set day_bit 31 r.day (omega arith) m.day day-test.0 in
-      let month = part-within r.set month_bit 12 r.month (omega arith) m.month month-test.0 in
-      let whole = in-month r day day-test.1 in
+  in_range_of d n t o =
+      let month_test = both (part_in_range r.set month_bit r.month (pos 12)) _ d in
+      let day_test = both (part_in_range r.set day_bit r.day (pos 31)) _ month_test.1 in
+      let micros_test = both (below hour 24 && below (minute_of f) 60 && below (second_of f) 60) (below us 1000000) t in
+      let second_test = both (below hour 24 && below (minute_of f) 60) (below (second_of f) 60) micros_test.0 in
+      let hour_minute = both (below hour 24) (below (minute_of f) 60) second_test.0 in
+      let day = part_within r.set day_bit 31 r.day (omega arith) m.day day_test.0 in
+      let month = part_within r.set month_bit 12 r.month (omega arith) m.month month_test.0 in
+      let whole = in_month r day day_test.1 in
       record {
-        hour = from_zero hour hour-minute.0;
-        minute = from_zero (minute_of f) hour-minute.1;
-        second = from_zero (second_of f) second-test.1;
-        micros = from_zero us micros-test.1;
+        hour = from_zero hour hour_minute.0;
+        minute = from_zero (minute_of f) hour_minute.1;
+        second = from_zero (second_of f) second_test.1;
+        micros = from_zero us micros_test.1;
         precision = few;
         month = month;
         day = day;
-        offset = offset-within f o;
+        offset = offset_within f o;
         marks = m.mask;
-        no-year = m.year;
-        no-month = m.month;
-        no-day = m.day;
-        year = year-marked r m month day whole;
-        in-month = whole;
+        no_year = m.year;
+        no_month = m.month;
+        no_day = m.day;
+        year = year_marked r m month day whole;
+        in_month = whole;
         dated = dated r m month day whole;
         possible = λ on. possible r m month day whole (second strict _ n on);
       }
 
-  checked-answered : Answered strict (checked_moment strict f r hour us)
+  checked_answered : Answered strict (checked_moment strict f r hour us)
   unfolding checked_moment checked_offset unread_report
-  checked-answered =
-      by-if (Answered strict) (not (date_in_range r)) _ _ (λ e. refused strict FieldOverflow)
-      (λ d. by-if (Answered strict) (strict && no_such_day r.set r.month r.day) _ _
+  checked_answered =
+      by_if (Answered strict) (not (date_in_range r)) _ _ (λ e. refused strict FieldOverflow)
+      (λ d. by_if (Answered strict) (strict && no_such_day r.set r.month r.day) _ _
       (λ e. inr (refl, (both strict _ e).0))
-      (λ n. by-if (Answered strict) (not (time_in_range hour (minute_of f) (second_of f) us)) _ _ (λ e. refused strict FieldOverflow)
-      (λ t. by-if (λ z. Answered strict (with_offset f r hour us z)) (offset_in_range f) (At (offset_of f)) (NoZone OffsetRange)
-      (in-range-of (passed _ d) n (passed _ t)) (λ o. refused strict OffsetRange))))
+      (λ n. by_if (Answered strict) (not (time_in_range hour (minute_of f) (second_of f) us)) _ _ (λ e. refused strict FieldOverflow)
+      (λ t. by_if (λ z. Answered strict (with_offset f r hour us z)) (offset_in_range f) (At (offset_of f)) (NoZone OffsetRange)
+      (in_range_of (passed _ d) n (passed _ t)) (λ o. refused strict OffsetRange))))
 
 -- each step of the definition, on what the one before left
 module _ (strict : Bool) (f : Fields) (few : Within 0 6 (get f ff)) where
-  then-moment : (r : Days) (hour : ℤ) (v : Value) → Marked r → Answered strict (then_moment strict f r hour v)
-  then-moment r hour (Not why) m = refused strict why
-  then-moment r hour (Is us) m = checked-answered strict f few r hour us m
+  then_moment_lem : (r : Days) (hour : ℤ) (v : Value) → Marked r → Answered strict (then_moment strict f r hour v)
+  then_moment_lem r hour (Not why) m = refused strict why
+  then_moment_lem r hour (Is us) m = checked_answered strict f few r hour us m
 
-  then-micros : (hour : ℤ) (a : Dated) → MarkedDate a → Answered strict (then_micros strict f hour a)
-  then-micros hour (NoDate why) m = refused strict why
-  then-micros hour (Date r) m = then-moment r hour (micros_of f) m
+  then_micros_lem : (hour : ℤ) (a : Dated) → MarkedDate a → Answered strict (then_micros strict f hour a)
+  then_micros_lem hour (NoDate why) m = refused strict why
+  then_micros_lem hour (Date r) m = then_moment_lem r hour (micros_of f) m
 
-  then-date : (v : Value) → Answered strict (then_date strict f v)
-  then-date (Not why) = refused strict why
-  then-date (Is hour) = then-micros hour (dated_of f) (marked f)
+  then_date_lem : (v : Value) → Answered strict (then_date strict f v)
+  then_date_lem (Not why) = refused strict why
+  then_date_lem (Is hour) = then_micros_lem hour (dated_of f) (marked f)
 
   -- for all fields
-  pub moment-answered : Answered strict (moment_of strict f)
+  pub moment_answered : Answered strict (moment_of strict f)
   unfolding moment_of
-  moment-answered = then-date (clock_hour f)
+  moment_answered = then_date_lem (clock_hour f)
 
-  pub moment-in-range : {p : Parts} → moment_of strict f ≡ Moment p → InRange strict p
-  moment-in-range e = subst (Answered strict) e moment-answered
+  pub moment_in_range : {p : Parts} → moment_of strict f ≡ Moment p → InRange strict p
+  moment_in_range e = subst (Answered strict) e moment_answered
 
-  then-fields : (v : Verdict) → Answered strict (then_fields strict v f)
-  then-fields Read = moment-answered
-  then-fields (Stopped why) = refused strict why
+  then_fields_lem : (v : Verdict) → Answered strict (then_fields strict v f)
+  then_fields_lem Read = moment_answered
+  then_fields_lem (Stopped why) = refused strict why
 
 -- for all nodes, templates and inputs, of any bytes and length
 module _ (strict : Bool) (ns : List Node) (t s : List ℕ) where
   -- an input that is UTF-8
-  fields-answered : Answered strict (then_fields strict (read_all t s ns).verdict (read_all t s ns).fields)
-  fields-answered =
-      let few = read-precise t s ns in
-      then-fields strict (read_all t s ns).fields (record { at = few.at; is = few.is; from = zero-le; to = few.to }) (read_all t s ns).verdict
+  fields_answered : Answered strict (then_fields strict (read_all t s ns).verdict (read_all t s ns).fields)
+  fields_answered =
+      let few = read_precise t s ns in
+      then_fields_lem strict (read_all t s ns).fields (record { at = few.at; is = few.is; from = zero-le; to = few.to }) (read_all t s ns).verdict
 
   -- an input that is not too long
-  read-answered : Answered strict (parts_read strict ns t s)
+  read_answered : Answered strict (parts_read strict ns t s)
   unfolding parts_read
-  read-answered = by-if (Answered strict) (not (well_formed s)) _ _ (λ e. refused strict NotUtf8) (λ e. fields-answered)
+  read_answered = by_if (Answered strict) (not (well_formed s)) _ _ (λ e. refused strict NotUtf8) (λ e. fields_answered)
 
-pub parts-by-answered : (set : Settings) (ns : List Node) (t s : List ℕ) → Answered set.strict (parts_by set ns t s)
+pub parts_by_answered : (set : Settings) (ns : List Node) (t s : List ℕ) → Answered set.strict (parts_by set ns t s)
 unfolding parts_by
-parts-by-answered set ns t s =
-    by-if (Answered set.strict) (ltb (input_limit set) (length s)) _ _ (λ e. refused set.strict TooLong)
-    (λ e. read-answered set.strict ns t s)
+parts_by_answered set ns t s =
+    by_if (Answered set.strict) (ltb (input_limit set) (length s)) _ _ (λ e. refused set.strict TooLong)
+    (λ e. read_answered set.strict ns t s)
 
 -- by a template
 module _ (set : Settings) (t s : List ℕ) where
@@ -244,8 +244,8 @@ module _ (set : Settings) (t s : List ℕ) where
   unfolding parts_of
   answered =
       let P = Answered set.strict in
-      by-if P (ltb (template_limit set) (length t) || ltb (input_limit set) (length s)) _ _ (λ e. refused set.strict TooLong)
-      (λ e. by-if P (not (well_formed t)) _ _ (λ e. refused set.strict NotUtf8) (λ e. read-answered set.strict (nodes_by set.accents t) t s))
+      by_if P (ltb (template_limit set) (length t) || ltb (input_limit set) (length s)) _ _ (λ e. refused set.strict TooLong)
+      (λ e. by_if P (not (well_formed t)) _ _ (λ e. refused set.strict NotUtf8) (λ e. read_answered set.strict (nodes_by set.accents t) t s))
 
-  pub parts-in-range : {p : Parts} → parts_of set t s ≡ Moment p → InRange set.strict p
-  parts-in-range e = subst (Answered set.strict) e answered
+  pub parts_in_range : {p : Parts} → parts_of set t s ≡ Moment p → InRange set.strict p
+  parts_in_range e = subst (Answered set.strict) e answered

@@ -1,5 +1,5 @@
 -- What the strict switch changes. Assumes nothing.
--- `strict-alone`: under it a moment whose month never has its day is refused, and nothing else changes, but that this
+-- `strict_alone`: under it a moment whose month never has its day is refused, and nothing else changes, but that this
 -- refusal comes before those of the time and of the offset.
 use mathlib.Core.Path.{◌≡◌, refl}
 use mathlib.Core.Bool.{Bool, true, false, not, ◌||◌}
@@ -10,7 +10,7 @@ use lib.Dec.{ltb}
 use lib.IntN.{ℤ}
 use lib.ListN.{length}
 use Rattle.base_notation.specs.Choice.{when◌then◌else◌}
-use Rattle.base_settings.specs.Limits.{input_limit, limits-compute, template_limit}
+use Rattle.base_settings.specs.Limits.{input_limit, limits_compute, template_limit}
 use Rattle.base_settings.specs.Strict.{with_strict}
 use Rattle.base_settings.specs.declared.Settings.{Settings}
 use Rattle.base_refusals.specs.declared.Refusal.{Refusal}
@@ -55,22 +55,22 @@ checked f r hour us =
     split true false true true ed en et eo = rw (ed, en, et, eo) (rw en refl)
 
 -- what comes before them is the same in both
-then-moment : (f : Fields) (r : Days) (hour : ℤ) (v : Value) → Strictly (then_moment false f r hour v) (then_moment true f r hour v)
-then-moment f r hour (Not why) = stays why
-then-moment f r hour (Is us) = checked f r hour us
+then_moment_lem : (f : Fields) (r : Days) (hour : ℤ) (v : Value) → Strictly (then_moment false f r hour v) (then_moment true f r hour v)
+then_moment_lem f r hour (Not why) = stays why
+then_moment_lem f r hour (Is us) = checked f r hour us
 
-then-micros : (f : Fields) (hour : ℤ) (a : Dated) → Strictly (then_micros false f hour a) (then_micros true f hour a)
-then-micros f hour (NoDate why) = stays why
-then-micros f hour (Date r) = then-moment f r hour (micros_of f)
+then_micros_lem : (f : Fields) (hour : ℤ) (a : Dated) → Strictly (then_micros false f hour a) (then_micros true f hour a)
+then_micros_lem f hour (NoDate why) = stays why
+then_micros_lem f hour (Date r) = then_moment_lem f r hour (micros_of f)
 
-then-date : (f : Fields) (v : Value) → Strictly (then_date false f v) (then_date true f v)
-then-date f (Not why) = stays why
-then-date f (Is hour) = then-micros f hour (dated_of f)
+then_date_lem : (f : Fields) (v : Value) → Strictly (then_date false f v) (then_date true f v)
+then_date_lem f (Not why) = stays why
+then_date_lem f (Is hour) = then_micros_lem f hour (dated_of f)
 
-then-fields : (v : Verdict) (f : Fields) → Strictly (then_fields false v f) (then_fields true v f)
+then_fields_lem : (v : Verdict) (f : Fields) → Strictly (then_fields false v f) (then_fields true v f)
 unfolding moment_of
-then-fields Read f = then-date f (clock_hour f)
-then-fields (Stopped why) f = stays why
+then_fields_lem Read f = then_date_lem f (clock_hour f)
+then_fields_lem (Stopped why) f = stays why
 
 -- a test that both make
 same_test : (b : Bool) (x y x' y' : Answer) → Strictly x x' → Strictly y y' → Strictly (when b then x else y) (when b then x' else y')
@@ -79,17 +79,17 @@ same_test false x y x' y' h k = k
 
 read : (ns : List Node) (t s : List ℕ) → Strictly (parts_read false ns t s) (parts_read true ns t s)
 unfolding parts_read
-read ns t s = let r = read_all t s ns in same_test (not (well_formed s)) _ _ _ _ (stays NotUtf8) (then-fields r.verdict r.fields)
+read ns t s = let r = read_all t s ns in same_test (not (well_formed s)) _ _ _ _ (stays NotUtf8) (then_fields_lem r.verdict r.fields)
 
-by-nodes : (set : Settings) (ns : List Node) (t s : List ℕ) → Strictly (parts_by (with_strict false set) ns t s) (parts_by (with_strict true set) ns t s)
-unfolding parts_by limits-compute
-by-nodes set ns t s = same_test (ltb (input_limit set) (length s)) _ _ _ _ (stays TooLong) (read ns t s)
+by_nodes : (set : Settings) (ns : List Node) (t s : List ℕ) → Strictly (parts_by (with_strict false set) ns t s) (parts_by (with_strict true set) ns t s)
+unfolding parts_by limits_compute
+by_nodes set ns t s = same_test (ltb (input_limit set) (length s)) _ _ _ _ (stays TooLong) (read ns t s)
 
-by-template : (set : Settings) (t s : List ℕ) → Strictly (parts_of (with_strict false set) t s) (parts_of (with_strict true set) t s)
-unfolding parts_of limits-compute
-by-template set t s =
+by_template : (set : Settings) (t s : List ℕ) → Strictly (parts_of (with_strict false set) t s) (parts_of (with_strict true set) t s)
+unfolding parts_of limits_compute
+by_template set t s =
     same_test (ltb (template_limit set) (length t) || ltb (input_limit set) (length s)) _ _ _ _ (stays TooLong)
     (same_test (not (well_formed t)) _ _ _ _ (stays NotUtf8) (read (nodes_by set.accents t) t s))
 
-pub strict-alone : StrictAlone
-strict-alone = record { parts-by = by-nodes; parts = by-template; longest = longest }
+pub strict_alone : StrictAlone
+strict_alone = record { parts_by_nodes = by_nodes; parts = by_template; longest = longest }

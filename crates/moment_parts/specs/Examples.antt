@@ -2,11 +2,11 @@
 -- users see it: the numbers of a moment, or a refusal's number, the name of its pattern and its two figures.
 use Rattle.std.specs.Prelude.{◌≡◌, refl, true, List, [], ℕ, ℤ, pos, replicate}
 use Prim.Native.String.{String}
-use Rattle.moment_date.specs.Dates.{date-computes}
-use Rattle.moment_time.specs.Time.{time-computes}
-use Rattle.read_input.specs.Examples.{reading-computes}
+use Rattle.moment_date.specs.Dates.{date_computes}
+use Rattle.moment_time.specs.Time.{time_computes}
+use Rattle.read_input.specs.Examples.{reading_computes}
 use Rattle.base_notation.specs.Text.{utf8}
-use Rattle.base_settings.specs.Limits.{cards, limits-compute, pages}
+use Rattle.base_settings.specs.Limits.{cards, limits_compute, pages}
 use Rattle.base_settings.specs.Strict.{with_strict}
 use Rattle.base_refusals.specs.Report.{report_of}
 use Rattle.base_refusals.specs.declared.Refusal.TheVariants.{NotUtf8, TooLong}
@@ -75,12 +75,12 @@ Table =
     × (reads "\"ngày\"DD" "ngày05" ≡ refusal 7 "DD" 0 0)
 
 -- unfolds all that the answer to a pair is computed by
-unfoldable pub parts-compute : ℕ
-unfolding parts_of parts_read limits-compute moment_of checked_moment unread_report report_of pattern_name well_formed_after sequence reading-computes time-computes date-computes
-parts-compute = 0
+unfoldable pub parts_compute : ℕ
+unfolding parts_of parts_read limits_compute moment_of checked_moment unread_report report_of pattern_name well_formed_after sequence reading_computes time_computes date_computes
+parts_compute = 0
 
 pub table : Table
-unfolding parts-compute
+unfolding parts_compute
 table = (refl, refl, refl, refl, refl, refl, refl, refl, refl, refl, refl, refl, refl, refl, refl, refl, refl, refl)
 
 -- each caller has its own limits, which are tested before UTF-8: 64 and 96 bytes for the flash cards, 256 and 512 for
@@ -90,7 +90,7 @@ pub limited
     × (parts_of cards [] (replicate 96 0xff) ≡ refused_by NotUtf8) × (parts_of cards [] (replicate 97 0xff) ≡ refused_by TooLong)
     × (parts_of pages (replicate 256 0xff) [] ≡ refused_by NotUtf8) × (parts_of pages (replicate 257 0xff) [] ≡ refused_by TooLong)
     × (parts_of pages [] (replicate 512 0xff) ≡ refused_by NotUtf8) × (parts_of pages [] (replicate 513 0xff) ≡ refused_by TooLong)
-unfolding parts_of parts_read limits-compute well_formed_after sequence
+unfolding parts_of parts_read limits_compute well_formed_after sequence
 limited = (refl, refl, refl, refl, refl, refl, refl, refl)
 
 -- what they see under the strict switch
@@ -99,20 +99,20 @@ strictly t s = shown (parts_of (with_strict true pages) (utf8 t) (utf8 s))
 
 -- a day that its month never has is refused by 25, February 29 is not; a year that is read as 0 is not set, and with
 -- any other year it is 15. Before 25 come the ranges of month and day, after it those of the time and of the offset
-pub without-year
+pub without_year
     : (strictly "MM-DD" "02-30" ≡ refusal 25 "-" 0 0) × (strictly "MM-DD" "04-31" ≡ refusal 25 "-" 0 0)
     × (strictly "MM-DD" "02-29" ≡ date 0 2 29 6) × (strictly "DD" "31" ≡ date 0 1 31 4)
     × (strictly "YYYY-MM-DD" "0000-02-30" ≡ refusal 25 "-" 0 0) × (strictly "YYYY-MM-DD" "2023-02-30" ≡ refusal 15 "-" 0 0)
     × (strictly "MM-DD" "13-30" ≡ refusal 15 "-" 0 0) × (strictly "MM-DD" "02-32" ≡ refusal 15 "-" 0 0)
     × (strictly "MM-DD HH24" "02-30 24" ≡ refusal 25 "-" 0 0) × (reads "MM-DD HH24" "02-30 24" ≡ refusal 15 "-" 0 0)
     × (strictly "MM-DD OF" "02-30 +16" ≡ refusal 25 "-" 0 0) × (reads "MM-DD OF" "02-30 +16" ≡ refusal 16 "-" 0 0)
-unfolding parts-compute
-without-year = (refl, refl, refl, refl, refl, refl, refl, refl, refl, refl, refl, refl)
+unfolding parts_compute
+without_year = (refl, refl, refl, refl, refl, refl, refl, refl, refl, refl, refl, refl)
 
 -- other patterns set marks too: a Julian day all three, the day of the year month and day (here in the year 0, with
 -- BC), a century the year. Without a year, day 30 of the year in February is day 30 of February
 pub marked
     : (reads "J" "2460370" ≡ date 2024 2 29 7) × (reads "DDD BC" "366 BC" ≡ date 0 12 31 6) × (reads "CC" "21" ≡ date 2001 1 1 1)
     × (reads "MM DDD BC" "02 030 BC" ≡ date 0 2 30 6) × (strictly "MM DDD BC" "02 030 BC" ≡ refusal 25 "-" 0 0)
-unfolding parts-compute
+unfolding parts_compute
 marked = (refl, refl, refl, refl, refl)

@@ -6,7 +6,7 @@ use Rattle.base_notation.specs.Text.{utf8}
 use Rattle.base_refusals.specs.Report.{no_pattern, report_of}
 use Rattle.base_refusals.specs.declared.Refusal.TheVariants.{NoYear, Short}
 use Rattle.template_patterns.specs.Patterns.{name_of}
-use Rattle.template_nodes.specs.Examples.{nodes-compute}
+use Rattle.template_nodes.specs.Examples.{nodes_compute}
 use Rattle.template_nodes.specs.Template.{action, nodes_of}
 use Rattle.template_nodes.specs.declared.Node.{Node}
 use Rattle.moment_parts.specs.declared.Answer.{Answer}
@@ -40,10 +40,10 @@ NamesOwn ns (Refused why) = NamedBy ns why
 -- by the template -DD a day that is too short names DD, the second node; a missing year and a day that its month never
 -- has name none
 pub worked : NamedBy (nodes_of (utf8 "-DD")) (By (Short 9 2 1)) × NamedBy (nodes_of (utf8 "-DD")) (By NoYear) × NamedBy (nodes_of (utf8 "-DD")) NoSuchDay
-unfolding unread_report report_of nodes-compute
+unfolding unread_report report_of nodes_compute
 worked = (inr (inr (inl (refl, refl))), inl refl, inl refl)
 
 -- DD is no pattern of DDD; a literal has the number 0 and is no pattern
 pub others : (PatternIn (nodes_of (utf8 "DDD")) 9 → ⊥) × (PatternIn (nodes_of (utf8 "-")) 0 → ⊥)
-unfolding nodes-compute
+unfolding nodes_compute
 others = (⊎_elim (λ h. omega (arith, h.1)) (λ h. h), ⊎_elim (λ h. omega (arith, h.0)) (λ h. h))

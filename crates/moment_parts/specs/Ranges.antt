@@ -40,11 +40,11 @@ pub record InRange (strict : Bool) (p : Parts) : Type 0 where
   pub day : Within 1 31 p.day
   pub offset : OffsetWithin p.offset
   pub marks : p.marks < 8
-  pub no-year : is_set year_bit p.marks ≡ false → p.year ≡ pos 0
-  pub no-month : is_set month_bit p.marks ≡ false → p.month ≡ pos 1
-  pub no-day : is_set day_bit p.marks ≡ false → p.day ≡ pos 1
+  pub no_year : is_set year_bit p.marks ≡ false → p.year ≡ pos 0
+  pub no_month : is_set month_bit p.marks ≡ false → p.month ≡ pos 1
+  pub no_day : is_set day_bit p.marks ≡ false → p.day ≡ pos 1
   pub year : (p.year ≡ pos 0 → ⊥) → is_set year_bit p.marks ≡ true
-  pub in-month : p.marks ≡ all_bits → HasDay p
+  pub in_month : p.marks ≡ all_bits → HasDay p
   pub dated : (p.year ≡ pos 0 → ⊥) → HasDay p
   pub possible : strict ≡ true → CanHaveDay p
 
@@ -67,8 +67,8 @@ midnight y m d marks =
     record { year = pos y; month = pos m; day = pos d; hour = pos 0; minute = pos 0; second = pos 0; micros = pos 0; precision = pos 0; offset = Absent; marks = marks }
 
 -- February can have a 29th, and has none in 2023
-pub some-year : CanHaveDay (midnight 2023 2 29 7) × (HasDay (midnight 2023 2 29 7) → ⊥)
-some-year = (
+pub some_year : CanHaveDay (midnight 2023 2 29 7) × (HasDay (midnight 2023 2 29 7) → ⊥)
+some_year = (
   record { at = 29; is = refl; from = omega arith; to = omega arith },
   λ h. let same : ◌≡◌ {A = ℕ} 29 h.at = ap nat_abs h.is in omega (arith, h.to),
 )

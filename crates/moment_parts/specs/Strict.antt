@@ -29,6 +29,6 @@ worked = (refl, refl, refl)
 
 -- so it is by any nodes and by a template, for every caller; and no year gives a month more days than a leap year does
 pub record StrictAlone : Type 0 where
-  pub parts-by : (set : Settings) (ns : List Node) (t s : List ℕ) → Strictly (parts_by (with_strict false set) ns t s) (parts_by (with_strict true set) ns t s)
+  pub parts_by_nodes : (set : Settings) (ns : List Node) (t s : List ℕ) → Strictly (parts_by (with_strict false set) ns t s) (parts_by (with_strict true set) ns t s)
   pub parts : (set : Settings) (t s : List ℕ) → Strictly (parts_of (with_strict false set) t s) (parts_of (with_strict true set) t s)
   pub longest : (in_leap : Bool) (m : ℤ) → length_of in_leap m ≤ length_of true m

@@ -14,7 +14,7 @@ use denote.Laws.{Is}
 use denote.Signed.{SInt}
 use denote.Shadow.{shadow}
 use denote.Struct.Declared.{row}
-use Rattle.read_fields.specs.contracts.Fields.{the_type as fields-type}
+use Rattle.read_fields.specs.contracts.Fields.{the_type as fields_type}
 use Rattle.read_fields.specs.Fields.{get}
 use Rattle.read_fields.specs.declared.Fields.{Fields}
 use Rattle.base_wrapping.proofs.Fits.{read}
@@ -31,7 +31,7 @@ pub record Known (f : Fields) : Type 0 where
   pub fits : (k : ℕ) → SFits w32 (get f k)
   pub back : (k : ℕ) → read (get f k) ≡ get f k
 
-pub known : (f : Fields) (vs : List Val) → Is (row fields-type) f vs → Known f
+pub known : (f : Fields) (vs : List Val) → Is (row fields_type) f vs → Known f
 known f vs held = record { fits = fits; back = λ k. to_z-of_z (fits k) }
   where
     fits : (k : ℕ) → SFits w32 (get f k)

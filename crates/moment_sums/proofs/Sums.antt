@@ -14,28 +14,28 @@ use mir.Syntax.{w32}
 use mir.Val.{SFits}
 use Rattle.read_integers.specs.Number.{fits32}
 use Rattle.base_wrapping.proofs.Small.{sub-pos}
-use Rattle.moment_sums.proofs.Fits.{mixed-fits}
+use Rattle.moment_sums.proofs.Fits.{mixed_fits}
 
 pub fits : {z : ℤ} → SFits w32 z → fits32 z ≡ true
 fits {z} f = lt-ltb (mag z) (2 ^ 31) (omega arith)
 
 -- a limit, whether a is past it, and the sum with a: past the limit the sum does not fit, up to it the sum fits
 pub record Limit (past : Bool) (limit sum : ℤ) : Type 0 where
-  pub limit-fits : SFits w32 limit
+  pub limit_fits : SFits w32 limit
   pub refused : past ≡ true → fits32 sum ≡ false
   pub taken : past ≡ false → SFits w32 sum
 
 -- b is added, and is not negative
 upper : (a : ℤ) (b : ℕ) → SFits w32 a → b < 2 ^ 31 → let limit = pos (2147483647 - b) in Limit (lt_z limit a) limit (a +ℤ pos b)
 upper (pos a) b f h = record {
-  limit-fits = omega arith;
+  limit_fits = omega arith;
   refused = λ e. le-ltb (a + b) (2 ^ 31) (let l : 2147483647 - b < a = ltb-true (2147483647 - b) a e in omega arith);
   taken = λ e. let l : a ≤ 2147483647 - b = ltb-false (2147483647 - b) a e in omega arith;
 }
 upper (negsuc a) b f h = record {
-  limit-fits = omega arith;
+  limit_fits = omega arith;
   refused = λ e. absurd (false≢true e);
-  taken = λ e. mixed-fits b a h (omega arith);
+  taken = λ e. mixed_fits b a h (omega arith);
 }
 
 -- the largest number less b, which is not negative
@@ -52,22 +52,22 @@ lower a b f h = by a f (ltb (suc b) 2147483648) refl
     by : (a : ℤ) → SFits w32 a → (t : Bool) → ltb (suc b) 2147483648 ≡ t
         → let limit = cond t (negsuc (2147483648 - suc (suc b))) (pos (suc b - 2147483648)) in Limit (lt_z a limit) limit (a +ℤ negsuc b)
     by (pos a) f true e = record {
-      limit-fits = omega arith;
+      limit_fits = omega arith;
       refused = λ p. absurd (false≢true p);
-      taken = λ p. mixed-fits a b (omega arith) h;
+      taken = λ p. mixed_fits a b (omega arith) h;
     }
     by (pos a) f false e = record {
-      limit-fits = omega arith;
+      limit_fits = omega arith;
       refused = λ p. absurd (let l : a < suc b - 2147483648 = ltb-true a (suc b - 2147483648) p in omega arith);
-      taken = λ p. mixed-fits a b (omega arith) h;
+      taken = λ p. mixed_fits a b (omega arith) h;
     }
     by (negsuc a) f true e = record {
-      limit-fits = omega arith;
+      limit_fits = omega arith;
       refused = λ p. le-ltb (suc (a + b)) (2 ^ 31) (let l : 2147483648 - suc (suc b) < a = ltb-true (2147483648 - suc (suc b)) a p in omega (arith, ltb-true (suc b) 2147483648 e));
       taken = λ p. let l : a ≤ 2147483648 - suc (suc b) = ltb-false (2147483648 - suc (suc b)) a p in omega (arith, ltb-true (suc b) 2147483648 e);
     }
     by (negsuc a) f false e = record {
-      limit-fits = omega arith;
+      limit_fits = omega arith;
       refused = λ p. le-ltb (suc (a + b)) (2 ^ 31) (omega (arith, ltb-false (suc b) 2147483648 e));
       taken = λ p. absurd (false≢true (sym p));
     }

@@ -2,7 +2,7 @@
 -- `within`: a number not below the one end and not above the other is in the range.
 -- `from_zero`: a number that is `below` n + 1 lies from 0 to n.
 -- `unsigned`: a number that is not negative can be cast to an unsigned one, and is then compared by its size.
--- `not-above`: the code's `≤` is the definition's "not above".
+-- `not_above`: the code's `≤` is the definition's "not above".
 use mathlib.Core.Path.{◌≡◌, refl, sym}
 use mathlib.Core.Bool.{Bool, true, false, not, ◌&&◌, false≢true}
 use Prim.Native.Nat.{ℕ, suc, ◌≤◌, ◌<◌, zero-le}
@@ -36,8 +36,8 @@ le_is a b = by (ltb b a) refl
     by true e = lt-leb a b (ltb-true b a e)
     by false e = le-leb a b (ltb-false b a e)
 
-pub not-above : (z limit : ℤ) → le_z z limit ≡ not (lt_z limit z)
-not-above (pos a) (pos b) = le_is a b
-not-above (pos a) (negsuc b) = refl
-not-above (negsuc a) (pos b) = refl
-not-above (negsuc a) (negsuc b) = le_is b a
+pub not_above : (z limit : ℤ) → le_z z limit ≡ not (lt_z limit z)
+not_above (pos a) (pos b) = le_is a b
+not_above (pos a) (negsuc b) = refl
+not_above (negsuc a) (pos b) = refl
+not_above (negsuc a) (negsuc b) = le_is b a

@@ -1,16 +1,16 @@
 -- Hours and minutes of an offset, joined. Assumes nothing.
 -- Of 0 to 15 hours and 0 to 59 minutes:
--- `hours-fit`, `minutes-fit`, `seconds-fit`: the products and the sum fit an i32; `neg-minutes-fit`, `neg-seconds-fit`:
+-- `hours_fit`, `minutes_fit`, `seconds_fit`: the products and the sum fit an i32; `neg_minutes_fit`, `neg_seconds_fit`:
 -- so they do with the other sign.
--- `neg-seconds-is`: the seconds of the negated minutes are the negated seconds.
--- `east-range`, `west-range`: the offset is at most 57540 seconds, 15 hours and 59 minutes, with either sign.
+-- `neg_seconds_is`: the seconds of the negated minutes are the negated seconds.
+-- `east_range`, `west_range`: the offset is at most 57540 seconds, 15 hours and 59 minutes, with either sign.
 use mathlib.Core.Path.{◌≡◌, refl}
 use Prim.Native.Nat.{ℕ, zero, suc, ◌+◌, ◌*◌, ◌≤◌}
 use native.Mathlib.Omega.{arith}
 use lib.IntN.{ℤ, pos, neg_ℤ, nat_abs, ◌+ℤ◌, ◌*ℤ◌}
 use mir.Syntax.{w32}
 use mir.Val.{SFits}
-use Rattle.base_notation.proofs.Magnitudes.{neg-mag-le}
+use Rattle.base_notation.proofs.Magnitudes.{neg_mag-le}
 use Rattle.moment_sums.specs.Within.{Within}
 
 -- the offset in minutes and in seconds, without its sign
@@ -21,40 +21,40 @@ abbrev pub seconds : ℤ → ℤ → ℤ
 seconds h m = minutes h m *ℤ pos 60
 
 -- n minutes with the other sign
-neg-seconds : (n : ℕ) → neg_ℤ (pos n) *ℤ pos 60 ≡ neg_ℤ (pos (n * 60))
-neg-seconds zero = refl
-neg-seconds (suc n) = refl
+neg_seconds : (n : ℕ) → neg_ℤ (pos n) *ℤ pos 60 ≡ neg_ℤ (pos (n * 60))
+neg_seconds zero = refl
+neg_seconds (suc n) = refl
 
 -- its magnitude, and that it fits
-neg-abs : (n : ℕ) → nat_abs (neg_ℤ (pos n)) ≡ n
-neg-abs zero = refl
-neg-abs (suc n) = refl
+neg_abs : (n : ℕ) → nat_abs (neg_ℤ (pos n)) ≡ n
+neg_abs zero = refl
+neg_abs (suc n) = refl
 
-neg-fits : (n : ℕ) → n ≤ 57540 → SFits w32 (neg_ℤ (pos n))
-neg-fits n h = omega (arith, neg-mag-le n 57540 (omega arith))
+neg_fits : (n : ℕ) → n ≤ 57540 → SFits w32 (neg_ℤ (pos n))
+neg_fits n h = omega (arith, neg_mag-le n 57540 (omega arith))
 
 -- of 0 to 15 hours and 0 to 59 minutes
 module _ {h m : ℤ} (p : Within 0 15 h) (q : Within 0 59 m) where
-  pub hours-fit : SFits w32 (h *ℤ pos 60)
-  hours-fit = rw p.is (omega arith)
+  pub hours_fit : SFits w32 (h *ℤ pos 60)
+  hours_fit = rw p.is (omega arith)
 
-  pub minutes-fit : SFits w32 (minutes h m)
-  minutes-fit = rw (p.is, q.is) (omega arith)
+  pub minutes_fit : SFits w32 (minutes h m)
+  minutes_fit = rw (p.is, q.is) (omega arith)
 
-  pub seconds-fit : SFits w32 (seconds h m)
-  seconds-fit = rw (p.is, q.is) (omega arith)
+  pub seconds_fit : SFits w32 (seconds h m)
+  seconds_fit = rw (p.is, q.is) (omega arith)
 
-  pub neg-minutes-fit : SFits w32 (neg_ℤ (minutes h m))
-  neg-minutes-fit = rw (p.is, q.is) (neg-fits (p.at * 60 + q.at) (omega arith))
+  pub neg_minutes_fit : SFits w32 (neg_ℤ (minutes h m))
+  neg_minutes_fit = rw (p.is, q.is) (neg_fits (p.at * 60 + q.at) (omega arith))
 
-  pub neg-seconds-fit : SFits w32 (neg_ℤ (seconds h m))
-  neg-seconds-fit = rw (p.is, q.is) (neg-fits ((p.at * 60 + q.at) * 60) (omega arith))
+  pub neg_seconds_fit : SFits w32 (neg_ℤ (seconds h m))
+  neg_seconds_fit = rw (p.is, q.is) (neg_fits ((p.at * 60 + q.at) * 60) (omega arith))
 
-  pub neg-seconds-is : neg_ℤ (minutes h m) *ℤ pos 60 ≡ neg_ℤ (seconds h m)
-  neg-seconds-is = rw (p.is, q.is) (neg-seconds (p.at * 60 + q.at))
+  pub neg_seconds_is : neg_ℤ (minutes h m) *ℤ pos 60 ≡ neg_ℤ (seconds h m)
+  neg_seconds_is = rw (p.is, q.is) (neg_seconds (p.at * 60 + q.at))
 
-  pub east-range : nat_abs (seconds h m) ≤ 57540
-  east-range = rw (p.is, q.is) (omega arith)
+  pub east_range : nat_abs (seconds h m) ≤ 57540
+  east_range = rw (p.is, q.is) (omega arith)
 
-  pub west-range : nat_abs (neg_ℤ (seconds h m)) ≤ 57540
-  west-range = rw (p.is, q.is, neg-abs ((p.at * 60 + q.at) * 60)) (omega arith)
+  pub west_range : nat_abs (neg_ℤ (seconds h m)) ≤ 57540
+  west_range = rw (p.is, q.is, neg_abs ((p.at * 60 + q.at) * 60)) (omega arith)

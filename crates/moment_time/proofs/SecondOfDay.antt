@@ -1,6 +1,6 @@
 -- The second of the day, taken apart into hour, minute and second. Assumes nothing.
--- `by-hour`, `by-minute`: what the two divisions ask, by 3600 and by 60.
--- `hours-back`, `in-hour-back`, `minutes-back`, `seconds-back`: what they give reads back from its bits as itself.
+-- `by_hour`, `by_minute`: what the two divisions ask, by 3600 and by 60.
+-- `hours_back`, `in_hour_back`, `minutes_back`, `seconds_back`: what they give reads back from its bits as itself.
 use mathlib.Core.Path.{◌≡◌}
 use Prim.Native.Nat.{◌<◌}
 use lib.Dec.{lit<}
@@ -12,7 +12,7 @@ use mir.Val.{SFits}
 use Rattle.base_wrapping.proofs.Fits.{read, quot_fits}
 use Rattle.read_fields.specs.Fields.{get, ssss}
 use Rattle.read_fields.specs.declared.Fields.{Fields}
-use Rattle.moment_sums.proofs.Fits.{rem-fits}
+use Rattle.moment_sums.proofs.Fits.{rem_fits}
 use Rattle.moment_sums.proofs.Known.{Known}
 
 module _ {f : Fields} (fields : Known f) where
@@ -23,26 +23,26 @@ module _ {f : Fields} (fields : Known f) where
   abbrev in_hour : ℤ
   in_hour = rem_z second (pos 3600)
 
-  hours-fit : SFits w32 (quot_z second (pos 3600))
-  hours-fit = quot_fits second 3600 (fields.fits ssss)
+  hours_fit : SFits w32 (quot_z second (pos 3600))
+  hours_fit = quot_fits second 3600 (fields.fits ssss)
 
-  in-hour-fits : SFits w32 in_hour
-  in-hour-fits = rem-fits second 3600 (fields.fits ssss)
+  in_hour_fits : SFits w32 in_hour
+  in_hour_fits = rem_fits second 3600 (fields.fits ssss)
 
-  pub hours-back : read (quot_z second (pos 3600)) ≡ quot_z second (pos 3600)
-  hours-back = to_z-of_z hours-fit
+  pub hours_back : read (quot_z second (pos 3600)) ≡ quot_z second (pos 3600)
+  hours_back = to_z-of_z hours_fit
 
-  pub in-hour-back : read in_hour ≡ in_hour
-  in-hour-back = to_z-of_z in-hour-fits
+  pub in_hour_back : read in_hour ≡ in_hour
+  in_hour_back = to_z-of_z in_hour_fits
 
-  pub minutes-back : read (quot_z in_hour (pos 60)) ≡ quot_z in_hour (pos 60)
-  minutes-back = to_z-of_z (quot_fits in_hour 60 in-hour-fits)
+  pub minutes_back : read (quot_z in_hour (pos 60)) ≡ quot_z in_hour (pos 60)
+  minutes_back = to_z-of_z (quot_fits in_hour 60 in_hour_fits)
 
-  pub seconds-back : read (rem_z in_hour (pos 60)) ≡ rem_z in_hour (pos 60)
-  seconds-back = to_z-of_z (rem-fits in_hour 60 in-hour-fits)
+  pub seconds_back : read (rem_z in_hour (pos 60)) ≡ rem_z in_hour (pos 60)
+  seconds_back = to_z-of_z (rem_fits in_hour 60 in_hour_fits)
 
-  pub by-hour : (0 < 3600) × SFits w32 (quot_z (read second) (pos 3600))
-  by-hour = (lit< tt, rw (fields.back ssss) hours-fit)
+  pub by_hour : (0 < 3600) × SFits w32 (quot_z (read second) (pos 3600))
+  by_hour = (lit< tt, rw (fields.back ssss) hours_fit)
 
-  pub by-minute : (0 < 60) × SFits w32 (quot_z (read (rem_z (read second) (pos 3600))) (pos 60))
-  by-minute = (lit< tt, rw (fields.back ssss, in-hour-back) (quot_fits in_hour 60 in-hour-fits))
+  pub by_minute : (0 < 60) × SFits w32 (quot_z (read (rem_z (read second) (pos 3600))) (pos 60))
+  by_minute = (lit< tt, rw (fields.back ssss, in_hour_back) (quot_fits in_hour 60 in_hour_fits))

@@ -1,18 +1,18 @@
 -- An hour, a fraction or an offset that is refused names no pattern. Assumes nothing.
--- `clock-unnamed`, `micros-unnamed`, `offset-unnamed`: where P holds of `no_pattern`, it holds of the pattern that a
+-- `clock_unnamed`, `micros_unnamed`, `offset_unnamed`: where P holds of `no_pattern`, it holds of the pattern that a
 -- refusal names.
 use mathlib.Core.Bool.{not, ◌&&◌, ◌||◌}
 use Prim.Native.Nat.{ℕ}
 use lib.IntN.{ℤ, pos}
 use lib.Signed.{lt_z}
-use Rattle.base_notation.proofs.Cases.{by-if}
+use Rattle.base_notation.proofs.Cases.{by_if}
 use Rattle.base_refusals.specs.Report.{no_pattern, report_of}
 use Rattle.read_fields.specs.Fields.{get, is_zero, eq_ℤ, pm, ms, us, clock}
 use Rattle.read_fields.specs.declared.Fields.{Fields}
 use Rattle.moment_sums.specs.Checked.{◌times◌}
 use Rattle.moment_sums.specs.declared.Value.{Value}
 use Rattle.moment_sums.specs.declared.Value.TheVariants.{Is, Not}
-use Rattle.moment_sums.proofs.Unnamed.{ValueNames, times-unnamed}
+use Rattle.moment_sums.proofs.Unnamed.{ValueNames, times_unnamed}
 use Rattle.moment_time.specs.Time.{hour_of, hour_of_twelve, clock_hour, with_micros, micros_of, offset_in_range, checked_offset}
 use Rattle.moment_time.specs.declared.Zoned.{Zoned}
 use Rattle.moment_time.specs.declared.Zoned.TheVariants.{At, Refused}
@@ -23,25 +23,25 @@ ZonedNames P (At offset) = Unit {0}
 ZonedNames P (Refused why) = P (report_of why).pattern
 
 module _ (P : ℕ → Type 0) (none : P no_pattern) (f : Fields) where
-  twelve-unnamed : (is_pm h : ℤ) → ValueNames P (hour_of_twelve is_pm h)
+  twelve_unnamed : (is_pm h : ℤ) → ValueNames P (hour_of_twelve is_pm h)
   unfolding hour_of_twelve report_of
-  twelve-unnamed is_pm h =
-      by-if (ValueNames P) (lt_z h (pos 1) || lt_z (pos 12) h) _ _ (λ e. none)
-      (λ e. by-if (ValueNames P) (not (is_zero is_pm) && lt_z h (pos 12)) _ _ (λ e. tt)
-      (λ e. by-if (ValueNames P) (is_zero is_pm && eq_ℤ h (pos 12)) _ _ (λ e. tt) (λ e. tt)))
+  twelve_unnamed is_pm h =
+      by_if (ValueNames P) (lt_z h (pos 1) || lt_z (pos 12) h) _ _ (λ e. none)
+      (λ e. by_if (ValueNames P) (not (is_zero is_pm) && lt_z h (pos 12)) _ _ (λ e. tt)
+      (λ e. by_if (ValueNames P) (is_zero is_pm && eq_ℤ h (pos 12)) _ _ (λ e. tt) (λ e. tt)))
 
-  pub clock-unnamed : ValueNames P (clock_hour f)
+  pub clock_unnamed : ValueNames P (clock_hour f)
   unfolding clock_hour
-  clock-unnamed = by-if (ValueNames P) (eq_ℤ (get f clock) (pos 12)) _ _ (λ e. twelve-unnamed (get f pm) (hour_of f)) (λ e. tt)
+  clock_unnamed = by_if (ValueNames P) (eq_ℤ (get f clock) (pos 12)) _ _ (λ e. twelve_unnamed (get f pm) (hour_of f)) (λ e. tt)
 
-  with-micros-unnamed : (v : Value) (n : ℤ) → ValueNames P v → ValueNames P (with_micros v n)
-  with-micros-unnamed (Is whole) n named = tt
-  with-micros-unnamed (Not why) n named = named
+  with_micros_unnamed : (v : Value) (n : ℤ) → ValueNames P v → ValueNames P (with_micros v n)
+  with_micros_unnamed (Is whole) n named = tt
+  with_micros_unnamed (Not why) n named = named
 
-  pub micros-unnamed : ValueNames P (micros_of f)
+  pub micros_unnamed : ValueNames P (micros_of f)
   unfolding micros_of
-  micros-unnamed = with-micros-unnamed (Is (get f ms) times 1000) (get f us) (times-unnamed P none (Is (get f ms)) 1000 tt)
+  micros_unnamed = with_micros_unnamed (Is (get f ms) times 1000) (get f us) (times_unnamed P none (Is (get f ms)) 1000 tt)
 
-  pub offset-unnamed : ZonedNames P (checked_offset f)
+  pub offset_unnamed : ZonedNames P (checked_offset f)
   unfolding checked_offset report_of
-  offset-unnamed = by-if (ZonedNames P) (offset_in_range f) _ _ (λ e. tt) (λ e. none)
+  offset_unnamed = by_if (ZonedNames P) (offset_in_range f) _ _ (λ e. tt) (λ e. none)

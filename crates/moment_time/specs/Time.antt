@@ -72,18 +72,18 @@ unfoldable pub checked_offset : Fields → Zoned
 checked_offset f = when offset_in_range f then At (offset_of f) else Refused OffsetRange
 
 -- unfolds all that a time and an offset are computed by, for worked examples
-unfoldable pub time-computes : ℕ
+unfoldable pub time_computes : ℕ
 unfolding hour_of minute_of second_of hour_of_twelve clock_hour micros_of time_in_range east_of offset_of offset_in_range checked_offset wrap32
-time-computes = 0
+time_computes = 0
 
 -- 12 AM, 12 PM, 1 PM and 0 on the 12-hour clock
 pub clocks
     : (hour_of_twelve (pos 0) (pos 12) ≡ Is (pos 0)) × (hour_of_twelve (pos 1) (pos 12) ≡ Is (pos 12)) × (hour_of_twelve (pos 1) (pos 1) ≡ Is (pos 13))
     × (hour_of_twelve (pos 0) (pos 0) ≡ Not (HourOfTwelve (pos 0)))
-unfolding time-computes
+unfolding time_computes
 clocks = (refl, refl, refl, refl)
 
 -- -5:30 is -(5 hours and 30 minutes)
 pub joined : east_of (put (put (put no_fields tzsign (negsuc 0)) tzh (pos 5)) tzm (pos 30)) ≡ negsuc 19799
-unfolding time-computes
+unfolding time_computes
 joined = refl

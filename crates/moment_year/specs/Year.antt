@@ -38,13 +38,13 @@ year_of f =
     else Is (plain_year (signed_by (get f bc) y))
 
 -- unfolds all that a year is computed by, for worked examples
-unfoldable pub year-computes : ℕ
+unfoldable pub year_computes : ℕ
 unfolding year_in_century first_of_century year_of wrap32
-year-computes = 0
+year_computes = 0
 
 -- 00 of century 21 is 2100, 24 is 2024; century 1 BC begins with year -99, which is 100 BC
 pub worked
     : (year_in_century (pos 21) (pos 0) ≡ Is (pos 2100)) × (year_in_century (pos 21) (pos 24) ≡ Is (pos 2024)) × (first_of_century (negsuc 0) ≡ Is (negsuc 98))
     × (plain_year (negsuc 0) ≡ pos 0)
-unfolding year-computes
+unfolding year_computes
 worked = (refl, refl, refl, refl)

@@ -1,14 +1,14 @@
 -- `kept`: all that is promised holds. Each promise is a law of the crates below, or the theorem of a function.
--- `right-and-safe`: answers that are those of the definitions are in range. Assumes nothing.
+-- `right_and_safe`: answers that are those of the definitions are in range. Assumes nothing.
 use mathlib.Core.Path.{◌≡◌, ap, subst, sym}
 use mathlib.Core.List.{List}
 use Prim.Native.Nat.{ℕ}
 use Rattle.base_settings.specs.declared.Settings.{Settings}
-use Rattle.read_words.proofs.FoldOnce.{fold-once}
+use Rattle.read_words.proofs.FoldOnce.{fold_once}
 use Rattle.template_nodes.proofs.Cover.{covered}
-use Rattle.moment_parts.proofs.Ranges.{answered, parts-by-answered}
-use Rattle.moment_parts.proofs.Patterns.{named-own, named-in-template}
-use Rattle.moment_parts.proofs.Strict.{strict-alone}
+use Rattle.moment_parts.proofs.Ranges.{answered, parts_by_answered}
+use Rattle.moment_parts.proofs.Patterns.{named_own, named_in_template}
+use Rattle.moment_parts.proofs.Strict.{strict_alone}
 use Rattle.moment_parts.specs.Examples.{table}
 use Rattle.moment_parts.specs.Parts.{parts_of}
 use Rattle.moment_parts.specs.Patterns.{NamesOwn}
@@ -16,22 +16,22 @@ use Rattle.moment_parts.specs.Ranges.{Answered}
 use Rattle.moment_instants.specs.ByTemplate.{timestamp_of, date_of}
 use Rattle.moment_instants.specs.Ranges.{InstantAnswered, DayAnswered}
 use Rattle.template_nodes.specs.Template.{nodes_by}
-use Rattle.moment_instants.proofs.Ranges.{instant-answered, day-answered}
-use Rattle.moment_instants.proofs.Own.{instant-own, day-own, timestamp-own, date-own}
-use Rattle.write_pieces.proofs.Moments.{moment-plain, plain-moment}
-use Rattle.write_text.proofs.Own.{written-own, written-in-own}
+use Rattle.moment_instants.proofs.Ranges.{instant_answered, day_answered}
+use Rattle.moment_instants.proofs.Own.{instant_own, day_own, timestamp_own, date_own}
+use Rattle.write_pieces.proofs.Moments.{moment_plain, plain_moment}
+use Rattle.write_text.proofs.Own.{written_own, written_in_own}
 use Rattle.write_text.proofs.ByName.{by_name}
-use Rattle.write_text.proofs.OwnCase.{own-case}
+use Rattle.write_text.proofs.OwnCase.{own_case}
 use Rattle.write_text.specs.Writer.{buffer_after}
 use Rattle.write_text.specs.declared.Unwritten.{Unwritten}
 use Rattle.write_text.specs.declared.Written.{Written}
 use Rattle.write_text.specs.declared.Written.TheVariants.{Refused}
-use Rattle.sorbilgan_records.proofs.Ranges.{parts-recorded, template-recorded, instant-recorded, day-recorded}
-use Rattle.readback.specs.ReadBack.{joined-needed, six-needed}
+use Rattle.sorbilgan_records.proofs.Ranges.{parts_recorded, template_recorded, instant_recorded, day_recorded}
+use Rattle.readback.specs.ReadBack.{joined_needed, six_needed}
 use Rattle.readback.proofs.ReadBack.{every_back}
-use Rattle.sorbilgan.proofs.Accents.{accents-mode}
-use Rattle.sorbilgan.proofs.Callers.{cards-and-pages, within_both}
-use Rattle.sorbilgan.proofs.Once.{compile-once}
+use Rattle.sorbilgan.proofs.Accents.{accents_mode}
+use Rattle.sorbilgan.proofs.Callers.{cards_and_pages, within_both}
+use Rattle.sorbilgan.proofs.Once.{compile_once}
 use Rattle.moment_parts.proofs.to_timestamp_parts.Met as ToTimestampParts
 use Rattle.moment_parts.proofs.parts_by.Met as PartsBy
 use Rattle.moment_instants.proofs.to_timestamp_text.Met as ToTimestampText
@@ -72,106 +72,106 @@ use Rattle.promises.specs.declared.Readings.{Readings}
 left : (text before : List ℕ) {w : Written} {why : Unwritten} → w ≡ Refused why → buffer_after w text before ≡ before
 left text before e = ap (λ (w : Written). buffer_after w text before) e
 
-pub every-answer : EveryAnswer
-every-answer =
+pub every_answer : EveryAnswer
+every_answer =
     record {
-      parts-by = parts-by-answered;
+      parts_by_nodes = parts_by_answered;
       parts = answered;
-      instant = instant-answered;
-      day = day-answered;
-      parts-by-record = parts-recorded;
-      parts-record = template-recorded;
-      instant-record = instant-recorded;
-      day-record = day-recorded;
-      names-by = named-own;
-      instant-names-by = λ set ns t s e. instant-own set t s ns e;
-      day-names-by = λ set ns t s e. day-own set t s ns e;
-      text-names-by = λ set c t m room e. written-in-own set t m room c e;
-      names = named-in-template;
-      instant-names = λ set t s e. timestamp-own set t s e;
-      day-names = λ set t s e. date-own set t s e;
-      text-names = λ set t m room e. written-own set t m room e;
+      instant = instant_answered;
+      day = day_answered;
+      parts_by_record = parts_recorded;
+      parts_record = template_recorded;
+      instant_record = instant_recorded;
+      day_record = day_recorded;
+      names_by = named_own;
+      instant_names_by = λ set ns t s e. instant_own set t s ns e;
+      day_names_by = λ set ns t s e. day_own set t s ns e;
+      text_names_by = λ set c t m room e. written_in_own set t m room c e;
+      names = named_in_template;
+      instant_names = λ set t s e. timestamp_own set t s e;
+      day_names = λ set t s e. date_own set t s e;
+      text_names = λ set t m room e. written_own set t m room e;
       buffer = λ set t m before e. left _ before e;
-      buffer-by = λ set c t m before e. left _ before e;
+      buffer_by = λ set c t m before e. left _ before e;
     }
 
-pub every-equation : EveryEquation
-every-equation =
+pub every_equation : EveryEquation
+every_equation =
     record {
-      to-timestamp-parts = ToTimestampParts.met;
-      parts-by = PartsBy.met;
-      to-timestamp-text = ToTimestampText.met;
-      instant-by = InstantBy.met;
-      to-date-text = ToDateText.met;
-      day-by = DayBy.met;
+      to_timestamp_parts = ToTimestampParts.met;
+      parts_by_nodes = PartsBy.met;
+      to_timestamp_text = ToTimestampText.met;
+      instant_by_nodes = InstantBy.met;
+      to_date_text = ToDateText.met;
+      day_by_nodes = DayBy.met;
       write = Write.met;
-      write-by = WriteBy.met;
-      sorbilgan-parts-with = SorbilganPartsWith.met;
-      sorbilgan-parts-by-with = SorbilganPartsByWith.met;
-      sorbilgan-instant-with = SorbilganInstantWith.met;
-      sorbilgan-instant-by-with = SorbilganInstantByWith.met;
-      sorbilgan-date-with = SorbilganDateWith.met;
-      sorbilgan-date-by-with = SorbilganDateByWith.met;
-      sorbilgan-write-with = SorbilganWriteWith.met;
-      sorbilgan-write-by-with = SorbilganWriteByWith.met;
-      sorbilgan-compile-with = SorbilganCompileWith.met;
-      sorbilgan-parts = SorbilganParts.met;
-      sorbilgan-parts-by = SorbilganPartsBy.met;
-      sorbilgan-instant = SorbilganInstant.met;
-      sorbilgan-instant-by = SorbilganInstantBy.met;
-      sorbilgan-date = SorbilganDate.met;
-      sorbilgan-date-by = SorbilganDateBy.met;
-      sorbilgan-write = SorbilganWrite.met;
-      sorbilgan-write-by = SorbilganWriteBy.met;
-      sorbilgan-compile = SorbilganCompile.met;
-      sorbilgan-has-lone-mark = SorbilganHasLoneMark.met;
-      sorbilgan-pattern = SorbilganPattern.met;
-      sorbilgan-version = SorbilganVersion.met;
+      write_by = WriteBy.met;
+      sorbilgan_parts_with = SorbilganPartsWith.met;
+      sorbilgan_parts_by_with = SorbilganPartsByWith.met;
+      sorbilgan_instant_with = SorbilganInstantWith.met;
+      sorbilgan_instant_by_with = SorbilganInstantByWith.met;
+      sorbilgan_date_with = SorbilganDateWith.met;
+      sorbilgan_date_by_with = SorbilganDateByWith.met;
+      sorbilgan_write_with = SorbilganWriteWith.met;
+      sorbilgan_write_by_with = SorbilganWriteByWith.met;
+      sorbilgan_compile_with = SorbilganCompileWith.met;
+      sorbilgan_parts = SorbilganParts.met;
+      sorbilgan_parts_by = SorbilganPartsBy.met;
+      sorbilgan_instant = SorbilganInstant.met;
+      sorbilgan_instant_by = SorbilganInstantBy.met;
+      sorbilgan_date = SorbilganDate.met;
+      sorbilgan_date_by = SorbilganDateBy.met;
+      sorbilgan_write = SorbilganWrite.met;
+      sorbilgan_write_by = SorbilganWriteBy.met;
+      sorbilgan_compile = SorbilganCompile.met;
+      sorbilgan_has_lone_mark = SorbilganHasLoneMark.met;
+      sorbilgan_pattern = SorbilganPattern.met;
+      sorbilgan_version = SorbilganVersion.met;
       answer = AnswerLine.met;
-      answer-lines = AnswerLines.met;
+      answer_lines = AnswerLines.met;
       table = table;
     }
 
-pub right-and-safe : (set : Settings) (t s : List ℕ) (r : Readings) → r.parts ≡ parts_of set t s → r.instant ≡ timestamp_of set t s → r.day ≡ date_of set t s
+pub right_and_safe : (set : Settings) (t s : List ℕ) (r : Readings) → r.parts ≡ parts_of set t s → r.instant ≡ timestamp_of set t s → r.day ≡ date_of set t s
     → RightAndSafe set t s r
 unfolding timestamp_of date_of
-right-and-safe set t s r p i d =
+right_and_safe set t s r p i d =
     record {
       parts = p;
       instant = i;
       day = d;
-      parts-safe = subst (Answered set.strict) (sym p) (answered set t s);
-      instant-safe = subst (InstantAnswered set.strict) (sym i) (instant-answered set.strict (parts_of set t s) (answered set t s));
-      day-safe = subst (DayAnswered set.strict) (sym d) (day-answered set.strict (parts_of set t s) (answered set t s));
-      names = subst (NamesOwn (nodes_by set.accents t)) (sym p) (named-in-template set t s);
+      parts_safe = subst (Answered set.strict) (sym p) (answered set t s);
+      instant_safe = subst (InstantAnswered set.strict) (sym i) (instant_answered set.strict (parts_of set t s) (answered set t s));
+      day_safe = subst (DayAnswered set.strict) (sym d) (day_answered set.strict (parts_of set t s) (answered set t s));
+      names = subst (NamesOwn (nodes_by set.accents t)) (sym p) (named_in_template set t s);
     }
 
-pub every-moment : EveryMoment
-every-moment = record { back = every_back; write-and-read = WriteAndRead.met; tested = moment-plain; plain = plain-moment }
+pub every_moment : EveryMoment
+every_moment = record { back = every_back; write_and_read = WriteAndRead.met; tested = moment_plain; plain = plain_moment }
 
-pub every-template : EveryTemplate
-every-template = record { covered = covered; once = compile-once }
+pub every_template : EveryTemplate
+every_template = record { covered = covered; once = compile_once }
 
-pub every-request : EveryRequest
-every-request =
+pub every_request : EveryRequest
+every_request =
     record {
-      own-case = own-case;
-      fold-once = fold-once;
+      own_case = own_case;
+      fold_once = fold_once;
       by_name = by_name;
       within_both = within_both;
-      cards-and-pages = cards-and-pages;
-      six-needed = six-needed;
-      strict-alone = strict-alone;
-      accents-mode = accents-mode;
-      joined-needed = joined-needed;
+      cards_and_pages = cards_and_pages;
+      six_needed = six_needed;
+      strict_alone = strict_alone;
+      accents_mode = accents_mode;
+      joined_needed = joined_needed;
     }
 
 pub kept : Promises
 kept =
     record {
-      demand-1 = every-answer;
-      demand-2 = every-equation;
-      demand-3 = every-moment;
-      templates = every-template;
-      requests = every-request;
+      demand_1 = every_answer;
+      demand_2 = every_equation;
+      demand_3 = every_moment;
+      templates = every_template;
+      requests = every_request;
     }

@@ -77,81 +77,81 @@ pub record EveryAnswer : Type 0 where
   -- the parts, by any nodes and by a template, said of the answer alone. In range: each part by itself; what has no
   -- mark has its default, and a year other than 0 has its mark; with all three marks, and in every year but 0, the
   -- month has the day; under the strict switch it can have the day. A refusal is by 1 to 16, or under that switch by 25
-  pub parts-by : (set : Settings) (ns : List Node) (t s : List ℕ) → Answered set.strict (parts_by set ns t s)
+  pub parts_by_nodes : (set : Settings) (ns : List Node) (t s : List ℕ) → Answered set.strict (parts_by set ns t s)
   pub parts : (set : Settings) (t s : List ℕ) → Answered set.strict (parts_of set t s)
   -- the instant and the day of any such answer: neither end of 64 bits, neither end of 32 bits
   pub instant : (strict : Bool) (a : Answer) → Answered strict a → InstantAnswered strict (instant_by a)
   pub day : (strict : Bool) (a : Answer) → Answered strict a → DayAnswered strict (day_by a)
   -- the records that other languages get, by any nodes and by a template; refused: what would have been read is 0
-  pub parts-by-record : (set : Settings) (ns : List Node) (t s : List ℕ) → PartsRecorded set.strict (parts_by set ns t s)
-  pub parts-record : (set : Settings) (t s : List ℕ) → PartsRecorded set.strict (parts_of set t s)
-  pub instant-record : (strict : Bool) (a : Answer) → Answered strict a → InstantRecorded strict (instant_by a)
-  pub day-record : (strict : Bool) (a : Answer) → Answered strict a → DayRecorded strict (day_by a)
+  pub parts_by_record : (set : Settings) (ns : List Node) (t s : List ℕ) → PartsRecorded set.strict (parts_by set ns t s)
+  pub parts_record : (set : Settings) (t s : List ℕ) → PartsRecorded set.strict (parts_of set t s)
+  pub instant_record : (strict : Bool) (a : Answer) → Answered strict a → InstantRecorded strict (instant_by a)
+  pub day_record : (strict : Bool) (a : Answer) → Answered strict a → DayRecorded strict (day_by a)
   -- a refusal names no pattern, or one of the nodes'
-  pub names-by : (set : Settings) (ns : List Node) (t s : List ℕ) → NamesOwn ns (parts_by set ns t s)
-  pub instant-names-by : (set : Settings) (ns : List Node) (t s : List ℕ) {why : Undated} → instant_by (parts_by set ns t s) ≡ NoInstant why
+  pub names_by : (set : Settings) (ns : List Node) (t s : List ℕ) → NamesOwn ns (parts_by set ns t s)
+  pub instant_names_by : (set : Settings) (ns : List Node) (t s : List ℕ) {why : Undated} → instant_by (parts_by set ns t s) ≡ NoInstant why
       → NoneOrIn ns (undated_report why).pattern
-  pub day-names-by : (set : Settings) (ns : List Node) (t s : List ℕ) {why : Undated} → day_by (parts_by set ns t s) ≡ NoDay why
+  pub day_names_by : (set : Settings) (ns : List Node) (t s : List ℕ) {why : Undated} → day_by (parts_by set ns t s) ≡ NoDay why
       → NoneOrIn ns (undated_report why).pattern
-  pub text-names-by : (set : Settings) (c t : List ℕ) (m : Moment) (room : ℕ) {why : Unwritten} → written_in set c t m room ≡ NotWritten why
+  pub text_names_by : (set : Settings) (c t : List ℕ) (m : Moment) (room : ℕ) {why : Unwritten} → written_in set c t m room ≡ NotWritten why
       → NoneOrIn (nodes_in c) (unwritten_report why).pattern
   -- the same by a template: one of the template's
   pub names : (set : Settings) (t s : List ℕ) → NamesOwn (nodes_by set.accents t) (parts_of set t s)
-  pub instant-names : (set : Settings) (t s : List ℕ) {why : Undated} → timestamp_of set t s ≡ NoInstant why
+  pub instant_names : (set : Settings) (t s : List ℕ) {why : Undated} → timestamp_of set t s ≡ NoInstant why
       → NoneOrIn (nodes_by set.accents t) (undated_report why).pattern
-  pub day-names : (set : Settings) (t s : List ℕ) {why : Undated} → date_of set t s ≡ NoDay why
+  pub day_names : (set : Settings) (t s : List ℕ) {why : Undated} → date_of set t s ≡ NoDay why
       → NoneOrIn (nodes_by set.accents t) (undated_report why).pattern
-  pub text-names : (set : Settings) (t : List ℕ) (m : Moment) (room : ℕ) {why : Unwritten} → written_to set t m room ≡ NotWritten why
+  pub text_names : (set : Settings) (t : List ℕ) (m : Moment) (room : ℕ) {why : Unwritten} → written_to set t m room ≡ NotWritten why
       → NoneOrIn (nodes_of t) (unwritten_report why).pattern
   -- a refusal of the writer leaves the buffer as it was
   pub buffer : (set : Settings) (t : List ℕ) (m : Moment) (before : List ℕ) {why : Unwritten} → written_to set t m (length before) ≡ NotWritten why
       → buffer_after (written_to set t m (length before)) (text_of t m) before ≡ before
-  pub buffer-by : (set : Settings) (c t : List ℕ) (m : Moment) (before : List ℕ) {why : Unwritten} → written_in set c t m (length before) ≡ NotWritten why
+  pub buffer_by : (set : Settings) (c t : List ℕ) (m : Moment) (before : List ℕ) {why : Unwritten} → written_in set c t m (length before) ≡ NotWritten why
       → buffer_after (written_in set c t m (length before)) (text_in c t m) before ≡ before
 
 -- Demand 2: right by the public document. `statement` is the checker's theorem of a function: for all arguments it
 -- never traps, it returns, and its contract holds. The contract is the equation that the comment gives; src/ has it.
 pub record EveryEquation : Type 2 where
   -- to_timestamp_parts set t s = parts_of set t s, and by bytes as nodes parts_by set (nodes_in c) t s
-  pub to-timestamp-parts : {M : Type 1} → ToTimestampParts.statement M
-  pub parts-by : {M : Type 1} → PartsBy.statement M
+  pub to_timestamp_parts : {M : Type 1} → ToTimestampParts.statement M
+  pub parts_by_nodes : {M : Type 1} → PartsBy.statement M
   -- to_timestamp_text set t s = timestamp_of set t s, and by bytes as nodes instant_by (parts_by set (nodes_in c) t s)
-  pub to-timestamp-text : {M : Type 1} → ToTimestampText.statement M
-  pub instant-by : {M : Type 1} → InstantBy.statement M
+  pub to_timestamp_text : {M : Type 1} → ToTimestampText.statement M
+  pub instant_by_nodes : {M : Type 1} → InstantBy.statement M
   -- to_date_text set t s = date_of set t s, and by bytes as nodes day_by (parts_by set (nodes_in c) t s)
-  pub to-date-text : {M : Type 1} → ToDateText.statement M
-  pub day-by : {M : Type 1} → DayBy.statement M
+  pub to_date_text : {M : Type 1} → ToDateText.statement M
+  pub day_by_nodes : {M : Type 1} → DayBy.statement M
   -- write set t m = written_to set t m, and by bytes as nodes written_in set c t m; the buffer after it is buffer_after
   pub write : {M : Type 1} → Write.statement M
-  pub write-by : {M : Type 1} → WriteBy.statement M
+  pub write_by : {M : Type 1} → WriteBy.statement M
   -- the exports: the same answers as records, the bytes of a compiled template; with settings as bits, settings_of, and
   -- for the exercise pages
-  pub sorbilgan-parts-with : {M : Type 1} → SorbilganPartsWith.statement M
-  pub sorbilgan-parts-by-with : {M : Type 1} → SorbilganPartsByWith.statement M
-  pub sorbilgan-instant-with : {M : Type 1} → SorbilganInstantWith.statement M
-  pub sorbilgan-instant-by-with : {M : Type 1} → SorbilganInstantByWith.statement M
-  pub sorbilgan-date-with : {M : Type 1} → SorbilganDateWith.statement M
-  pub sorbilgan-date-by-with : {M : Type 1} → SorbilganDateByWith.statement M
-  pub sorbilgan-write-with : {M : Type 1} → SorbilganWriteWith.statement M
-  pub sorbilgan-write-by-with : {M : Type 1} → SorbilganWriteByWith.statement M
-  pub sorbilgan-compile-with : {M : Type 1} → SorbilganCompileWith.statement M
-  pub sorbilgan-parts : {M : Type 1} → SorbilganParts.statement M
-  pub sorbilgan-parts-by : {M : Type 1} → SorbilganPartsBy.statement M
-  pub sorbilgan-instant : {M : Type 1} → SorbilganInstant.statement M
-  pub sorbilgan-instant-by : {M : Type 1} → SorbilganInstantBy.statement M
-  pub sorbilgan-date : {M : Type 1} → SorbilganDate.statement M
-  pub sorbilgan-date-by : {M : Type 1} → SorbilganDateBy.statement M
-  pub sorbilgan-write : {M : Type 1} → SorbilganWrite.statement M
-  pub sorbilgan-write-by : {M : Type 1} → SorbilganWriteBy.statement M
-  pub sorbilgan-compile : {M : Type 1} → SorbilganCompile.statement M
+  pub sorbilgan_parts_with : {M : Type 1} → SorbilganPartsWith.statement M
+  pub sorbilgan_parts_by_with : {M : Type 1} → SorbilganPartsByWith.statement M
+  pub sorbilgan_instant_with : {M : Type 1} → SorbilganInstantWith.statement M
+  pub sorbilgan_instant_by_with : {M : Type 1} → SorbilganInstantByWith.statement M
+  pub sorbilgan_date_with : {M : Type 1} → SorbilganDateWith.statement M
+  pub sorbilgan_date_by_with : {M : Type 1} → SorbilganDateByWith.statement M
+  pub sorbilgan_write_with : {M : Type 1} → SorbilganWriteWith.statement M
+  pub sorbilgan_write_by_with : {M : Type 1} → SorbilganWriteByWith.statement M
+  pub sorbilgan_compile_with : {M : Type 1} → SorbilganCompileWith.statement M
+  pub sorbilgan_parts : {M : Type 1} → SorbilganParts.statement M
+  pub sorbilgan_parts_by : {M : Type 1} → SorbilganPartsBy.statement M
+  pub sorbilgan_instant : {M : Type 1} → SorbilganInstant.statement M
+  pub sorbilgan_instant_by : {M : Type 1} → SorbilganInstantBy.statement M
+  pub sorbilgan_date : {M : Type 1} → SorbilganDate.statement M
+  pub sorbilgan_date_by : {M : Type 1} → SorbilganDateBy.statement M
+  pub sorbilgan_write : {M : Type 1} → SorbilganWrite.statement M
+  pub sorbilgan_write_by : {M : Type 1} → SorbilganWriteBy.statement M
+  pub sorbilgan_compile : {M : Type 1} → SorbilganCompile.statement M
   -- whether a mark counts alone in a compiled template: has_lone_mark t (nodes_in c)
-  pub sorbilgan-has-lone-mark : {M : Type 1} → SorbilganHasLoneMark.statement M
+  pub sorbilgan_has_lone_mark : {M : Type 1} → SorbilganHasLoneMark.statement M
   -- the name of a pattern, and the version
-  pub sorbilgan-pattern : {M : Type 1} → SorbilganPattern.statement M
-  pub sorbilgan-version : {M : Type 1} → SorbilganVersion.statement M
+  pub sorbilgan_pattern : {M : Type 1} → SorbilganPattern.statement M
+  pub sorbilgan_version : {M : Type 1} → SorbilganVersion.statement M
   -- the line program: answer mode line = answer_line mode line, and the lines of a text one after another, answers_to
   pub answer : {M : Type 1} → AnswerLine.statement M
-  pub answer-lines : {M : Type 1} → AnswerLines.statement M
+  pub answer_lines : {M : Type 1} → AnswerLines.statement M
   -- the worked table P1 to P15
   pub table : Table
 
@@ -162,7 +162,7 @@ pub record EveryEquation : Type 2 where
 pub record EveryMoment : Type 2 where
   pub back : EveryBack
   -- the same on the functions themselves
-  pub write-and-read : {M : Type 1} → WriteAndRead.statement M
+  pub write_and_read : {M : Type 1} → WriteAndRead.statement M
   -- the test of a moment, and the plain ranges of its seven numbers: each way
   pub tested : (m : Moment) → is_moment m ≡ true → PlainMoment m
   pub plain : (m : Moment) → PlainMoment m → is_moment m ≡ true
@@ -177,28 +177,28 @@ pub record EveryTemplate : Type 0 where
 -- Change requests (docs/changes): what each promises beyond the demands
 pub record EveryRequest : Type 0 where
   -- CR 1: each of the eight markers writes in its own case, in every template and at every moment
-  pub own-case : OwnCase
+  pub own_case : OwnCase
   -- CR 3: the beginning of the input, folded once, has the word that the input has
-  pub fold-once : FoldOnce
+  pub fold_once : FoldOnce
   -- CR 6: each of the six patterns of month names writes the month's, in its own case; reading back is in demand 3
   pub by_name : ByName
   -- CR 7: what is within the limits of two callers has equal answers; so the flash cards and the exercise pages have
   -- them on a pair within 64 and 96 bytes. With limits five bytes apart a text is not read back
   pub within_both : WithinBoth
-  pub cards-and-pages : CardsAndPages
-  pub six-needed : SixNeeded
+  pub cards_and_pages : CardsAndPages
+  pub six_needed : SixNeeded
   -- CR 8: under the strict switch a day that its month never has is refused, and nothing else changes; what the marks
   -- say is in demand 1, and that reading back does not notice the switch in demand 3
-  pub strict-alone : StrictAlone
+  pub strict_alone : StrictAlone
   -- CR 4: in the accents mode a letter has all marks right after it, any other mark counts alone, and compiled nodes
   -- keep the mode; reading back is in demand 3, and a template in which a mark counts alone is not read back
-  pub accents-mode : AccentsMode
-  pub joined-needed : JoinedNeeded
+  pub accents_mode : AccentsMode
+  pub joined_needed : JoinedNeeded
 
 -- all of them
 pub record Promises : Type 2 where
-  pub demand-1 : EveryAnswer
-  pub demand-2 : EveryEquation
-  pub demand-3 : EveryMoment
+  pub demand_1 : EveryAnswer
+  pub demand_2 : EveryEquation
+  pub demand_3 : EveryMoment
   pub templates : EveryTemplate
   pub requests : EveryRequest

@@ -15,7 +15,7 @@ pub record RightAndSafe (set : Settings) (t s : List ℕ) (r : Readings) : Type 
   pub parts : r.parts ≡ parts_of set t s
   pub instant : r.instant ≡ timestamp_of set t s
   pub day : r.day ≡ date_of set t s
-  pub parts-safe : Answered set.strict r.parts
-  pub instant-safe : InstantAnswered set.strict r.instant
-  pub day-safe : DayAnswered set.strict r.day
+  pub parts_safe : Answered set.strict r.parts
+  pub instant_safe : InstantAnswered set.strict r.instant
+  pub day_safe : DayAnswered set.strict r.day
   pub names : NamesOwn (nodes_by set.accents t) r.parts

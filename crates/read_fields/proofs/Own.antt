@@ -1,5 +1,5 @@
 -- The pattern that a refused reading names. Assumes nothing.
--- `onward-own`: where P holds of the pattern that a reading names, and of that which the rest after it names, it holds
+-- `onward_own`: where P holds of the pattern that a reading names, and of that which the rest after it names, it holds
 -- of the pattern that the two in turn name.
 use Prim.Native.Nat.{ℕ}
 use Rattle.base_refusals.specs.Report.{report_of}
@@ -16,9 +16,9 @@ VerdictNames P (Refused why) = P (report_of why).pattern
 abbrev pub ReadingNames : (ℕ → Type 0) → Reading → Type 0
 ReadingNames P r = VerdictNames P r.verdict
 
-pub onward-own : (P : ℕ → Type 0) (r rest : Reading) → ReadingNames P r → ReadingNames P rest → ReadingNames P (onward r.verdict r rest)
-onward-own P r rest first then-rest = split r.verdict
+pub onward_own : (P : ℕ → Type 0) (r rest : Reading) → ReadingNames P r → ReadingNames P rest → ReadingNames P (onward r.verdict r rest)
+onward_own P r rest first then_rest = split r.verdict
   where
     split : (v : Verdict) → ReadingNames P (onward v r rest)
-    split Read = then-rest
+    split Read = then_rest
     split (Refused why) = first

@@ -1,5 +1,5 @@
 -- A refusal of reading names a pattern of the nodes. Assumes nothing.
--- `read-own`: where P holds of each pattern among the nodes, it holds of the pattern that a refusal names.
+-- `read_own`: where P holds of each pattern among the nodes, it holds of the pattern that a refusal names.
 use mathlib.Core.Path.{◌≡◌}
 use mathlib.Core.Bool.{Bool, true, false, ◌||◌}
 use mathlib.Core.List.{List, [], ◌∷◌}
@@ -7,7 +7,7 @@ use Prim.Native.Nat.{ℕ}
 use borrow.Author.Tests.{eqb-true}
 use lib.Dec.{eqb, ltb}
 use lib.ListN.{length}
-use Rattle.base_notation.proofs.Cases.{by-if}
+use Rattle.base_notation.proofs.Cases.{by_if}
 use Rattle.base_refusals.specs.Report.{report_of}
 use Rattle.read_integers.specs.Suffix.{is_free}
 use Rattle.template_patterns.specs.Patterns.{pattern_of}
@@ -21,10 +21,10 @@ use Rattle.read_fields.specs.declared.Reading.{Reading}
 use Rattle.read_fields.specs.declared.Task.{Task}
 use Rattle.read_fields.specs.declared.Verdict.{Verdict}
 use Rattle.read_fields.specs.declared.Verdict.TheVariants.{Read, Refused}
-use Rattle.read_fields.proofs.Own.{VerdictNames, ReadingNames, onward-own}
-use Rattle.read_numbers.proofs.Own.{read-number-own, read-dropped-own}
-use Rattle.read_words.proofs.Own.{read-word-own}
-use Rattle.read_offsets.proofs.Own.{read-offset-own, read-minutes-own}
+use Rattle.read_fields.proofs.Own.{VerdictNames, ReadingNames, onward_own}
+use Rattle.read_numbers.proofs.Own.{read_number_own, read_dropped_own}
+use Rattle.read_words.proofs.Own.{read_word_own}
+use Rattle.read_offsets.proofs.Own.{read_offset_own, read_minutes_own}
 use Rattle.read_literals.specs.Literals.{place}
 use Rattle.read_input.specs.Reader.{mixes, with_mode, performed, past_spaces, when_read, action_read, entered, node_read, head_of, read_from, read_all}
 
@@ -36,46 +36,46 @@ Each P (n ∷ ns) = (n.kind ≡ action → P n.pattern) × Each P ns
 module _ (P : ℕ → Type 0) (t s : List ℕ) where
   -- a pattern, whatever its task is
   module _ (n : Node) (own : P n.pattern) (f : Fields) (p : Place) where
-    performed-own : (free : Bool) (task : Task) → ReadingNames P (performed s n free task f p)
+    performed_own : (free : Bool) (task : Task) → ReadingNames P (performed s n free task f p)
     unfolding performed
-    performed-own free task =
+    performed_own free task =
         let kind = task.kind in
-        by-if (ReadingNames P) (eqb kind number || eqb kind comma_year) _ _ (λ e. read-number-own P s n own f p free task)
-        (λ e. by-if (ReadingNames P) (eqb kind word) _ _ (λ e. read-word-own P n own task f p s)
-        (λ e. by-if (ReadingNames P) (eqb kind exact) _ _ (λ e. tt)
-        (λ e. by-if (ReadingNames P) (eqb kind dropped) _ _ (λ e. read-dropped-own P s n own f p free task)
-        (λ e. by-if (ReadingNames P) (eqb kind offset) _ _ (λ e. read-offset-own P s n own free task f p)
-        (λ e. by-if (ReadingNames P) (eqb kind offset_minutes) _ _ (λ e. read-minutes-own P s n own free f p) (λ e. tt))))))
+        by_if (ReadingNames P) (eqb kind number || eqb kind comma_year) _ _ (λ e. read_number_own P s n own f p free task)
+        (λ e. by_if (ReadingNames P) (eqb kind word) _ _ (λ e. read_word_own P n own task f p s)
+        (λ e. by_if (ReadingNames P) (eqb kind exact) _ _ (λ e. tt)
+        (λ e. by_if (ReadingNames P) (eqb kind dropped) _ _ (λ e. read_dropped_own P s n own f p free task)
+        (λ e. by_if (ReadingNames P) (eqb kind offset) _ _ (λ e. read_offset_own P s n own free task f p)
+        (λ e. by_if (ReadingNames P) (eqb kind offset_minutes) _ _ (λ e. read_minutes_own P s n own free f p) (λ e. tt))))))
 
-  when-own : (v : Verdict) (r : Reading) (p : Place) → VerdictNames P v → ReadingNames P r → ReadingNames P (when_read v r p)
-  when-own Read r p named done = done
-  when-own (Refused why) r p named done = named
+  when_own : (v : Verdict) (r : Reading) (p : Place) → VerdictNames P v → ReadingNames P r → ReadingNames P (when_read v r p)
+  when_own Read r p named done = done
+  when_own (Refused why) r p named done = named
 
-  action-own : (n next : Node) → P n.pattern → (f : Fields) (p : Place) → ReadingNames P (action_read t s n next f p)
+  action_own : (n next : Node) → P n.pattern → (f : Fields) (p : Place) → ReadingNames P (action_read t s n next f p)
   unfolding action_read past_spaces report_of
-  action-own n next own f p =
+  action_own n next own f p =
       let new = (pattern_of n.pattern).mode in
       let r = performed s n (is_free t n next) (task_of n.pattern) (with_mode new f) p in
-      let named = performed-own n own (with_mode new f) p (is_free t n next) (task_of n.pattern) in
-      by-if (ReadingNames P) (mixes new (get f mode)) _ _ (λ e. own) (λ e. when-own r.verdict (past_spaces s r) p named named)
+      let named = performed_own n own (with_mode new f) p (is_free t n next) (task_of n.pattern) in
+      by_if (ReadingNames P) (mixes new (get f mode)) _ _ (λ e. own) (λ e. when_own r.verdict (past_spaces s r) p named named)
 
   -- a literal refuses nothing
-  node-own : (n next : Node) → (n.kind ≡ action → P n.pattern) → (first : Bool) (f : Fields) (p : Place)
+  node_own : (n next : Node) → (n.kind ≡ action → P n.pattern) → (first : Bool) (f : Fields) (p : Place)
       → ReadingNames P (node_read t s n next first f p)
   unfolding node_read
-  node-own n next own first f p =
-      by-if (ReadingNames P) (eqb n.kind action) _ _ (λ e. action-own n next (own (eqb-true n.kind action e)) f (entered s n first p)) (λ e. tt)
+  node_own n next own first f p =
+      by_if (ReadingNames P) (eqb n.kind action) _ _ (λ e. action_own n next (own (eqb-true n.kind action e)) f (entered s n first p)) (λ e. tt)
 
   -- nodes one after another
-  from-own : (ns : List Node) → Each P ns → (first : Bool) (f : Fields) (p : Place) → ReadingNames P (read_from t s ns first f p)
+  from_own : (ns : List Node) → Each P ns → (first : Bool) (f : Fields) (p : Place) → ReadingNames P (read_from t s ns first f p)
   unfolding read_from
-  from-own [] each first f p = tt
-  from-own (n ∷ ns) each first f p =
+  from_own [] each first f p = tt
+  from_own (n ∷ ns) each first f p =
       let r = node_read t s n (head_of ns) first f p in
-      by-if (ReadingNames P) (ltb p.at (length s)) _ _
-      (λ e. onward-own P r (read_from t s ns false r.fields r.place) (node-own n (head_of ns) each.0 first f p) (from-own ns each.1 false r.fields r.place))
+      by_if (ReadingNames P) (ltb p.at (length s)) _ _
+      (λ e. onward_own P r (read_from t s ns false r.fields r.place) (node_own n (head_of ns) each.0 first f p) (from_own ns each.1 false r.fields r.place))
       (λ e. tt)
 
-  pub read-own : (ns : List Node) → Each P ns → ReadingNames P (read_all t s ns)
+  pub read_own : (ns : List Node) → Each P ns → ReadingNames P (read_all t s ns)
   unfolding read_all
-  read-own ns each = from-own ns each true no_fields (place 0 0 false)
+  read_own ns each = from_own ns each true no_fields (place 0 0 false)

@@ -1,9 +1,9 @@
 -- A number in the lane. Assumes nothing.
 -- `plainly`: a pattern without an ordinal suffix, before FX, reads digits right at the place as this number, if they are
 -- as many as its width or it is free, and if neither field nor date mode was set to another value.
--- `is-taken`: the same of what the code has.
--- `is-left`: a pattern that is left changes nothing.
--- `of-pattern`, `of-literal`, `of-character`: what is left after a node, by its kind.
+-- `is_taken`: the same of what the code has.
+-- `is_left`: a pattern that is left changes nothing.
+-- `of_pattern`, `of_literal`, `of_character`: what is left after a node, by its kind.
 -- `settled`: a place without skipped spaces, before FX.
 use mathlib.Core.Path.{◌≡◌, ◌∙◌, refl, sym, ap}
 use mathlib.Core.Bool.{Bool, true, false, not, ◌||◌, false≢true, true≢false}
@@ -17,7 +17,7 @@ use lib.IntN.{ℤ, pos}
 use lib.ListN.{length, get_or}
 use lib.Seq.{get_or-set_other}
 use Rattle.base_notation.specs.Choice.{when◌then◌else◌}
-use Rattle.base_notation.proofs.Cases.{by-if}
+use Rattle.base_notation.proofs.Cases.{by_if}
 use Rattle.base_accents.specs.Accents.{measure_of}
 use Rattle.base_strtol.specs.Strtol.{short_at}
 use Rattle.base_strtol.specs.declared.Short.{Short}
@@ -25,7 +25,7 @@ use Rattle.read_integers.specs.Number.{number_at}
 use Rattle.read_integers.specs.Suffix.{is_free, ordinal, past_ordinal}
 use Rattle.read_integers.specs.declared.Number.{Number}
 use Rattle.read_integers.specs.declared.Number.TheVariants.{Read}
-use Rattle.read_integers.proofs.FewDigits.{few-digits, few-no-space}
+use Rattle.read_integers.proofs.FewDigits.{few_digits, few_no_space}
 use Rattle.template_patterns.specs.Patterns.{pattern_of}
 use Rattle.template_nodes.specs.Template.{end_node}
 use Rattle.template_nodes.specs.declared.Node.{Node}
@@ -35,7 +35,7 @@ use Rattle.read_fields.specs.declared.Fields.{Fields}
 use Rattle.read_fields.specs.declared.Place.{Place}
 use Rattle.read_fields.specs.declared.Reading.{Reading}
 use Rattle.read_fields.specs.declared.Task.{Task}
-use Rattle.read_fields.proofs.Assigned.{number-apart}
+use Rattle.read_fields.proofs.Assigned.{number_apart}
 use Rattle.read_numbers.specs.Numbers.{stored_number, with_number}
 use Rattle.read_numbers.specs.Year.{comma_year_at}
 use Rattle.read_literals.specs.Literals.{entered_by, literal_passed, past_field, place}
@@ -47,9 +47,9 @@ use Rattle.read_input.proofs.Turns.{passes}
 use Rattle.read_input.proofs.Verdicts.{passed}
 
 -- the date mode leaves every other field
-other-field : (new k : ℕ) (f : Fields) → (k ≡ 0 → ⊥) → get (with_mode new f) k ≡ get f k
-other-field new k f apart =
-    by-if (λ (g : Fields). get g k ≡ get f k) (eqb new 0) f (put f mode (pos new)) (λ e. refl) (λ e. get_or-set_other f.values mode k (pos new) (pos 0) apart)
+other_field : (new k : ℕ) (f : Fields) → (k ≡ 0 → ⊥) → get (with_mode new f) k ≡ get f k
+other_field new k f apart =
+    by_if (λ (g : Fields). get g k ≡ get f k) (eqb new 0) f (put f mode (pos new)) (λ e. refl) (λ e. get_or-set_other f.values mode k (pos new) (pos 0) apart)
 
 module _ (t s : List ℕ) (n next : Node) (f : Fields) (p : Place) where
   abbrev task : Task
@@ -73,15 +73,15 @@ module _ (t s : List ℕ) (n next : Node) (f : Fields) (p : Place) where
       q = place p.at p.extra false
 
       -- no space is before the digits
-      entered-is : entered_by s (not (eqb task.kind exact)) p ≡ q
-      entered-is = rw (kind, inexact, few-no-space s p.at n.pattern task.operand moved, add-zero p.at, add-zero p.extra) refl
+      entered_is : entered_by s (not (eqb task.kind exact)) p ≡ q
+      entered_is = rw (kind, inexact, few_no_space s p.at n.pattern task.operand moved, add-zero p.at, add-zero p.extra) refl
 
       abbrev r : Reading
       r = read (with_number task value (end - p.at) (with_mode new f)) (at_place q end)
 
       stored : stored_number s n task (Read value end) (with_mode new f) q ≡ r
       unfolding stored_number past_ordinal
-      stored = rw (other-field new task.field f (number-apart n.pattern kind), alone, bare) refl
+      stored = rw (other_field new task.field f (number_apart n.pattern kind), alone, bare) refl
 
       -- the number, by the kind of the task
       abbrev found : ℕ → Number
@@ -95,57 +95,57 @@ module _ (t s : List ℕ) (n next : Node) (f : Fields) (p : Place) where
       is =
           sym (ap (λ (k : ℕ). by_kind k s n (is_free t n next) task (with_mode new f) q) kind
           ∙ ap (λ (k : ℕ). with (found k)) kind
-          ∙ ap with (few-digits s p.at n.pattern task.operand moved (is_free t n next) wide)
+          ∙ ap with (few_digits s p.at n.pattern task.operand moved (is_free t n next) wide)
           ∙ stored)
 
       pub plainly
           : read (with_number task value (end - p.at) (with_mode new f)) (past_field s (place end 0 false))
           ≡ action_read t s n next f (entered_by s (not (eqb task.kind exact)) p)
-      plainly = rw entered-is (passed t s n next f q unmixed r is refl)
+      plainly = rw entered_is (passed t s n next f q unmixed r is refl)
 
-pub is-left : {t s : List ℕ} {n next : Node} {before after : List ℤ} {p : Place} {r : Taken} → r ≡ left_at p → after ≡ before → Took t s n next before p r after
-is-left e same = record { left = λ l. same; taken = λ l. absurd (false≢true (sym (ap (λ (r : Taken). r.taken) e) ∙ l)) }
+pub is_left : {t s : List ℕ} {n next : Node} {before after : List ℤ} {p : Place} {r : Taken} → r ≡ left_at p → after ≡ before → Took t s n next before p r after
+is_left e same = record { left = λ l. same; taken = λ l. absurd (false≢true (sym (ap (λ (r : Taken). r.taken) e) ∙ l)) }
 
 -- of two tests one passed, and not the second
-or-first : (a : Bool) {b : Bool} → (a || b) ≡ true → b ≡ false → a ≡ true
-or-first true e f = refl
-or-first false e f = absurd (true≢false (sym e ∙ f))
+or_first : (a : Bool) {b : Bool} → (a || b) ≡ true → b ≡ false → a ≡ true
+or_first true e f = refl
+or_first false e f = absurd (true≢false (sym e ∙ f))
 
 -- the same of what the code has: the digits d, the task, the mode, and the place after the spaces that follow
-module _ (t s : List ℕ) (n next : Node) (before : List ℤ) (p : Place) {after : List ℤ} {after-spaces : Place} {d : Short} {task : Task} {new : ℕ} {put : Bool}
-    (d-is : d ≡ short_at s p.at) (task-is : task ≡ task_of n.pattern) (New-is : new ≡ (pattern_of n.pattern).mode)
+module _ (t s : List ℕ) (n next : Node) (before : List ℤ) (p : Place) {after : List ℤ} {after_spaces : Place} {d : Short} {task : Task} {new : ℕ} {put : Bool}
+    (d_is : d ≡ short_at s p.at) (task_is : task ≡ task_of n.pattern) (new_is : new ≡ (pattern_of n.pattern).mode)
   where
-    pub is-taken
+    pub is_taken
         : task.kind ≡ number → ordinal n.suffix ≡ false → p.fx ≡ 0 → (d.end ≡ p.at → ⊥) → (eqb (d.end - p.at) task.operand || is_free t n next) ≡ true
         → NumberPut new task (pos d.value) (d.end - p.at) before put after → put ≡ true
-        → after-spaces ≡ past_field s (place d.end 0 false)
-        → read (fields_of after) after-spaces ≡ action_read t s n next (fields_of before) (entered_by s (not (eqb (task_of n.pattern).kind exact)) p)
-    is-taken kind bare inexact moved fits was-put held place_is =
-        let put_is = rw (d-is, task-is, New-is) at was-put in
+        → after_spaces ≡ past_field s (place d.end 0 false)
+        → read (fields_of after) after_spaces ≡ action_read t s n next (fields_of before) (entered_by s (not (eqb (task_of n.pattern).kind exact)) p)
+    is_taken kind bare inexact moved fits was_put held place_is =
+        let put_is = rw (d_is, task_is, new_is) at was_put in
         let end = (short_at s p.at).end in
-        let wide : is_free t n next ≡ false → end - p.at ≡ (task_of n.pattern).operand = λ f. eqb-true (end - p.at) (task_of n.pattern).operand (or-first (eqb (end - p.at) (task_of n.pattern).operand) (rw (d-is, task-is) at fits) f) in
-        rw (place_is, d-is)
+        let wide : is_free t n next ≡ false → end - p.at ≡ (task_of n.pattern).operand = λ f. eqb-true (end - p.at) (task_of n.pattern).operand (or_first (eqb (end - p.at) (task_of n.pattern).operand) (rw (d_is, task_is) at fits) f) in
+        rw (place_is, d_is)
         (ap (λ (g : Fields). read g (past_field s (place end 0 false))) (put_is.put held)
-        ∙ plainly t s n next (fields_of before) p (rw task-is at kind) bare inexact (rw d-is at moved) wide (put_is.unmixed held) (put_is.alone held))
+        ∙ plainly t s n next (fields_of before) p (rw task_is at kind) bare inexact (rw d_is at moved) wide (put_is.unmixed held) (put_is.alone held))
 
 -- node i of the nodes ns, where something of the input is left
 module _ (t s : List ℕ) (ns : List Node) (whole : Reading) (i : ℕ) (f : Fields) (p : Place) (turned : Turned t s ns whole i f p) (h : i < length ns) (l : p.at < length s)
     (n : Node) (e : n ≡ get_or ns i end_node)
   where
-    pub of-pattern
+    pub of_pattern
         : n.kind ≡ 1 → {g : Fields} {q : Place} → read g q ≡ action_read t s n (get_or ns (i + 1) end_node) f (entered_by s (not (eqb (task_of n.pattern).kind exact)) p)
         → Turned t s ns whole (i + 1) g q
     unfolding node_read entered
-    of-pattern k is = passes t s ns whole i f p turned h l n (get_or ns (i + 1) end_node) e refl _ _ (rw (eq-eqb n.kind 1 k) is)
+    of_pattern k is = passes t s ns whole i f p turned h l n (get_or ns (i + 1) end_node) e refl _ _ (rw (eq-eqb n.kind 1 k) is)
 
-    pub of-literal : (n.kind ≡ 1 → ⊥) → Turned t s ns whole (i + 1) f (literal_passed s n (entered_by s (eqb i 0) p))
+    pub of_literal : (n.kind ≡ 1 → ⊥) → Turned t s ns whole (i + 1) f (literal_passed s n (entered_by s (eqb i 0) p))
     unfolding node_read entered
-    of-literal k = passes t s ns whole i f p turned h l n (get_or ns (i + 1) end_node) e refl _ _ (rw (ne_eqb n.kind 1 k) refl)
+    of_literal k = passes t s ns whole i f p turned h l n (get_or ns (i + 1) end_node) e refl _ _ (rw (ne_eqb n.kind 1 k) refl)
 
     -- a character for which no skipped space can pay
-    pub of-character : (at : ℕ) → p ≡ place at 0 false → n.kind ≡ 2 → (i ≡ 0 → ⊥) → Turned t s ns whole (i + 1) f (place (at + measure_of n.accents s at) 0 false)
+    pub of_character : (at : ℕ) → p ≡ place at 0 false → n.kind ≡ 2 → (i ≡ 0 → ⊥) → Turned t s ns whole (i + 1) f (place (at + measure_of n.accents s at) 0 false)
     unfolding literal_passed
-    of-character at q k later = rw (q, ne_eqb i 0 later, k) at (of-literal (λ z. absurd (omega (arith, k, z))))
+    of_character at q k later = rw (q, ne_eqb i 0 later, k) at (of_literal (λ z. absurd (omega (arith, k, z))))
 
 -- a place without skipped spaces, before FX
 pub settled : (p : Place) → p.extra ≡ 0 → p.fx ≡ 0 → p ≡ place p.at 0 false

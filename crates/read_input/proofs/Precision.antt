@@ -1,6 +1,6 @@
 -- The digits of a fraction, as fields keep them, are 0 to 6, whatever the nodes and the input. Assumes nothing.
 -- `Precise`: the field has a number from 0 to 6.
--- `read-precise`: so it is in the fields that any nodes read.
+-- `read_precise`: so it is in the fields that any nodes read.
 use mathlib.Core.Path.{◌≡◌, refl, ◌∙◌}
 use mathlib.Core.Bool.{Bool, true, false, not, ◌&&◌, ◌||◌}
 use mathlib.Core.List.{List, [], ◌∷◌}
@@ -14,7 +14,7 @@ use lib.ListN.{length}
 use lib.Seq.{get_or-set_same, get_or-set_other, set_out}
 use Rattle.base_notation.specs.Text.{byte_at}
 use Rattle.base_chars.specs.Class.{is_letter}
-use Rattle.base_notation.proofs.Cases.{by-if, both}
+use Rattle.base_notation.proofs.Cases.{by_if, both}
 use Rattle.read_integers.specs.Suffix.{is_free}
 use Rattle.read_integers.specs.declared.Number.{Number}
 use Rattle.read_integers.specs.declared.Number.TheVariants.{Read as Integer, Refused as NoInteger}
@@ -23,7 +23,7 @@ use Rattle.template_nodes.specs.Template.{action}
 use Rattle.template_nodes.specs.declared.Node.{Node}
 use Rattle.read_fields.specs.Fields.{conflicts, get, put, no_fields, onward, is_zero, mode, clock, yysz, tzsign, tzh, tzm, ff}
 use Rattle.read_fields.specs.Tasks.{number, word, exact, dropped, comma_year, offset, offset_minutes, fraction, hour12, whole_year, part_year, odd_hour12, hours, no_letter, task_of}
-use Rattle.read_fields.proofs.Assigned.{each-task}
+use Rattle.read_fields.proofs.Assigned.{each_task}
 use Rattle.read_fields.specs.declared.Fields.{Fields}
 use Rattle.read_fields.specs.declared.Place.{Place}
 use Rattle.read_fields.specs.declared.Reading.{Reading}
@@ -71,55 +71,55 @@ takes_number t = eqb t.kind number || eqb t.kind comma_year
 abbrev precise : Task → Bool
 precise t = ltb t.field 23 && (not (takes_number t && eqb t.rule fraction) || ltb t.operand 7)
 
-task-precise : (k : ℕ) → precise (task_of k) ≡ true
+task_precise : (k : ℕ) → precise (task_of k) ≡ true
 unfolding task_of
-task-precise = each-task precise refl refl
+task_precise = each_task precise refl refl
 
 -- what else a number notes, and a word; the sign of an offset; the date mode
-noted-precise : (rule width : ℕ) (f : Fields) → (eqb rule fraction ≡ true → width ≤ 6) → Precise f → Precise (noted rule width f)
+noted_precise : (rule width : ℕ) (f : Fields) → (eqb rule fraction ≡ true → width ≤ 6) → Precise f → Precise (noted rule width f)
 unfolding noted
-noted-precise rule width f few h =
-    by-if Precise (eqb rule hour12) _ _ (λ e. other f h clock (pos 12) (lit< tt))
-    (λ e. by-if Precise (eqb rule whole_year) _ _ (λ e. other f h yysz (pos 4) (lit< tt))
-    (λ e. by-if Precise (eqb rule part_year) _ _ (λ e. other f h yysz (pos width) (lit< tt))
-    (λ e. by-if Precise (eqb rule fraction) _ _ (λ e. digits f h width (few e)) (λ e. h))))
+noted_precise rule width f few h =
+    by_if Precise (eqb rule hour12) _ _ (λ e. other f h clock (pos 12) (lit< tt))
+    (λ e. by_if Precise (eqb rule whole_year) _ _ (λ e. other f h yysz (pos 4) (lit< tt))
+    (λ e. by_if Precise (eqb rule part_year) _ _ (λ e. other f h yysz (pos width) (lit< tt))
+    (λ e. by_if Precise (eqb rule fraction) _ _ (λ e. digits f h width (few e)) (λ e. h))))
 
-word-noted : (rule : ℕ) (f : Fields) → Precise f → Precise (noted_word rule f)
-word-noted rule f h = by-if Precise (eqb rule odd_hour12) _ _ (λ e. other f h clock (pos 12) (lit< tt)) (λ e. h)
+word_noted : (rule : ℕ) (f : Fields) → Precise f → Precise (noted_word rule f)
+word_noted rule f h = by_if Precise (eqb rule odd_hour12) _ _ (λ e. other f h clock (pos 12) (lit< tt)) (λ e. h)
 
 signed : (f : Fields) → Precise f → Precise (with_sign f)
-signed f h = by-if Precise (is_zero (get f tzsign)) _ _ (λ e. other f h tzsign (pos 1) (lit< tt)) (λ e. h)
+signed f h = by_if Precise (is_zero (get f tzsign)) _ _ (λ e. other f h tzsign (pos 1) (lit< tt)) (λ e. h)
 
-in-mode : (new : ℕ) (f : Fields) → Precise f → Precise (with_mode new f)
-in-mode new f h = by-if Precise (eqb new 0) _ _ (λ e. h) (λ e. other f h mode (pos new) (lit< tt))
+in_mode : (new : ℕ) (f : Fields) → Precise f → Precise (with_mode new f)
+in_mode new f h = by_if Precise (eqb new 0) _ _ (λ e. h) (λ e. other f h mode (pos new) (lit< tt))
 
 -- a number or a word that is stored
 module _ (s : List ℕ) (n : Node) (f : Fields) (p : Place) (h : Precise f) where
-  stored-number : (task : Task) → task.field < 23 → (eqb task.rule fraction ≡ true → task.operand ≤ 6) → (z : Number)
+  stored_number_lem : (task : Task) → task.field < 23 → (eqb task.rule fraction ≡ true → task.operand ≤ 6) → (z : Number)
       → PreciseIn (stored_number s n task z f p)
   unfolding stored_number
-  stored-number task l few (NoInteger why) = h
-  stored-number task l few (Integer z next) =
-      by-if PreciseIn (conflicts (get f task.field) z) _ _ (λ e. h)
-      (λ e. noted-precise task.rule task.operand _ few (other f h task.field (kept task.rule z (next - p.at)) l))
+  stored_number_lem task l few (NoInteger why) = h
+  stored_number_lem task l few (Integer z next) =
+      by_if PreciseIn (conflicts (get f task.field) z) _ _ (λ e. h)
+      (λ e. noted_precise task.rule task.operand _ few (other f h task.field (kept task.rule z (next - p.at)) l))
 
-  dropped-number : (z : Number) → PreciseIn (dropped_number s n z f p)
+  dropped_number_lem : (z : Number) → PreciseIn (dropped_number s n z f p)
   unfolding dropped_number
-  dropped-number (NoInteger why) = h
-  dropped-number (Integer z next) = h
+  dropped_number_lem (NoInteger why) = h
+  dropped_number_lem (Integer z next) = h
 
-  stored-word : (task : Task) → task.field < 23 → (w : Word) → PreciseIn (stored_word n task w f p)
+  stored_word_lem : (task : Task) → task.field < 23 → (w : Word) → PreciseIn (stored_word n task w f p)
   unfolding stored_word
-  stored-word task l Nothing = h
-  stored-word task l (At k len) =
+  stored_word_lem task l Nothing = h
+  stored_word_lem task l (At k len) =
       let z = meant task.rule k in
-      by-if PreciseIn (conflicts (get f task.field) (pos z)) _ _ (λ e. h)
-      (λ e. word-noted task.rule _ (other f h task.field (pos (kept_word task.rule z)) l))
+      by_if PreciseIn (conflicts (get f task.field) (pos z)) _ _ (λ e. h)
+      (λ e. word_noted task.rule _ (other f h task.field (pos (kept_word task.rule z)) l))
 
-  stored-offset : (field : ℕ) → field < 23 → (z : Number) → PreciseIn (stored_offset n field z f p)
+  stored_offset_lem : (field : ℕ) → field < 23 → (z : Number) → PreciseIn (stored_offset n field z f p)
   unfolding stored_offset
-  stored-offset field l (NoInteger why) = h
-  stored-offset field l (Integer z next) = by-if PreciseIn (conflicts (get f field) z) _ _ (λ e. h) (λ e. other f h field z l)
+  stored_offset_lem field l (NoInteger why) = h
+  stored_offset_lem field l (Integer z next) = by_if PreciseIn (conflicts (get f field) z) _ _ (λ e. h) (λ e. other f h field z l)
 
 -- one reading after another
 went_on : (v : Verdict) (r rest : Reading) → PreciseIn r → PreciseIn rest → PreciseIn (onward v r rest)
@@ -128,20 +128,20 @@ went_on (Refused why) r rest h k = h
 
 -- an offset: hours, then minutes
 module _ (s : List ℕ) (n : Node) (free : Bool) where
-  colon-minutes : (rule : ℕ) (f : Fields) (p : Place) → Precise f → PreciseIn (colon_minutes s n free rule f p)
+  colon_minutes_lem : (rule : ℕ) (f : Fields) (p : Place) → Precise f → PreciseIn (colon_minutes s n free rule f p)
   unfolding colon_minutes
-  colon-minutes rule f p h =
-      by-if PreciseIn (not (eqb rule hours) && eqb (byte_at s p.at) (code ":")) _ _ (λ e. stored-offset s n f p h tzm (lit< tt) _) (λ e. h)
+  colon_minutes_lem rule f p h =
+      by_if PreciseIn (not (eqb rule hours) && eqb (byte_at s p.at) (code ":")) _ _ (λ e. stored_offset_lem s n f p h tzm (lit< tt) _) (λ e. h)
 
-  then-minutes : (rule : ℕ) (r : Reading) → PreciseIn r → PreciseIn (then_minutes s n free rule r)
+  then_minutes_lem : (rule : ℕ) (r : Reading) → PreciseIn r → PreciseIn (then_minutes s n free rule r)
   unfolding then_minutes
-  then-minutes rule r h = went_on r.verdict r _ h (colon-minutes rule r.fields r.place h)
+  then_minutes_lem rule r h = went_on r.verdict r _ h (colon_minutes_lem rule r.fields r.place h)
 
-  read-offset : (task : Task) (f : Fields) (p : Place) → Precise f → PreciseIn (read_offset s n free task f p)
+  read_offset_lem : (task : Task) (f : Fields) (p : Place) → Precise f → PreciseIn (read_offset s n free task f p)
   unfolding read_offset
-  read-offset task f p h =
-      by-if PreciseIn (eqb task.rule no_letter && is_letter (byte_at s p.at)) _ _ (λ e. h)
-      (λ e. then-minutes task.rule _ (stored-offset s n (put f tzsign (sign_of s p)) p (other f h tzsign (sign_of s p) (lit< tt)) tzh (lit< tt) _))
+  read_offset_lem task f p h =
+      by_if PreciseIn (eqb task.rule no_letter && is_letter (byte_at s p.at)) _ _ (λ e. h)
+      (λ e. then_minutes_lem task.rule _ (stored_offset_lem s n (put f tzsign (sign_of s p)) p (other f h tzsign (sign_of s p) (lit< tt)) tzh (lit< tt) _))
 
   -- a pattern, by the kind of its task
   performed-precise : (task : Task) → precise task ≡ true → (f : Fields) (p : Place) → Precise f → PreciseIn (performed s n free task f p)
@@ -149,44 +149,44 @@ module _ (s : List ℕ) (n : Node) (free : Bool) where
   performed-precise task t f p h =
       let tests = both (ltb task.field 23) _ t in
       let field = ltb-true task.field 23 tests.0 in
-      by-if PreciseIn (takes_number task) _ _
-      (λ k. stored-number s n f p h task field (λ e. let small = ltb-true task.operand 7 (rw (k, e) at tests.1) in omega arith) _)
-      (λ k. by-if PreciseIn (eqb task.kind word) _ _ (λ e. stored-word s n f p h task field _)
-      (λ k. by-if PreciseIn (eqb task.kind exact) _ _ (λ e. h)
-      (λ k. by-if PreciseIn (eqb task.kind dropped) _ _ (λ e. dropped-number s n f p h _)
-      (λ k. by-if PreciseIn (eqb task.kind offset) _ _ (λ e. read-offset task f p h)
-      (λ k. by-if PreciseIn (eqb task.kind offset_minutes) _ _ (λ e. stored-offset s n (with_sign f) p (signed f h) tzm (lit< tt) _) (λ e. h))))))
+      by_if PreciseIn (takes_number task) _ _
+      (λ k. stored_number_lem s n f p h task field (λ e. let small = ltb-true task.operand 7 (rw (k, e) at tests.1) in omega arith) _)
+      (λ k. by_if PreciseIn (eqb task.kind word) _ _ (λ e. stored_word_lem s n f p h task field _)
+      (λ k. by_if PreciseIn (eqb task.kind exact) _ _ (λ e. h)
+      (λ k. by_if PreciseIn (eqb task.kind dropped) _ _ (λ e. dropped_number_lem s n f p h _)
+      (λ k. by_if PreciseIn (eqb task.kind offset) _ _ (λ e. read_offset_lem task f p h)
+      (λ k. by_if PreciseIn (eqb task.kind offset_minutes) _ _ (λ e. stored_offset_lem s n (with_sign f) p (signed f h) tzm (lit< tt) _) (λ e. h))))))
 
 -- a node, and all of them
 module _ (t s : List ℕ) where
-  when-read : (v : Verdict) (r : Reading) (p : Place) → PreciseIn r → PreciseIn (when_read v (past_spaces s r) p)
+  when_read_lem : (v : Verdict) (r : Reading) (p : Place) → PreciseIn r → PreciseIn (when_read v (past_spaces s r) p)
   unfolding past_spaces
-  when-read Read r p h = h
-  when-read (Refused why) r p h = none
+  when_read_lem Read r p h = h
+  when_read_lem (Refused why) r p h = none
 
-  action-read : (n next : Node) (f : Fields) (p : Place) → Precise f → PreciseIn (action_read t s n next f p)
+  action_read_lem : (n next : Node) (f : Fields) (p : Place) → Precise f → PreciseIn (action_read t s n next f p)
   unfolding action_read
-  action-read n next f p h =
+  action_read_lem n next f p h =
       let new = (pattern_of n.pattern).mode in
       let r = performed s n (is_free t n next) (task_of n.pattern) (with_mode new f) p in
-      by-if PreciseIn (mixes new (get f mode)) _ _ (λ e. none)
-      (λ e. when-read r.verdict r p
-      (performed-precise s n (is_free t n next) (task_of n.pattern) (task-precise n.pattern) (with_mode new f) p (in-mode new f h)))
+      by_if PreciseIn (mixes new (get f mode)) _ _ (λ e. none)
+      (λ e. when_read_lem r.verdict r p
+      (performed-precise s n (is_free t n next) (task_of n.pattern) (task_precise n.pattern) (with_mode new f) p (in_mode new f h)))
 
-  node-read : (n next : Node) (first : Bool) (f : Fields) (p : Place) → Precise f → PreciseIn (node_read t s n next first f p)
+  node_read_lem : (n next : Node) (first : Bool) (f : Fields) (p : Place) → Precise f → PreciseIn (node_read t s n next first f p)
   unfolding node_read
-  node-read n next first f p h =
-      by-if PreciseIn (eqb n.kind action) _ _ (λ e. action-read n next f (entered s n first p) h) (λ e. h)
+  node_read_lem n next first f p h =
+      by_if PreciseIn (eqb n.kind action) _ _ (λ e. action_read_lem n next f (entered s n first p) h) (λ e. h)
 
   from : (ns : List Node) (first : Bool) (f : Fields) (p : Place) → Precise f → PreciseIn (read_from t s ns first f p)
   unfolding read_from
   from [] first f p h = h
   from (n ∷ ns) first f p h =
       let r = node_read t s n (head_of ns) first f p in
-      let is-precise = node-read n (head_of ns) first f p h in
-      by-if PreciseIn (ltb p.at (length s)) _ _
-      (λ e. went_on r.verdict r _ is-precise (from ns false r.fields r.place is-precise)) (λ e. h)
+      let is_precise = node_read_lem n (head_of ns) first f p h in
+      by_if PreciseIn (ltb p.at (length s)) _ _
+      (λ e. went_on r.verdict r _ is_precise (from ns false r.fields r.place is_precise)) (λ e. h)
 
-  pub read-precise : (ns : List Node) → PreciseIn (read_all t s ns)
+  pub read_precise : (ns : List Node) → PreciseIn (read_all t s ns)
   unfolding read_all
-  read-precise ns = from ns true no_fields (place 0 0 false) none
+  read_precise ns = from ns true no_fields (place 0 0 false) none

@@ -1,8 +1,8 @@
 -- The loop over the nodes: what is left, read from where reading is, gives the whole. Assumes nothing.
 -- `begun`: so before the first node.
--- `then-on`: so after nodes that were read.
+-- `then_on`: so after nodes that were read.
 -- `goes_on`, `passes`: so after a pattern that is read, and after any node that is.
--- `input-ends`, `template-ends`: at the end of the input or of the nodes, what was read is the whole.
+-- `input_ends`, `template_ends`: at the end of the input or of the nodes, what was read is the whole.
 -- `stops`: at a pattern that is refused, the refusal is the whole.
 use mathlib.Core.Path.{◌≡◌, ◌∙◌, refl, sym, ap}
 use mathlib.Core.Bool.{Bool, true, false, not}
@@ -27,28 +27,28 @@ use Rattle.read_fields.specs.declared.Place.{Place}
 use Rattle.read_fields.specs.declared.Reading.{Reading}
 use Rattle.read_fields.specs.declared.Verdict.{Verdict}
 use Rattle.read_fields.specs.declared.Verdict.TheVariants.{Read, Refused}
-use Rattle.read_input.proofs.Payable.{payable-action, payable-node}
+use Rattle.read_input.proofs.Payable.{payable_action, payable_node}
 
 pub begun : (t s : List ℕ) (ns : List Node) → Turned t s ns (read_all t s ns) 0 no_fields (place 0 0 false)
 unfolding read_all
 begun t s ns = record { within = omega arith; none = λ e. refl; payable = λ e. omega arith; left = refl }
 
 -- past the end of the input, and of the nodes, nothing more is read
-at-end : (t s : List ℕ) (ns : List Node) (first : Bool) (f : Fields) (p : Place) → length s ≤ p.at → read_from t s ns first f p ≡ read f p
+at_end : (t s : List ℕ) (ns : List Node) (first : Bool) (f : Fields) (p : Place) → length s ≤ p.at → read_from t s ns first f p ≡ read f p
 unfolding read_from
-at-end t s [] first f p h = refl
-at-end t s (n ∷ ns) first f p h = rw (le-ltb p.at (length s) h)
+at_end t s [] first f p h = refl
+at_end t s (n ∷ ns) first f p h = rw (le-ltb p.at (length s) h)
 
 no_node : (t s : List ℕ) (ns : List Node) (i : ℕ) (first : Bool) (f : Fields) (p : Place) → length ns ≤ i → read_from t s (drop i ns) first f p ≡ read f p
 unfolding read_from
 no_node t s ns i first f p h = rw (drop_of_length-le ns h)
 
 -- the first of what is left is the next node
-head-is : (ns : List Node) (k : ℕ) → head_of (drop k ns) ≡ get_or ns k end_node
-head-is [] zero = refl
-head-is [] (suc k) = refl
-head-is (n ∷ ns) zero = refl
-head-is (n ∷ ns) (suc k) = head-is ns k
+head_is : (ns : List Node) (k : ℕ) → head_of (drop k ns) ≡ get_or ns k end_node
+head_is [] zero = refl
+head_is [] (suc k) = refl
+head_is (n ∷ ns) zero = refl
+head_is (n ∷ ns) (suc k) = head_is ns k
 
 -- one node is read, then the rest
 one : (t s : List ℕ) (ns : List Node) (i : ℕ) (first : Bool) (f : Fields) (p : Place) → i < length ns → p.at < length s
@@ -57,18 +57,18 @@ one : (t s : List ℕ) (ns : List Node) (i : ℕ) (first : Bool) (f : Fields) (p
     → read_from t s (drop i ns) first f p ≡ onward r.verdict r (read_from t s (drop (suc i) ns) false r.fields r.place)
 unfolding read_from
 one t s ns i first f p h l n next e q r is =
-    rw (drop-cons ns i end_node h, head-is ns (suc i), ← e, ← q, ← is, lt-ltb p.at (length s) l)
+    rw (drop-cons ns i end_node h, head_is ns (suc i), ← e, ← q, ← is, lt-ltb p.at (length s) l)
 
 module _ (t s : List ℕ) (ns : List Node) (whole : Reading) (i : ℕ) (f : Fields) (p : Place) (turned : Turned t s ns whole i f p) where
-  pub input-ends : length s ≤ p.at → read f p ≡ whole
-  input-ends h = sym (at-end t s (drop i ns) (eqb i 0) f p h) ∙ turned.left
+  pub input_ends : length s ≤ p.at → read f p ≡ whole
+  input_ends h = sym (at_end t s (drop i ns) (eqb i 0) f p h) ∙ turned.left
 
-  pub template-ends : length ns ≤ i → read f p ≡ whole
-  template-ends h = sym (no_node t s ns i (eqb i 0) f p h) ∙ turned.left
+  pub template_ends : length ns ≤ i → read f p ≡ whole
+  template_ends h = sym (no_node t s ns i (eqb i 0) f p h) ∙ turned.left
 
   -- what was to be read from here on, and is read up to node j
-  pub then-on : {j : ℕ} {g : Fields} {q : Place} → Turned t s ns (read_from t s (drop i ns) (eqb i 0) f p) j g q → Turned t s ns whole j g q
-  then-on then = record { within = then.within; none = then.none; payable = then.payable; left = then.left ∙ turned.left }
+  pub then_on : {j : ℕ} {g : Fields} {q : Place} → Turned t s ns (read_from t s (drop i ns) (eqb i 0) f p) j g q → Turned t s ns whole j g q
+  then_on then = record { within = then.within; none = then.none; payable = then.payable; left = then.left ∙ turned.left }
 
   module _ (h : i < length ns) (l : p.at < length s) (n next : Node) (e : n ≡ get_or ns i end_node) (q : next ≡ get_or ns (i + 1) end_node) where
     -- what one node reads, and the rest after it, give the whole
@@ -76,8 +76,8 @@ module _ (t s : List ℕ) (ns : List Node) (whole : Reading) (i : ℕ) (f : Fiel
         → onward r.verdict r (read_from t s (drop (i + 1) ns) false r.fields r.place) ≡ whole
     turn r is = rw (add-one i) (sym (one t s ns i (eqb i 0) f p h l n next e (rw (add-one i) at q) r is) ∙ turned.left)
 
-    next-turn : (r : Reading) → r ≡ node_read t s n next (eqb i 0) f p → r.verdict ≡ Read → Payable s r.place → Turned t s ns whole (i + 1) r.fields r.place
-    next-turn r is v pay =
+    next_turn : (r : Reading) → r ≡ node_read t s n next (eqb i 0) f p → r.verdict ≡ Read → Payable s r.place → Turned t s ns whole (i + 1) r.fields r.place
+    next_turn r is v pay =
         record {
           within = omega arith;
           none = λ z. absurd (omega arith);
@@ -99,11 +99,11 @@ module _ (t s : List ℕ) (ns : List Node) (whole : Reading) (i : ℕ) (f : Fiel
 
         pub goes_on : r.verdict ≡ Read → Turned t s ns whole (i + 1) r.fields r.place
         goes_on v =
-            next-turn r node v
-            (rw (← is) at (payable-action s f (entered_by s (not (eqb (task_of n.pattern).kind exact)) p) t n next (rw is at v)))
+            next_turn r node v
+            (rw (← is) at (payable_action s f (entered_by s (not (eqb (task_of n.pattern).kind exact)) p) t n next (rw is at v)))
 
     -- a node that is read, whichever it is
     pub passes : (g : Fields) (q : Place) → read g q ≡ node_read t s n next (eqb i 0) f p → Turned t s ns whole (i + 1) g q
     passes g q is =
-        next-turn (read g q) is refl
-        (rw (← is) at (payable-node s n next f p (eqb i 0) t turned.payable (λ z. turned.none (eqb-true i 0 z)) (sym (ap (λ (r : Reading). r.verdict) is))))
+        next_turn (read g q) is refl
+        (rw (← is) at (payable_node s n next f p (eqb i 0) t turned.payable (λ z. turned.none (eqb-true i 0 z)) (sym (ap (λ (r : Reading). r.verdict) is))))

@@ -1,8 +1,8 @@
 -- A pattern by the verdict on what it read. Assumes nothing.
 -- `stopped`, `passed`: what is read, by the definition, where the verdict is a refusal and where it is not.
--- `verdict-refused`, `verdict-read`: an outcome is the reading `r`, of which a refusal needs no fields.
+-- `verdict_refused`, `verdict_read`: an outcome is the reading `r`, of which a refusal needs no fields.
 -- `read_is`: and back: the outcome with its fields is `r`.
--- `whole-went`: an outcome is that of the whole, if the whole is the reading `r`.
+-- `whole_went`: an outcome is that of the whole, if the whole is the reading `r`.
 use mathlib.Core.Path.{◌≡◌, ◌∙◌, ap, subst, sym}
 use mathlib.Core.Bool.{false}
 use mathlib.Core.List.{List}
@@ -39,16 +39,16 @@ module _ (t s : List ℕ) (n next : Node) (f : Fields) (p : Place)
 
 -- what holds of an outcome, by the verdict
 module _ {r : Reading} {o : Outcome} {values : List ℤ} where
-  pub verdict-refused : {why : Refusal} {p : Place} → o ≡ went (Refused why) p → refuse why no_fields p ≡ r → Went r o values
-  verdict-refused e is =
+  pub verdict_refused : {why : Refusal} {p : Place} → o ≡ went (Refused why) p → refuse why no_fields p ≡ r → Went r o values
+  verdict_refused e is =
       record {
         verdict = ap (λ (x : Outcome). x.verdict) e ∙ ap (λ (x : Reading). x.verdict) is;
         place = ap (λ (x : Outcome). x.place) e ∙ ap (λ (x : Reading). x.place) is;
         fields = λ v. absurd (never (sym (ap (λ (x : Outcome). x.verdict) e) ∙ v));
       }
 
-  pub verdict-read : read_into o values ≡ r → Went r o values
-  verdict-read is =
+  pub verdict_read : read_into o values ≡ r → Went r o values
+  verdict_read is =
       record {
         verdict = ap (λ (x : Reading). x.verdict) is;
         place = ap (λ (x : Reading). x.place) is;
@@ -60,5 +60,5 @@ module _ {r : Reading} {o : Outcome} {values : List ℤ} where
   read_is w v = λ i. record { verdict = w.verdict i; fields = w.fields v i; place = w.place i }
 
 -- what holds of an outcome for a reading holds for one that is the same
-pub whole-went : {r whole : Reading} {o : Outcome} {values : List ℤ} → Went r o values → r ≡ whole → Went whole o values
-whole-went {o = o} {values = values} went e = subst (λ (w : Reading). Went w o values) e went
+pub whole_went : {r whole : Reading} {o : Outcome} {values : List ℤ} → Went r o values → r ≡ whole → Went whole o values
+whole_went {o = o} {values = values} went e = subst (λ (w : Reading). Went w o values) e went

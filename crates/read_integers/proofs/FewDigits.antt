@@ -1,7 +1,7 @@
 -- A number of few digits right at a place. Assumes nothing.
--- `few-digits`: it is read the same by its width and free, where it has as many digits as the width; and free in any
+-- `few_digits`: it is read the same by its width and free, where it has as many digits as the width; and free in any
 -- case.
--- `few-no-space`: no space is before it.
+-- `few_no_space`: no space is before it.
 use mathlib.Core.Path.{◌≡◌, ◌∙◌, refl, sym, ap}
 use mathlib.Core.Bool.{Bool, true, false}
 use mathlib.Core.List.{List, [], ◌∷◌}
@@ -12,35 +12,35 @@ use borrow.Author.Tests.{lt-ltb, le-ltb, ltb-true}
 use lib.Dec.{eqb, ltb}
 use lib.IntN.{pos}
 use lib.ListN.{length, take, drop, length-drop}
-use Rattle.base_notation.proofs.Cases.{by-if}
+use Rattle.base_notation.proofs.Cases.{by_if}
 use Rattle.base_chars.specs.Class.{is_digit}
 use Rattle.base_strtol.specs.Runs.{leading, spaces, digits, number, number_from}
 use Rattle.base_strtol.specs.Strtol.{answer, short_at, strtol}
 use Rattle.base_strtol.specs.declared.Short.{Short}
-use Rattle.base_strtol.proofs.FewDigits.{short-small, short-strtol}
-use Rattle.base_strtol.proofs.Leading.{leading-within}
-use Rattle.base_strtol.proofs.Unsigned.{no-space}
+use Rattle.base_strtol.proofs.FewDigits.{short_small, short_strtol}
+use Rattle.base_strtol.proofs.Leading.{leading_within}
+use Rattle.base_strtol.proofs.Unsigned.{no_space}
 use Rattle.read_integers.specs.declared.Number.{Number}
 use Rattle.read_integers.specs.declared.Number.TheVariants.{Read}
 use Rattle.read_integers.specs.Number.{checked, fixed_at, number_at}
 use Rattle.read_integers.proofs.Numbers.{accepted}
 
 -- the digits in front, taken alone, are as many, and are the same number
-digits-taken : (u : List ℕ) → digits (take (digits u) u) ≡ digits u
+digits_taken : (u : List ℕ) → digits (take (digits u) u) ≡ digits u
 unfolding leading
-digits-taken [] = refl
-digits-taken (b ∷ u) =
+digits_taken [] = refl
+digits_taken (b ∷ u) =
     (elim (is_digit b) as (λ q. is_digit b ≡ q → digits (take (digits (b ∷ u)) (b ∷ u)) ≡ digits (b ∷ u)) [
-      | true ↦ λ e. rw e (rw e (omega (arith, digits-taken u)))
+      | true ↦ λ e. rw e (rw e (omega (arith, digits_taken u)))
       | false ↦ λ e. rw e refl
     ]) refl
 
-number-taken : (n : ℕ) (u : List ℕ) → number_from n (take (digits u) u) ≡ number_from n u
+number_taken : (n : ℕ) (u : List ℕ) → number_from n (take (digits u) u) ≡ number_from n u
 unfolding leading number_from
-number-taken n [] = refl
-number-taken n (b ∷ u) =
+number_taken n [] = refl
+number_taken n (b ∷ u) =
     (elim (is_digit b) as (λ q. is_digit b ≡ q → number_from n (take (digits (b ∷ u)) (b ∷ u)) ≡ number_from n (b ∷ u)) [
-      | true ↦ λ e. rw e (rw e (number-taken (n * 10 + (b - 48)) u))
+      | true ↦ λ e. rw e (rw e (number_taken (n * 10 + (b - 48)) u))
       | false ↦ λ e. rw e refl
     ]) refl
 
@@ -52,12 +52,12 @@ module _ (s : List ℕ) (at pattern width : ℕ) (moved : (short_at s at).end �
   whole : ((short_at s at).end ≡ at + digits u) × ((short_at s at).value ≡ number u) × (number u < 1000000000)
   unfolding short_at
   whole =
-      by-if (λ (r : Short). (r.end ≡ at → ⊥) → (r.end ≡ at + digits u) × (r.value ≡ number u) × (number u < 1000000000)) (ltb (number u) 1000000000) _ _
+      by_if (λ (r : Short). (r.end ≡ at → ⊥) → (r.end ≡ at + digits u) × (r.value ≡ number u) × (number u < 1000000000)) (ltb (number u) 1000000000) _ _
       (λ e m. (refl, refl, ltb-true _ _ e)) (λ e m. absurd (m refl)) moved
 
   -- it passes the checks
   taken : checked pattern at (answer (pos (short_at s at).value) (short_at s at).end false) ≡ Read (pos (short_at s at).value) (short_at s at).end
-  taken = sym (accepted pattern at _ moved refl (lt-ltb (short_at s at).value (2 ^ 31) (omega (arith, short-small s at))))
+  taken = sym (accepted pattern at _ moved refl (lt-ltb (short_at s at).value (2 ^ 31) (omega (arith, short_small s at))))
 
   -- as many digits as the width
   module _ (count : digits u ≡ width) where
@@ -65,34 +65,34 @@ module _ (s : List ℕ) (at pattern width : ℕ) (moved : (short_at s at).end �
     alone : short_at (take width u) 0 ≡ record { value = (short_at s at).value; end = width }
     unfolding short_at
     alone =
-        let number_is : number (take width u) ≡ number u = rw (← count) (number-taken 0 u) in
-        let digits-is : digits (take width u) ≡ width = rw (← count) (digits-taken u) in
-        rw (number_is, digits-is, lt-ltb (number u) 1000000000 whole.2, zero-add) refl
+        let number_is : number (take width u) ≡ number u = rw (← count) (number_taken 0 u) in
+        let digits_is : digits (take width u) ≡ width = rw (← count) (digits_taken u) in
+        rw (number_is, digits_is, lt-ltb (number u) 1000000000 whole.2, zero-add) refl
 
     some : 0 < width
     some = omega (arith, whole.0, moved)
 
     in_field : strtol (take width u) 0 ≡ answer (pos (short_at s at).value) width false
-    in_field = rw alone at (short-strtol (take width u) 0 (rw alone (λ z. omega (arith, z, some))))
+    in_field = rw alone at (short_strtol (take width u) 0 (rw alone (λ z. omega (arith, z, some))))
 
     -- by its width
     fixed : fixed_at s at width pattern ≡ Read (pos (short_at s at).value) (short_at s at).end
     unfolding fixed_at
     fixed =
-        let no-spaces = no-space u (omega (arith, some)) in
-        let room : width ≤ length s - at = omega (arith, leading-within is_digit u, length-drop at s) in
+        let no_spaces = no_space u (omega (arith, some)) in
+        let room : width ≤ length s - at = omega (arith, leading_within is_digit u, length-drop at s) in
         let end_is : at + width ≡ (short_at s at).end = omega (arith, whole.0) in
-        rw (no-spaces, add-zero at, in_field, le-ltb (length s - at) width room, lt-ltb 0 width some, le-ltb width width (omega arith), end_is) taken
+        rw (no_spaces, add-zero at, in_field, le-ltb (length s - at) width room, lt-ltb 0 width some, le-ltb width width (omega arith), end_is) taken
 
   -- free
   free : checked pattern at (strtol s at) ≡ Read (pos (short_at s at).value) (short_at s at).end
-  free = ap (checked pattern at) (short-strtol s at moved) ∙ taken
+  free = ap (checked pattern at) (short_strtol s at moved) ∙ taken
 
-  pub few-digits : (is_free : Bool) → (is_free ≡ false → (short_at s at).end - at ≡ width) → number_at s at width pattern is_free ≡ Read (pos (short_at s at).value) (short_at s at).end
+  pub few_digits : (is_free : Bool) → (is_free ≡ false → (short_at s at).end - at ≡ width) → number_at s at width pattern is_free ≡ Read (pos (short_at s at).value) (short_at s at).end
   unfolding number_at
-  few-digits true h = free
-  few-digits false h = fixed (omega (arith, whole.0, h refl))
+  few_digits true h = free
+  few_digits false h = fixed (omega (arith, whole.0, h refl))
 
   -- no space is before it
-  pub few-no-space : spaces u ≡ 0
-  few-no-space = no-space u (omega (arith, whole.0, moved))
+  pub few_no_space : spaces u ≡ 0
+  few_no_space = no_space u (omega (arith, whole.0, moved))

@@ -2,7 +2,7 @@
 -- `accepted`: a number that was read and has 32 bits passes the checks.
 -- `short`, `narrow`, `whole`: the three answers for a fixed width: too few bytes, too few digits, and the checks.
 -- `part_end`: strtol ends within the part of the width.
--- `found-free`, `found-fixed`: an answer that is the definition's ends within the input.
+-- `found_free`, `found_fixed`: an answer that is the definition's ends within the input.
 use mathlib.Core.Path.{◌≡◌, ap, subst}
 use mathlib.Core.Bool.{Bool, true, false, not, ◌&&◌, ◌||◌}
 use mathlib.Core.List.{List}
@@ -12,14 +12,14 @@ use borrow.Author.Tests.{lt-ltb, le-ltb, ne_eqb, eqb-false, not-false}
 use lib.Dec.{eqb, ltb}
 use lib.IntN.{ℤ}
 use lib.ListN.{length, take, drop, length-take, length-drop}
-use Rattle.base_notation.proofs.Cases.{by-if, neither}
+use Rattle.base_notation.proofs.Cases.{by_if, neither}
 use Rattle.base_refusals.specs.declared.Refusal.TheVariants.{Short, Narrow}
 use Rattle.base_chars.specs.Class.{is_space}
 use Rattle.base_strtol.specs.Runs.{spaces}
 use Rattle.base_strtol.specs.Strtol.{strtol}
 use Rattle.base_strtol.specs.declared.Strtol.{Strtol}
-use Rattle.base_strtol.proofs.Leading.{leading-place}
-use Rattle.base_strtol.proofs.Places.{end-from, end-within}
+use Rattle.base_strtol.proofs.Leading.{leading_place}
+use Rattle.base_strtol.proofs.Places.{end_from, end_within}
 use Rattle.read_integers.specs.declared.Number.{Number}
 use Rattle.read_integers.specs.declared.Number.TheVariants.{Read, Refused}
 use Rattle.read_integers.specs.Number.{fits32, checked, fixed_at, number_at, Inside, Found}
@@ -33,15 +33,15 @@ accepted pattern start r n o f = rw (ne_eqb _ _ n, o, f)
 
 module _ (s : List ℕ) (at pattern : ℕ) where
   -- what the checks let through ends after its place and within the input
-  pub checked-inside : (r : Strtol) → at ≤ r.end → r.end ≤ length s → Inside s at (checked pattern at r)
+  pub checked_inside : (r : Strtol) → at ≤ r.end → r.end ≤ length s → Inside s at (checked pattern at r)
   unfolding checked
-  checked-inside r l h =
-      by-if (Inside s at) (eqb r.end at) _ _ (λ e. tt)
-      (λ e. by-if (Inside s at) (r.overflow || not (fits32 r.value)) _ _ (λ f. tt)
+  checked_inside r l h =
+      by_if (Inside s at) (eqb r.end at) _ _ (λ e. tt)
+      (λ e. by_if (Inside s at) (r.overflow || not (fits32 r.value)) _ _ (λ f. tt)
       (λ f. (omega (arith, eqb-false r.end at e), h, not-false _ (neither r.overflow _ f).1)))
 
-  pub free-inside : at ≤ length s → Inside s at (checked pattern at (strtol s at))
-  free-inside h = checked-inside (strtol s at) (end-from s at) (omega (arith, end-within s at))
+  pub free_inside : at ≤ length s → Inside s at (checked pattern at (strtol s at))
+  free_inside h = checked_inside (strtol s at) (end_from s at) (omega (arith, end_within s at))
 
   -- a number of fixed width: from is the place after the spaces
   module _ (width from : ℕ) (start : from ≡ at + spaces (drop at s)) where
@@ -66,34 +66,34 @@ module _ (s : List ℕ) (at pattern : ℕ) where
 
       -- the number ends within the part
       pub part_end : r.end ≤ width
-      part_end = omega (arith, end-within part 0, length-take width (drop from s), ap (λ (t : Strtol). t.end) is)
+      part_end = omega (arith, end_within part 0, length-take width (drop from s), ap (λ (t : Strtol). t.end) is)
 
   module _ (width : ℕ) (h : at ≤ length s) where
-    pub fixed-inside : Inside s at (fixed_at s at width pattern)
+    pub fixed_inside : Inside s at (fixed_at s at width pattern)
     unfolding fixed_at
-    fixed-inside =
+    fixed_inside =
         let from = at + spaces (drop at s) in
         let r = strtol (take width (drop from s)) 0 in
-        by-if (Inside s at) (ltb (length s - from) width) _ _ (λ e. tt)
-        (λ e. by-if (Inside s at) (ltb 0 r.end && ltb r.end width) _ _ (λ f. tt)
-        (λ f. checked-inside _ (omega arith) (omega (arith, leading-place is_space s at, end-within (take width (drop from s)) 0, length-take width (drop from s), length-drop from s))))
+        by_if (Inside s at) (ltb (length s - from) width) _ _ (λ e. tt)
+        (λ e. by_if (Inside s at) (ltb 0 r.end && ltb r.end width) _ _ (λ f. tt)
+        (λ f. checked_inside _ (omega arith) (omega (arith, leading_place is_space s at, end_within (take width (drop from s)) 0, length-take width (drop from s), length-drop from s))))
 
     -- what the function returns, in both cases
     module _ (free : Bool) (n : Number) where
-      pub found-free : free ≡ true → n ≡ checked pattern at (strtol s at) → Found s at (number_at s at width pattern free) n
+      pub found_free : free ≡ true → n ≡ checked pattern at (strtol s at) → Found s at (number_at s at width pattern free) n
       unfolding number_at
-      found-free e q = record { is = rw e q; inside = rw q (free-inside h) }
+      found_free e q = record { is = rw e q; inside = rw q (free_inside h) }
 
-      pub found-fixed : free ≡ false → n ≡ fixed_at s at width pattern → Found s at (number_at s at width pattern free) n
+      pub found_fixed : free ≡ false → n ≡ fixed_at s at width pattern → Found s at (number_at s at width pattern free) n
       unfolding number_at
-      found-fixed e q = record { is = rw e q; inside = rw q fixed-inside }
+      found_fixed e q = record { is = rw e q; inside = rw q fixed_inside }
 
     -- the same of the definition itself
-    pub number-inside : (free : Bool) → Inside s at (number_at s at width pattern free)
+    pub number_inside : (free : Bool) → Inside s at (number_at s at width pattern free)
     unfolding number_at
-    number-inside true = free-inside h
-    number-inside false = fixed-inside
+    number_inside true = free_inside h
+    number_inside false = fixed_inside
 
 -- the same of a number that was read, by its variant
-pub read-inside : {s : List ℕ} {at : ℕ} {n r : Number} {value : ℤ} {next : ℕ} → Found s at n r → r ≡ Read value next → Inside s at (Read value next)
-read-inside {s} {at} f e = subst (Inside s at) e f.inside
+pub read_inside : {s : List ℕ} {at : ℕ} {n r : Number} {value : ℤ} {next : ℕ} → Found s at n r → r ≡ Read value next → Inside s at (Read value next)
+read_inside {s} {at} f e = subst (Inside s at) e f.inside

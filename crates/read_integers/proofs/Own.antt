@@ -1,11 +1,11 @@
 -- A number that is refused names its own pattern. Assumes nothing.
--- `number-own`: where P holds of the pattern by which a number is read, it holds of the pattern that a refusal names.
+-- `number_own`: where P holds of the pattern by which a number is read, it holds of the pattern that a refusal names.
 use mathlib.Core.Bool.{Bool, true, false, not, ◌&&◌, ◌||◌}
 use mathlib.Core.List.{List}
 use Prim.Native.Nat.{ℕ, ◌+◌, ◌-◌}
 use lib.Dec.{eqb, ltb}
 use lib.ListN.{length, take, drop}
-use Rattle.base_notation.proofs.Cases.{by-if}
+use Rattle.base_notation.proofs.Cases.{by_if}
 use Rattle.base_refusals.specs.Report.{report_of}
 use Rattle.base_strtol.specs.Runs.{spaces}
 use Rattle.base_strtol.specs.Strtol.{strtol}
@@ -20,21 +20,21 @@ NumberNames P (Read value next) = Unit {0}
 NumberNames P (Refused why) = P (report_of why).pattern
 
 module _ (P : ℕ → Type 0) (pattern : ℕ) (own : P pattern) (s : List ℕ) (at : ℕ) where
-  checked-own : (r : Strtol) → NumberNames P (checked pattern at r)
+  checked_own : (r : Strtol) → NumberNames P (checked pattern at r)
   unfolding checked report_of
-  checked-own r =
-      by-if (NumberNames P) (eqb r.end at) _ _ (λ e. own)
-      (λ e. by-if (NumberNames P) (r.overflow || not (fits32 r.value)) _ _ (λ f. own) (λ f. tt))
+  checked_own r =
+      by_if (NumberNames P) (eqb r.end at) _ _ (λ e. own)
+      (λ e. by_if (NumberNames P) (r.overflow || not (fits32 r.value)) _ _ (λ f. own) (λ f. tt))
 
-  fixed-own : (width : ℕ) → NumberNames P (fixed_at s at width pattern)
+  fixed_own : (width : ℕ) → NumberNames P (fixed_at s at width pattern)
   unfolding fixed_at report_of
-  fixed-own width =
+  fixed_own width =
       let from = at + spaces (drop at s) in
       let r = strtol (take width (drop from s)) 0 in
-      by-if (NumberNames P) (ltb (length s - from) width) _ _ (λ e. own)
-      (λ e. by-if (NumberNames P) (ltb 0 r.end && ltb r.end width) _ _ (λ f. own) (λ f. checked-own _))
+      by_if (NumberNames P) (ltb (length s - from) width) _ _ (λ e. own)
+      (λ e. by_if (NumberNames P) (ltb 0 r.end && ltb r.end width) _ _ (λ f. own) (λ f. checked_own _))
 
-  pub number-own : (width : ℕ) (free : Bool) → NumberNames P (number_at s at width pattern free)
+  pub number_own : (width : ℕ) (free : Bool) → NumberNames P (number_at s at width pattern free)
   unfolding number_at
-  number-own width true = checked-own (strtol s at)
-  number-own width false = fixed-own width
+  number_own width true = checked_own (strtol s at)
+  number_own width false = fixed_own width

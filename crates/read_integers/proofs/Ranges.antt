@@ -1,10 +1,10 @@
 -- Numbers of 32 bits, and sums that are tested before they are made. Assumes nothing.
--- `too-low`, `too-high`, `between`: a number has 32 bits if it is neither below the least nor above the largest.
--- `fits-of`: such a number fits an i32.
+-- `too_low`, `too_high`, `between`: a number has 32 bits if it is neither below the least nor above the largest.
+-- `fits_of`: such a number fits an i32.
 -- `apart`: n - (m + 1) fits, where n and m do.
 -- `Limit`: d is the least number that can be added to a, or the largest: a test with d says whether the sum has 32
 -- bits.
--- `from-below`, `from-above`: the least number for a negative a, and the largest for any other.
+-- `from_below`, `from_above`: the least number for a negative a, and the largest for any other.
 use mathlib.Core.Path.{◌≡◌, ◌∙◌, refl, sym}
 use mathlib.Core.Bool.{Bool, true, false, cond, false≢true}
 use Prim.Native.Nat.{ℕ, suc, ◌+◌, ◌-◌, ◌^◌, ◌≤◌, ◌<◌}
@@ -21,24 +21,24 @@ use Rattle.base_wrapping.proofs.Small.{sub-pos}
 use Rattle.read_integers.specs.Number.{fits32}
 
 -- outside of 32 bits, and within them
-pub too-low : (z : ℤ) → lt_z z (negsuc 2147483647) ≡ true → fits32 z ≡ false
-too-low (pos n) e = absurd (false≢true e)
-too-low (negsuc n) e = le-ltb n (2 ^ 31) (omega (arith, ltb-true 2147483647 n e))
+pub too_low : (z : ℤ) → lt_z z (negsuc 2147483647) ≡ true → fits32 z ≡ false
+too_low (pos n) e = absurd (false≢true e)
+too_low (negsuc n) e = le-ltb n (2 ^ 31) (omega (arith, ltb-true 2147483647 n e))
 
-pub too-high : (z : ℤ) → lt_z (pos 2147483647) z ≡ true → fits32 z ≡ false
-too-high (pos n) e = le-ltb n (2 ^ 31) (omega (arith, ltb-true 2147483647 n e))
-too-high (negsuc n) e = absurd (false≢true e)
+pub too_high : (z : ℤ) → lt_z (pos 2147483647) z ≡ true → fits32 z ≡ false
+too_high (pos n) e = le-ltb n (2 ^ 31) (omega (arith, ltb-true 2147483647 n e))
+too_high (negsuc n) e = absurd (false≢true e)
 
 pub between : (z : ℤ) → lt_z z (negsuc 2147483647) ≡ false → lt_z (pos 2147483647) z ≡ false → fits32 z ≡ true
 between (pos n) e f = lt-ltb n (2 ^ 31) (omega (arith, ltb-false 2147483647 n f))
 between (negsuc n) e f = lt-ltb n (2 ^ 31) (omega (arith, ltb-false 2147483647 n e))
 
 -- a number of 32 bits fits an i32, and the other way round
-pub fits-of : (z : ℤ) → fits32 z ≡ true → SFits w32 z
-fits-of z e = sfits_of (ltb-true _ _ e)
+pub fits_of : (z : ℤ) → fits32 z ≡ true → SFits w32 z
+fits_of z e = sfits_of (ltb-true _ _ e)
 
-pub of-fits : (z : ℤ) → SFits w32 z → fits32 z ≡ true
-of-fits z f = lt-ltb _ _ f.sfits
+pub of_fits : (z : ℤ) → SFits w32 z → fits32 z ≡ true
+of_fits z f = lt-ltb _ _ f.sfits
 
 -- n - (m + 1), of two naturals
 pub apart : (n m : ℕ) → n < 2 ^ 31 → m < 2 ^ 31 → SFits w32 (pos n +ℤ negsuc m)
@@ -70,14 +70,14 @@ least m f = by (ltb (suc m) 2147483648) refl
     by true e = record { fits = omega (arith, ltb-true (suc m) 2147483648 e); tells = tell }
       where
         tell : (b : ℤ) → SFits w32 b → le_z (negsuc (2147483648 - suc (suc m))) b ≡ fits32 (negsuc m +ℤ b)
-        tell (pos n) g = sym (of-fits (pos n +ℤ negsuc m) (apart n m (omega arith) f))
+        tell (pos n) g = sym (of_fits (pos n +ℤ negsuc m) (apart n m (omega arith) f))
         tell (negsuc n) g =
             let below = ltb-true (suc m) 2147483648 e in
             same_test n (2147483648 - suc (suc m)) (suc (m + n)) (2 ^ 31) (λ q. omega arith) (λ q. omega arith)
     by false e = record { fits = omega (arith, ltb-false (suc m) 2147483648 e); tells = tell }
       where
         tell : (b : ℤ) → SFits w32 b → le_z (pos (suc m - 2147483648)) b ≡ fits32 (negsuc m +ℤ b)
-        tell (pos n) g = le-leb (suc m - 2147483648) n (omega arith) ∙ sym (of-fits (pos n +ℤ negsuc m) (apart n m (omega arith) f))
+        tell (pos n) g = le-leb (suc m - 2147483648) n (omega arith) ∙ sym (of_fits (pos n +ℤ negsuc m) (apart n m (omega arith) f))
         tell (negsuc n) g = sym (le-ltb (suc (m + n)) (2 ^ 31) (omega (arith, ltb-false (suc m) 2147483648 e)))
 
 -- the largest that can be added to any other
@@ -86,13 +86,13 @@ largest m f = rw (sub-pos 2147483647 m (omega arith)) (record { fits = omega ari
   where
     tell : (b : ℤ) → SFits w32 b → le_z b (pos (2147483647 - m)) ≡ fits32 (pos m +ℤ b)
     tell (pos n) g = same_test n (2147483647 - m) (m + n) (2 ^ 31) (λ q. omega arith) (λ q. omega arith)
-    tell (negsuc n) g = sym (of-fits (pos m +ℤ negsuc n) (apart m n f (omega arith)))
+    tell (negsuc n) g = sym (of_fits (pos m +ℤ negsuc n) (apart m n f (omega arith)))
 
 -- by the sign of the first number
-pub from-below : (a : ℤ) → SFits w32 a → lt_z a (pos 0) ≡ true → let d = negsuc 2147483647 -ℤ a in Limit a d (le_z d)
-from-below (pos m) f e = absurd (not-suc-le-zero (ltb-true m 0 e))
-from-below (negsuc m) f e = least m (omega arith)
+pub from_below : (a : ℤ) → SFits w32 a → lt_z a (pos 0) ≡ true → let d = negsuc 2147483647 -ℤ a in Limit a d (le_z d)
+from_below (pos m) f e = absurd (not-suc-le-zero (ltb-true m 0 e))
+from_below (negsuc m) f e = least m (omega arith)
 
-pub from-above : (a : ℤ) → SFits w32 a → lt_z a (pos 0) ≡ false → let d = pos 2147483647 -ℤ a in Limit a d (λ b. le_z b d)
-from-above (pos m) f e = largest m (omega arith)
-from-above (negsuc m) f e = absurd (false≢true (sym e))
+pub from_above : (a : ℤ) → SFits w32 a → lt_z a (pos 0) ≡ false → let d = pos 2147483647 -ℤ a in Limit a d (λ b. le_z b d)
+from_above (pos m) f e = largest m (omega arith)
+from_above (negsuc m) f e = absurd (false≢true (sym e))

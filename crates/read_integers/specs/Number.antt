@@ -1,7 +1,7 @@
 -- A number of the input from a place on (from_char_parse_int_len of formatting.c).
 use Rattle.std.specs.Prelude.{◌≡◌, refl, Bool, true, false, not, ◌&&◌, ◌||◌, List, ℕ, ◌+◌, ◌-◌, ◌^◌, ◌<◌, ◌≤◌, eqb, ltb, ℤ, pos, length, take, drop}
 use Rattle.std.specs.Int.Signed.{mag}
-use Rattle.base_strtol.specs.Strtol.{strtol-computes, strtol}
+use Rattle.base_strtol.specs.Strtol.{strtol_computes, strtol}
 use Rattle.base_notation.specs.Choice.{when◌then◌else◌}
 use Rattle.base_notation.specs.Text.{utf8}
 use Rattle.base_refusals.specs.declared.Refusal.TheVariants.{Short, Narrow, NotInteger, OutOfRange}
@@ -49,13 +49,13 @@ pub record Found (s : List ℕ) (at : ℕ) (n r : Number) : Type 0 where
   pub inside : Inside s at r
 
 -- unfolds all that a number of the input is computed by, for worked examples
-unfoldable pub integer-computes : ℕ
-unfolding checked fixed_at number_at strtol-computes
-integer-computes = 0
+unfoldable pub integer_computes : ℕ
+unfolding checked fixed_at number_at strtol_computes
+integer_computes = 0
 
 -- the day 05 of 0512, and all four digits where the width is free
 pub widths : (number_at (utf8 "0512") 0 2 9 false ≡ Read (pos 5) 2) × (number_at (utf8 "0512") 0 2 9 true ≡ Read (pos 512) 4)
-unfolding integer-computes
+unfolding integer_computes
 widths = (refl, refl)
 
 -- one byte left of two; one digit of two; no digit; a space where a number is missing, which is 0; past 32 bits
@@ -65,5 +65,5 @@ pub refusals
     × (number_at (utf8 "x5") 0 2 9 false ≡ Refused (NotInteger 9))
     × (number_at (utf8 " xyz") 0 2 9 false ≡ Read (pos 0) 1)
     × (number_at (utf8 "2147483648") 0 4 54 true ≡ Refused (OutOfRange 54))
-unfolding integer-computes
+unfolding integer_computes
 refusals = (refl, refl, refl, refl, refl)

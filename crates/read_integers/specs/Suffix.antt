@@ -4,7 +4,7 @@ use Rattle.std.specs.Int.Bits.{bit_and}
 use Rattle.base_notation.specs.Choice.{when◌then◌else◌}
 use Rattle.base_notation.specs.Text.{byte_at, encoded, utf8}
 use Rattle.base_chars.specs.Class.{is_digit}
-use Rattle.base_accents.specs.Accents.{measure_of, measure-computes}
+use Rattle.base_accents.specs.Accents.{measure_of, measure_computes}
 use Rattle.template_patterns.specs.Patterns.{pattern_of}
 use Rattle.template_nodes.specs.Template.{end, action}
 use Rattle.template_nodes.specs.declared.Node.{Node}
@@ -46,10 +46,10 @@ pub record Skipped (s : List ℕ) (at : ℕ) (accents : Bool) (bits r : ℕ) : T
 
 -- the th of 5th is skipped, and no more than the input has
 pub worked : (past_ordinal (utf8 "5th.") 1 false 4 ≡ 3) × (past_ordinal (utf8 "5t") 1 false 4 ≡ 2) × (past_ordinal (utf8 "5th.") 1 false 0 ≡ 1)
-unfolding past_ordinal measure-computes
+unfolding past_ordinal measure_computes
 worked = (refl, refl, refl)
 
 -- with a mark on the h the accents mode skips it too
 pub marked : (past_ordinal (utf8 "5th" ++ encoded 0x301) 1 true 4 ≡ 5) × (past_ordinal (utf8 "5th" ++ encoded 0x301) 1 false 4 ≡ 3)
-unfolding past_ordinal measure-computes
+unfolding past_ordinal measure_computes
 marked = (refl, refl)

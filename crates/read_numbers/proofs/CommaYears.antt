@@ -1,9 +1,9 @@
 -- A year with a comma: each answer of the code is the definition's, and where it ends. Assumes nothing.
--- `no-first`, `no-comma`, `no_second`: the three ways to find no two numbers.
+-- `no_first`, `no_comma`, `no_second`: the three ways to find no two numbers.
 -- `both_read`: the two numbers, cut to 32 bits.
--- `comma-within`: a comma is within the text.
+-- `comma_within`: a comma is within the text.
 -- `ends`: what was scanned ends within the text.
--- `found-year`: an answer that is the definition's ends within the input.
+-- `found_year`: an answer that is the definition's ends within the input.
 use mathlib.Core.Path.{◌≡◌, ◌∙◌, ap}
 use mathlib.Core.Bool.{not, ◌&&◌, ◌||◌}
 use mathlib.Core.List.{List}
@@ -15,13 +15,13 @@ use lib.Dec.{eqb}
 use lib.IntN.{ℤ, pos, ◌+ℤ◌, ◌*ℤ◌}
 use lib.ListN.{length, take, drop, length-take, length-drop}
 use Rattle.base_notation.specs.Text.{byte_at}
-use Rattle.base_notation.proofs.Bytes.{byte-within}
-use Rattle.base_notation.proofs.Cases.{by-if, both, neither}
+use Rattle.base_notation.proofs.Bytes.{byte_within}
+use Rattle.base_notation.proofs.Cases.{by_if, both, neither}
 use Rattle.base_wrapping.specs.Wrap.{wrap32}
 use Rattle.base_strtol.specs.Runs.{spaces}
 use Rattle.base_strtol.specs.Strtol.{strtol}
 use Rattle.base_strtol.specs.declared.Strtol.{Strtol}
-use Rattle.base_strtol.proofs.Places.{end-from, end-within}
+use Rattle.base_strtol.proofs.Places.{end_from, end_within}
 use Rattle.read_integers.specs.declared.Number.{Number}
 use Rattle.read_numbers.specs.declared.years.Scanned.{Scanned}
 use Rattle.read_numbers.specs.declared.years.Scanned.TheVariants.{Both, Missing}
@@ -30,18 +30,18 @@ use Rattle.read_numbers.specs.Year.{joined, scanned, scanned_year, comma_year_at
 
 -- the text t, the first number a, the place from after the spaces, and the second number b
 module _ (t : List ℕ) (a : Strtol) (first : a ≡ strtol t 0) where
-  pub no-first : a.end ≡ 0 → Missing ≡ scanned t
+  pub no_first : a.end ≡ 0 → Missing ≡ scanned t
   unfolding scanned
-  no-first e = rw (← first, eq-eqb _ _ e)
+  no_first e = rw (← first, eq-eqb _ _ e)
 
   -- a comma is within the text
-  pub comma-within : byte_at t a.end ≡ code "," → a.end < length t
-  comma-within e = byte-within t a.end (λ z. omega (arith, e, z))
+  pub comma_within : byte_at t a.end ≡ code "," → a.end < length t
+  comma_within e = byte_within t a.end (λ z. omega (arith, e, z))
 
   module _ (some : a.end ≡ 0 → ⊥) where
-    pub no-comma : (byte_at t a.end ≡ code "," → ⊥) → Missing ≡ scanned t
+    pub no_comma : (byte_at t a.end ≡ code "," → ⊥) → Missing ≡ scanned t
     unfolding scanned
-    no-comma n = rw (← first, ne_eqb _ _ some, ne_eqb _ _ n)
+    no_comma n = rw (← first, ne_eqb _ _ some, ne_eqb _ _ n)
 
     module _ (comma : byte_at t a.end ≡ code ",") (from : ℕ) (blank : from ≡ a.end + 1 + spaces (drop (a.end + 1) t))
         (b : Strtol) (second : b ≡ strtol (take (from + 3) t) from) where
@@ -64,11 +64,11 @@ ends t =
     let a = strtol t 0 in
     let from = a.end + 1 + spaces (drop (a.end + 1) t) in
     let b = strtol (take (from + 3) t) from in
-    by-if (Ends t) (eqb a.end 0 || not (eqb (byte_at t a.end) (code ",")) || eqb b.end from) _ _ (λ e. tt)
+    by_if (Ends t) (eqb a.end 0 || not (eqb (byte_at t a.end) (code ",")) || eqb b.end from) _ _ (λ e. tt)
     (λ e.
     let moved_on : b.end ≡ from → ⊥ = eqb-false _ _ (neither (eqb a.end 0 || not (eqb (byte_at t a.end) (code ","))) _ e).1 in
-    let end_after = end-from (take (from + 3) t) from in
-    let end-inside = end-within (take (from + 3) t) from in
+    let end_after = end_from (take (from + 3) t) from in
+    let end_inside = end_within (take (from + 3) t) from in
     (omega (arith, moved_on), omega (arith, moved_on, length-take (from + 3) t)))
 
 module _ (s : List ℕ) (at pattern : ℕ) (h : at ≤ length s) where
@@ -77,13 +77,13 @@ module _ (s : List ℕ) (at pattern : ℕ) (h : at ≤ length s) where
   inside_of Missing e = tt
   inside_of (Both x y n) e =
       let whole = x *ℤ pos 1000 in
-      by-if (Inside s at) (fits32 whole && fits32 (y +ℤ whole)) _ _
+      by_if (Inside s at) (fits32 whole && fits32 (y +ℤ whole)) _ _
       (λ f. (omega (arith, e), omega (arith, e, length-drop at s), (both (fits32 whole) _ f).1)) (λ f. tt)
 
-  pub year-inside : Inside s at (comma_year_at s at pattern)
+  pub year_inside : Inside s at (comma_year_at s at pattern)
   unfolding comma_year_at
-  year-inside = inside_of (scanned (drop at s)) (ends (drop at s))
+  year_inside = inside_of (scanned (drop at s)) (ends (drop at s))
 
-  pub found-year : (n : Number) (r : Scanned) → r ≡ scanned (drop at s) → n ≡ scanned_year pattern at r → Found s at (comma_year_at s at pattern) n
+  pub found_year : (n : Number) (r : Scanned) → r ≡ scanned (drop at s) → n ≡ scanned_year pattern at r → Found s at (comma_year_at s at pattern) n
   unfolding comma_year_at
-  found-year n r e q = record { is = q ∙ ap (scanned_year pattern at) e; inside = rw (q, e) year-inside }
+  found_year n r e q = record { is = q ∙ ap (scanned_year pattern at) e; inside = rw (q, e) year_inside }

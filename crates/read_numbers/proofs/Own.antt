@@ -1,5 +1,5 @@
 -- A pattern that reads a number and is refused names itself. Assumes nothing.
--- `read-number-own`, `read-dropped-own`: where P holds of a node's pattern, it holds of the pattern that a refusal
+-- `read_number_own`, `read_dropped_own`: where P holds of a node's pattern, it holds of the pattern that a refusal
 -- names.
 use mathlib.Core.Bool.{Bool, ◌&&◌}
 use mathlib.Core.List.{List}
@@ -7,12 +7,12 @@ use Prim.Native.Nat.{ℕ}
 use lib.Dec.{eqb}
 use lib.IntN.{pos, ◌+ℤ◌, ◌*ℤ◌}
 use lib.ListN.{drop}
-use Rattle.base_notation.proofs.Cases.{by-if}
+use Rattle.base_notation.proofs.Cases.{by_if}
 use Rattle.base_refusals.specs.Report.{report_of}
 use Rattle.read_integers.specs.Number.{fits32, number_at}
 use Rattle.read_integers.specs.declared.Number.{Number}
 use Rattle.read_integers.specs.declared.Number.TheVariants.{Read, Refused}
-use Rattle.read_integers.proofs.Own.{NumberNames, number-own}
+use Rattle.read_integers.proofs.Own.{NumberNames, number_own}
 use Rattle.template_nodes.specs.declared.Node.{Node}
 use Rattle.read_fields.specs.Fields.{conflicts, get}
 use Rattle.read_fields.specs.Tasks.{comma_year}
@@ -27,35 +27,35 @@ use Rattle.read_numbers.specs.declared.years.Scanned.TheVariants.{Both, Missing}
 
 -- a year with a comma
 module _ (P : ℕ → Type 0) (pattern : ℕ) (own : P pattern) where
-  scanned-own : (at : ℕ) (a : Scanned) → NumberNames P (scanned_year pattern at a)
+  scanned_own : (at : ℕ) (a : Scanned) → NumberNames P (scanned_year pattern at a)
   unfolding joined report_of
-  scanned-own at Missing = own
-  scanned-own at (Both thousands years next) =
+  scanned_own at Missing = own
+  scanned_own at (Both thousands years next) =
       let whole = thousands *ℤ pos 1000 in
-      by-if (NumberNames P) (fits32 whole && fits32 (years +ℤ whole)) _ _ (λ e. tt) (λ e. own)
+      by_if (NumberNames P) (fits32 whole && fits32 (years +ℤ whole)) _ _ (λ e. tt) (λ e. own)
 
-  comma-own : (s : List ℕ) (at : ℕ) → NumberNames P (comma_year_at s at pattern)
+  comma_own : (s : List ℕ) (at : ℕ) → NumberNames P (comma_year_at s at pattern)
   unfolding comma_year_at
-  comma-own s at = scanned-own at (scanned (drop at s))
+  comma_own s at = scanned_own at (scanned (drop at s))
 
 module _ (P : ℕ → Type 0) (s : List ℕ) (n : Node) (own : P n.pattern) (f : Fields) (p : Place) where
   -- a number that goes into its field, and one that is dropped
-  stored-own : (task : Task) (a : Number) → NumberNames P a → ReadingNames P (stored_number s n task a f p)
+  stored_own : (task : Task) (a : Number) → NumberNames P a → ReadingNames P (stored_number s n task a f p)
   unfolding stored_number report_of
-  stored-own task (Refused why) named = named
-  stored-own task (Read z next) named = by-if (ReadingNames P) (conflicts (get f task.field) z) _ _ (λ e. own) (λ e. tt)
+  stored_own task (Refused why) named = named
+  stored_own task (Read z next) named = by_if (ReadingNames P) (conflicts (get f task.field) z) _ _ (λ e. own) (λ e. tt)
 
-  dropped-own : (a : Number) → NumberNames P a → ReadingNames P (dropped_number s n a f p)
+  dropped_own : (a : Number) → NumberNames P a → ReadingNames P (dropped_number s n a f p)
   unfolding dropped_number
-  dropped-own (Refused why) named = named
-  dropped-own (Read z next) named = tt
+  dropped_own (Refused why) named = named
+  dropped_own (Read z next) named = tt
 
-  pub read-number-own : (free : Bool) (task : Task) → ReadingNames P (read_number s n free task f p)
-  read-number-own free task =
-      stored-own task (number_of s n free task p.at)
-      (by-if (NumberNames P) (eqb task.kind comma_year) _ _ (λ e. comma-own P n.pattern own s p.at)
-      (λ e. number-own P n.pattern own s p.at task.operand free))
+  pub read_number_own : (free : Bool) (task : Task) → ReadingNames P (read_number s n free task f p)
+  read_number_own free task =
+      stored_own task (number_of s n free task p.at)
+      (by_if (NumberNames P) (eqb task.kind comma_year) _ _ (λ e. comma_own P n.pattern own s p.at)
+      (λ e. number_own P n.pattern own s p.at task.operand free))
 
-  pub read-dropped-own : (free : Bool) (task : Task) → ReadingNames P (read_dropped s n free task f p)
-  read-dropped-own free task =
-      dropped-own (number_at s p.at task.operand n.pattern free) (number-own P n.pattern own s p.at task.operand free)
+  pub read_dropped_own : (free : Bool) (task : Task) → ReadingNames P (read_dropped s n free task f p)
+  read_dropped_own free task =
+      dropped_own (number_at s p.at task.operand n.pattern free) (number_own P n.pattern own s p.at task.operand free)

@@ -1,8 +1,8 @@
 -- Patterns that read a number, and a year with a comma.
 use Rattle.std.specs.Prelude.{◌≡◌, refl, Bool, true, false, List, ℕ, ◌+◌, ◌-◌, ◌^◌, eqb, ltb, ℤ, pos}
 use Rattle.std.specs.Int.Signed.{lt_z}
-use Rattle.read_numbers.specs.Year.{years-compute, comma_year_at, near2020}
-use Rattle.read_integers.specs.Number.{integer-computes, number_at}
+use Rattle.read_numbers.specs.Year.{years_compute, comma_year_at, near2020}
+use Rattle.read_integers.specs.Number.{integer_computes, number_at}
 use Rattle.base_notation.specs.Choice.{when◌then◌else◌}
 use Rattle.base_refusals.specs.declared.Refusal.TheVariants.{Conflict}
 use Rattle.read_integers.specs.Suffix.{past_ordinal}
@@ -75,12 +75,12 @@ abbrev pub read_dropped : List ℕ → Node → Bool → Task → Fields → Pla
 read_dropped s n free task f p = dropped_number s n (number_at s p.at task.operand n.pattern free) f p
 
 -- unfolds all that a pattern that reads a number is computed by, for worked examples
-unfoldable pub number-computes : ℕ
-unfolding kept noted stored_number dropped_number past_ordinal integer-computes years-compute
-number-computes = 0
+unfoldable pub number_computes : ℕ
+unfolding kept noted stored_number dropped_number past_ordinal integer_computes years_compute
+number_computes = 0
 
 -- 5 milliseconds of one digit are 500, and 25 microseconds of two digits 250000; Sunday is 1; 69 of two digits is 2069
 pub worked
     : (kept millis (pos 5) 1 ≡ pos 500) × (kept micros (pos 25) 2 ≡ pos 250000) × (kept iso_day (pos 7) 1 ≡ pos 1) × (kept part_year (pos 69) 2 ≡ pos 2069)
-unfolding number-computes
+unfolding number_computes
 worked = (refl, refl, refl, refl)

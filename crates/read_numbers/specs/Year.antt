@@ -2,7 +2,7 @@
 use Rattle.std.specs.Prelude.{◌≡◌, refl, not, ◌&&◌, ◌||◌, List, ℕ, ◌+◌, eqb, ℤ, pos, ◌+ℤ◌, ◌*ℤ◌, take, drop}
 use Prim.Native.Char.{code}
 use Rattle.std.specs.Int.Signed.{lt_z}
-use Rattle.base_strtol.specs.Strtol.{strtol-computes, strtol}
+use Rattle.base_strtol.specs.Strtol.{strtol_computes, strtol}
 use Rattle.base_notation.specs.Choice.{when◌then◌else◌}
 use Rattle.base_notation.specs.Text.{byte_at, utf8}
 use Rattle.base_wrapping.specs.Wrap.{wrap32}
@@ -47,22 +47,22 @@ near2020 y =
     else y
 
 -- unfolds all that years are computed by, for worked examples
-unfoldable pub years-compute : ℕ
-unfolding comma_year_at scanned joined near2020 wrap32 strtol-computes
-years-compute = 0
+unfoldable pub years_compute : ℕ
+unfolding comma_year_at scanned joined near2020 wrap32 strtol_computes
+years_compute = 0
 
 -- 2,024 is the year 2024, also with spaces after the comma; without a second number nothing is read
 pub worked
     : (comma_year_at (utf8 "2,024.") 0 53 ≡ Read (pos 2024) 5) × (comma_year_at (utf8 "2, 024") 0 53 ≡ Read (pos 2024) 6)
     × (comma_year_at (utf8 "2.024") 0 53 ≡ Refused (NotTwoNumbers 53)) × (comma_year_at (utf8 "2147484,000") 0 53 ≡ Refused (YearOutOfRange 53))
-unfolding years-compute
+unfolding years_compute
 worked = (refl, refl, refl, refl)
 
 -- the first number is cut to 32 bits without a refusal: 4294967298 counts as 2
 pub cut : comma_year_at (utf8 "4294967298,024") 0 53 ≡ Read (pos 2024) 14
-unfolding years-compute
+unfolding years_compute
 cut = refl
 
 pub centuries : (near2020 (pos 69) ≡ pos 2069) × (near2020 (pos 70) ≡ pos 1970) × (near2020 (pos 519) ≡ pos 2519) × (near2020 (pos 520) ≡ pos 1520)
-unfolding years-compute
+unfolding years_compute
 centuries = (refl, refl, refl, refl)

@@ -1,5 +1,5 @@
 -- A pattern that reads an offset and is refused names itself. Assumes nothing.
--- `read-offset-own`, `read-minutes-own`: where P holds of a node's pattern, it holds of the pattern that a refusal
+-- `read_offset_own`, `read_minutes_own`: where P holds of a node's pattern, it holds of the pattern that a refusal
 -- names.
 use mathlib.Core.Bool.{Bool, not, ◌&&◌}
 use mathlib.Core.List.{List}
@@ -7,13 +7,13 @@ use Prim.Native.Nat.{ℕ, ◌+◌}
 use Prim.Native.Char.{code}
 use lib.Dec.{eqb}
 use Rattle.base_notation.specs.Text.{byte_at}
-use Rattle.base_notation.proofs.Cases.{by-if}
+use Rattle.base_notation.proofs.Cases.{by_if}
 use Rattle.base_refusals.specs.Report.{report_of}
 use Rattle.base_chars.specs.Class.{is_letter}
 use Rattle.read_integers.specs.Number.{number_at}
 use Rattle.read_integers.specs.declared.Number.{Number}
 use Rattle.read_integers.specs.declared.Number.TheVariants.{Read, Refused}
-use Rattle.read_integers.proofs.Own.{NumberNames, number-own}
+use Rattle.read_integers.proofs.Own.{NumberNames, number_own}
 use Rattle.template_nodes.specs.declared.Node.{Node}
 use Rattle.read_fields.specs.Fields.{conflicts, get, put, tzsign, tzh, tzm}
 use Rattle.read_fields.specs.Tasks.{hours, no_letter}
@@ -21,34 +21,34 @@ use Rattle.read_fields.specs.declared.Fields.{Fields}
 use Rattle.read_fields.specs.declared.Place.{Place}
 use Rattle.read_fields.specs.declared.Reading.{Reading}
 use Rattle.read_fields.specs.declared.Task.{Task}
-use Rattle.read_fields.proofs.Own.{ReadingNames, onward-own}
+use Rattle.read_fields.proofs.Own.{ReadingNames, onward_own}
 use Rattle.read_offsets.specs.Offsets.{sign_of, past_sign, stored_offset, colon_minutes, then_minutes, read_offset, with_sign, read_offset_minutes}
 
 module _ (P : ℕ → Type 0) (s : List ℕ) (n : Node) (own : P n.pattern) (free : Bool) where
   -- two digits at a place, into a field
-  stored-own : (field : ℕ) (a : Number) → NumberNames P a → (f : Fields) (p : Place) → ReadingNames P (stored_offset n field a f p)
+  stored_own : (field : ℕ) (a : Number) → NumberNames P a → (f : Fields) (p : Place) → ReadingNames P (stored_offset n field a f p)
   unfolding stored_offset report_of
-  stored-own field (Refused why) named f p = named
-  stored-own field (Read z next) named f p = by-if (ReadingNames P) (conflicts (get f field) z) _ _ (λ e. own) (λ e. tt)
+  stored_own field (Refused why) named f p = named
+  stored_own field (Read z next) named f p = by_if (ReadingNames P) (conflicts (get f field) z) _ _ (λ e. own) (λ e. tt)
 
-  digits-own : (field at : ℕ) (f : Fields) (p : Place) → ReadingNames P (stored_offset n field (number_at s at 2 n.pattern free) f p)
-  digits-own field at f p = stored-own field (number_at s at 2 n.pattern free) (number-own P n.pattern own s at 2 free) f p
+  digits_own : (field at : ℕ) (f : Fields) (p : Place) → ReadingNames P (stored_offset n field (number_at s at 2 n.pattern free) f p)
+  digits_own field at f p = stored_own field (number_at s at 2 n.pattern free) (number_own P n.pattern own s at 2 free) f p
 
   -- the minutes after a colon, and after the hours
-  colon-own : (rule : ℕ) (f : Fields) (p : Place) → ReadingNames P (colon_minutes s n free rule f p)
+  colon_own : (rule : ℕ) (f : Fields) (p : Place) → ReadingNames P (colon_minutes s n free rule f p)
   unfolding colon_minutes
-  colon-own rule f p =
-      by-if (ReadingNames P) (not (eqb rule hours) && eqb (byte_at s p.at) (code ":")) _ _ (λ e. digits-own tzm (p.at + 1) f p) (λ e. tt)
+  colon_own rule f p =
+      by_if (ReadingNames P) (not (eqb rule hours) && eqb (byte_at s p.at) (code ":")) _ _ (λ e. digits_own tzm (p.at + 1) f p) (λ e. tt)
 
-  then-own : (rule : ℕ) (r : Reading) → ReadingNames P r → ReadingNames P (then_minutes s n free rule r)
+  then_own : (rule : ℕ) (r : Reading) → ReadingNames P r → ReadingNames P (then_minutes s n free rule r)
   unfolding then_minutes
-  then-own rule r named = onward-own P r _ named (colon-own rule r.fields r.place)
+  then_own rule r named = onward_own P r _ named (colon_own rule r.fields r.place)
 
-  pub read-offset-own : (task : Task) (f : Fields) (p : Place) → ReadingNames P (read_offset s n free task f p)
+  pub read_offset_own : (task : Task) (f : Fields) (p : Place) → ReadingNames P (read_offset s n free task f p)
   unfolding read_offset report_of
-  read-offset-own task f p =
-      by-if (ReadingNames P) (eqb task.rule no_letter && is_letter (byte_at s p.at)) _ _ (λ e. own)
-      (λ e. then-own task.rule _ (digits-own tzh (past_sign s p.at) (put f tzsign (sign_of s p)) p))
+  read_offset_own task f p =
+      by_if (ReadingNames P) (eqb task.rule no_letter && is_letter (byte_at s p.at)) _ _ (λ e. own)
+      (λ e. then_own task.rule _ (digits_own tzh (past_sign s p.at) (put f tzsign (sign_of s p)) p))
 
-  pub read-minutes-own : (f : Fields) (p : Place) → ReadingNames P (read_offset_minutes s n free f p)
-  read-minutes-own f p = digits-own tzm p.at (with_sign f) p
+  pub read_minutes_own : (f : Fields) (p : Place) → ReadingNames P (read_offset_minutes s n free f p)
+  read_minutes_own f p = digits_own tzm p.at (with_sign f) p

@@ -5,7 +5,7 @@ use Rattle.base_notation.specs.Choice.{when◌then◌else◌}
 use Rattle.base_notation.specs.Text.{byte_at, utf8}
 use Rattle.base_refusals.specs.declared.Refusal.TheVariants.{Conflict, ZoneLetter}
 use Rattle.base_chars.specs.Class.{is_letter}
-use Rattle.read_integers.specs.Number.{integer-computes, number_at}
+use Rattle.read_integers.specs.Number.{integer_computes, number_at}
 use Rattle.read_integers.specs.declared.Number.{Number}
 use Rattle.read_integers.specs.declared.Number.TheVariants.{Read, Refused}
 use Rattle.template_nodes.specs.declared.Node.{Node}
@@ -69,13 +69,13 @@ abbrev pub read_offset_minutes : List ℕ → Node → Bool → Fields → Place
 read_offset_minutes s n free f p = stored_offset n tzm (number_at s p.at 2 n.pattern free) (with_sign f) p
 
 -- unfolds all that a pattern that reads an offset is computed by, for worked examples
-unfoldable pub offset-computes : ℕ
-unfolding sign_of stored_offset colon_minutes then_minutes read_offset integer-computes
-offset-computes = 0
+unfoldable pub offset_computes : ℕ
+unfolding sign_of stored_offset colon_minutes then_minutes read_offset integer_computes
+offset_computes = 0
 
 -- the sign at the place; a minus that was skipped one byte back, if a space or separator was skipped; else plus
 pub signs
     : (sign_of (utf8 "-5") (record { at = 0; extra = 0; fx = 0 }) ≡ negsuc 0) × (sign_of (utf8 "-5") (record { at = 1; extra = 1; fx = 0 }) ≡ negsuc 0)
     × (sign_of (utf8 "-5") (record { at = 1; extra = 0; fx = 0 }) ≡ pos 1) × (sign_of (utf8 "+5") (record { at = 0; extra = 0; fx = 0 }) ≡ pos 1)
-unfolding offset-computes
+unfolding offset_computes
 signs = (refl, refl, refl, refl)

@@ -1,6 +1,6 @@
 -- The folded beginning of the input, put into nine bytes one after another. Assumes nothing.
 -- `put_next`: the byte after the first j, made small, is put after them.
--- `all-put`: when j is the number that is wanted, or all that the input has, the beginning is complete.
+-- `all_put`: when j is the number that is wanted, or all that the input has, the beginning is complete.
 use mathlib.Core.Path.{◌≡◌, ◌∙◌, refl, sym, ap}
 use mathlib.Core.Bool.{Bool, true, false}
 use mathlib.Core.List.{List, [], ◌∷◌, ◌++◌, map-append}
@@ -16,12 +16,12 @@ use Rattle.base_notation.specs.Text.{byte_at}
 use Rattle.read_words.specs.FoldOnce.{beginning, in_nine}
 
 -- a byte in place of the first 0
-put-after : (t : List ℕ) (b : ℕ) → length t < 9 → set (in_nine t) (length t) b ≡ in_nine (t ++ (b ∷ []))
-put-after t b h =
+put_after : (t : List ℕ) (b : ℕ) → length t < 9 → set (in_nine t) (length t) b ≡ in_nine (t ++ (b ∷ []))
+put_after t b h =
     let zeros = 9 - suc (length t) in
-    let one-zero : 9 - length t ≡ suc zeros = omega arith in
-    let one-longer : length (t ++ (b ∷ [])) ≡ suc (length t) = length-append t (b ∷ []) ∙ omega arith in
-    rw (one-zero, one-longer) (set-append_seam t 0 (replicate zeros 0) b ∙ sym (append_snoc t b (replicate zeros 0)))
+    let one_zero : 9 - length t ≡ suc zeros = omega arith in
+    let one_longer : length (t ++ (b ∷ [])) ≡ suc (length t) = length-append t (b ∷ []) ∙ omega arith in
+    rw (one_zero, one_longer) (set-append_seam t 0 (replicate zeros 0) b ∙ sym (append_snoc t b (replicate zeros 0)))
 
 module _ (s : List ℕ) (at : ℕ) where
   -- no more bytes than are left
@@ -40,8 +40,8 @@ module _ (s : List ℕ) (at : ℕ) where
           let many = leb-false n (length s - at) e in
           rw (take_all (min n (length s - at)) (drop at s) (omega (arith, left)), take_all n (drop at s) (omega (arith, left)))
 
-  pub all-put : (most n j : ℕ) → n ≡ min most (length s - at) → j ≡ n → in_nine (beginning j s at) ≡ in_nine (beginning most s at)
-  all-put most n j e q = rw (q, e, all_left most)
+  pub all_put : (most n j : ℕ) → n ≡ min most (length s - at) → j ≡ n → in_nine (beginning j s at) ≡ in_nine (beginning most s at)
+  all_put most n j e q = rw (q, e, all_left most)
 
   module _ (j : ℕ) (h : at + j < length s) where
     -- the byte after the first j
@@ -53,8 +53,8 @@ module _ (s : List ℕ) (at : ℕ) where
         let left = length-drop at s in
         rw (add-one j, take-suc (drop at s) j 0 (omega arith), get_or-drop at s j 0) (map-append folded (take j (drop at s)) _)
 
-    so-many : length (beginning j s at) ≡ j
-    so-many =
+    so_many : length (beginning j s at) ≡ j
+    so_many =
         let left = length-drop at s in
         length-map (take j (drop at s)) folded ∙ length-take-le j (drop at s) (omega arith)
 
@@ -62,4 +62,4 @@ module _ (s : List ℕ) (at : ℕ) where
     put_next start v l e q =
         let first = beginning j s at in
         rw (e, q)
-        (ap (λ (n : ℕ). set (in_nine first) n b) (sym so-many) ∙ put-after first b (omega (arith, so-many)) ∙ ap in_nine (sym one_more))
+        (ap (λ (n : ℕ). set (in_nine first) n b) (sym so_many) ∙ put_after first b (omega (arith, so_many)) ∙ ap in_nine (sym one_more))

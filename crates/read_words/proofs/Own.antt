@@ -1,9 +1,9 @@
 -- A pattern that reads a word and is refused names itself. Assumes nothing.
--- `read-word-own`: where P holds of a node's pattern, it holds of the pattern that a refusal names.
+-- `read_word_own`: where P holds of a node's pattern, it holds of the pattern that a refusal names.
 use mathlib.Core.List.{List}
 use Prim.Native.Nat.{ℕ}
 use lib.IntN.{pos}
-use Rattle.base_notation.proofs.Cases.{by-if}
+use Rattle.base_notation.proofs.Cases.{by_if}
 use Rattle.base_refusals.specs.Report.{report_of}
 use Rattle.template_nodes.specs.declared.Node.{Node}
 use Rattle.read_fields.specs.Fields.{conflicts, get}
@@ -17,10 +17,10 @@ use Rattle.read_words.specs.declared.spelling.Word.{Word}
 use Rattle.read_words.specs.declared.spelling.Word.TheVariants.{At, Nothing}
 
 module _ (P : ℕ → Type 0) (n : Node) (own : P n.pattern) (task : Task) (f : Fields) (p : Place) where
-  stored-own : (a : Word) → ReadingNames P (stored_word n task a f p)
+  stored_own : (a : Word) → ReadingNames P (stored_word n task a f p)
   unfolding stored_word report_of
-  stored-own Nothing = own
-  stored-own (At k len) = by-if (ReadingNames P) (conflicts (get f task.field) (pos (meant task.rule k))) _ _ (λ e. own) (λ e. tt)
+  stored_own Nothing = own
+  stored_own (At k len) = by_if (ReadingNames P) (conflicts (get f task.field) (pos (meant task.rule k))) _ _ (λ e. own) (λ e. tt)
 
-  pub read-word-own : (s : List ℕ) → ReadingNames P (read_word s n task f p)
-  read-word-own s = stored-own (word_at (list_of task.operand) s p.at)
+  pub read_word_own : (s : List ℕ) → ReadingNames P (read_word s n task f p)
+  read_word_own s = stored_own (word_at (list_of task.operand) s p.at)

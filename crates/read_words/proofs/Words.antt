@@ -2,7 +2,7 @@
 -- `laid`: a list's table has 108 bytes and a row for each of its words: at most twelve words of at most nine bytes.
 -- `inside`: a word that the search of the input finds is inside the input.
 -- `from`: what the search of the beginning finds from row k on.
--- `no-space`, `over`: no word begins with a space, nor is any word past the last row.
+-- `no_space`, `over`: no word begins with a space, nor is any word past the last row.
 -- `searched`: what is found in the folded beginning, in nine bytes, is what is found in the input.
 -- `found`, `next`: the bytes begin with the word of row k, or what is found is found from the next row on.
 use mathlib.Core.Path.{◌≡◌, ◌∙◌, refl, sym, ap, subst}
@@ -17,8 +17,8 @@ use lib.ListN.{length, get_or, drop, replicate, drop_of_length-le, length-map, g
 use lib.Seq.{drop-cons}
 use Rattle.base_chars.specs.Fold.{folded}
 use Rattle.base_notation.specs.Text.{byte_at}
-use Rattle.base_notation.proofs.Bytes.{byte-within}
-use Rattle.base_notation.proofs.Cases.{both, by-if}
+use Rattle.base_notation.proofs.Bytes.{byte_within}
+use Rattle.base_notation.proofs.Cases.{both, by_if}
 use Rattle.base_notation.proofs.Table.{all_from, entry}
 use Rattle.template_patterns.specs.Search.{matches_at, length_at}
 use Rattle.template_patterns.specs.Words.{words_of, small_words, longest, word_table}
@@ -28,7 +28,7 @@ use Rattle.read_words.specs.FoldOnce.{beginning, first_in, in_nine, word_in, row
 use Rattle.read_words.specs.Spelling.{spelled_at, first_word, word_at, Inside, Found}
 use Rattle.read_words.specs.declared.spelling.Word.{Word}
 use Rattle.read_words.specs.declared.spelling.Word.TheVariants.{At, Nothing}
-use Rattle.read_words.proofs.FoldOnce.{fold-once, same_word}
+use Rattle.read_words.proofs.FoldOnce.{fold_once, same_word}
 
 -- two words are the same
 abbrev same : List ℕ → List ℕ → Bool
@@ -37,14 +37,14 @@ same [] (b ∷ t) = false
 same (a ∷ s) [] = false
 same (a ∷ s) (b ∷ t) = eqb a b && same s t
 
-same-is : (s t : List ℕ) → same s t ≡ true → s ≡ t
-same-is [] [] e = refl
-same-is [] (b ∷ t) e = absurd (false≢true e)
-same-is (a ∷ s) [] e = absurd (false≢true e)
-same-is (a ∷ s) (b ∷ t) e =
+same_is : (s t : List ℕ) → same s t ≡ true → s ≡ t
+same_is [] [] e = refl
+same_is [] (b ∷ t) e = absurd (false≢true e)
+same_is (a ∷ s) [] e = absurd (false≢true e)
+same_is (a ∷ s) (b ∷ t) e =
     let parts = both (eqb a b) _ e in
     let first : a ≡ b = eqb-true _ _ parts.0 in
-    let rest : s ≡ t = same-is s t parts.1 in
+    let rest : s ≡ t = same_is s t parts.1 in
     cc
 
 -- no byte of the word is 0, which is read past the end
@@ -72,17 +72,17 @@ fine list =
     && (leb (longest (words_of list)) 9
     && (all_from (laid_out list) 0 (replicate 12 0) && (all_from proper 0 (words_of list) && all_from begins 0 (small_words list)))))
 
-all-fine : (list : WordList) → fine list ≡ true
+all_fine : (list : WordList) → fine list ≡ true
 unfolding word_table row_of
-all-fine MonthsFull = refl
-all-fine MonthsAbbrev = refl
-all-fine DaysFull = refl
-all-fine DaysAbbrev = refl
-all-fine AmPm = refl
-all-fine AmPmLong = refl
-all-fine AdBc = refl
-all-fine AdBcLong = refl
-all-fine RomanMonths = refl
+all_fine MonthsFull = refl
+all_fine MonthsAbbrev = refl
+all_fine DaysFull = refl
+all_fine DaysAbbrev = refl
+all_fine AmPm = refl
+all_fine AmPmLong = refl
+all_fine AdBc = refl
+all_fine AdBcLong = refl
+all_fine RomanMonths = refl
 
 -- the same, fact by fact
 pub record Laid (list : WordList) : Type 0 where
@@ -95,47 +95,47 @@ pub record Laid (list : WordList) : Type 0 where
 
 pub laid : (list : WordList) → Laid list
 laid list =
-    let on-length = both (eqb (length (word_table list)) 108) _ (all-fine list) in
-    let on-count = both (leb (length (words_of list)) 12) _ on-length.1 in
-    let on-longest = both (leb (longest (words_of list)) 9) _ on-count.1 in
-    let on-rows = both (all_from (laid_out list) 0 (replicate 12 0)) _ on-longest.1 in
-    let on-words = both (all_from proper 0 (words_of list)) _ on-rows.1 in
+    let on_length = both (eqb (length (word_table list)) 108) _ (all_fine list) in
+    let on_count = both (leb (length (words_of list)) 12) _ on_length.1 in
+    let on_longest = both (leb (longest (words_of list)) 9) _ on_count.1 in
+    let on_rows = both (all_from (laid_out list) 0 (replicate 12 0)) _ on_longest.1 in
+    let on_words = both (all_from proper 0 (words_of list)) _ on_rows.1 in
     record {
-      long = eqb-true _ _ on-length.0;
-      few = leb-true _ _ on-count.0;
-      short = leb-true _ _ on-longest.0;
-      row = λ k h. same-is _ _ (entry (laid_out list) 0 (replicate 12 0) on-rows.0 k h);
-      words = on-words.0;
-      small = on-words.1;
+      long = eqb-true _ _ on_length.0;
+      few = leb-true _ _ on_count.0;
+      short = leb-true _ _ on_longest.0;
+      row = λ k h. same_is _ _ (entry (laid_out list) 0 (replicate 12 0) on_rows.0 k h);
+      words = on_words.0;
+      small = on_words.1;
     }
 
 -- ---- the search of the input
 module _ (s : List ℕ) where
   -- a byte that is not read as 0 is within the text
-  in-text : (at c : ℕ) → not (eqb (folded c) 0) ≡ true → folded (byte_at s at) ≡ folded c → at < length s
-  in-text at c n e = byte-within s at (λ z. eqb-false _ _ (not-true _ n) (sym e ∙ ap folded z))
+  in_text : (at c : ℕ) → not (eqb (folded c) 0) ≡ true → folded (byte_at s at) ≡ folded c → at < length s
+  in_text at c n e = byte_within s at (λ z. eqb-false _ _ (not-true _ n) (sym e ∙ ap folded z))
 
   -- a word that is there ends within the text
-  spelled-within : (w : List ℕ) (at : ℕ) → spelled_out w ≡ true → spelled_at w s at ≡ true → at + length w ≤ max at (length s)
-  spelled-within [] at p e = omega arith
-  spelled-within (c ∷ w) at p e =
+  spelled_within : (w : List ℕ) (at : ℕ) → spelled_out w ≡ true → spelled_at w s at ≡ true → at + length w ≤ max at (length s)
+  spelled_within [] at p e = omega arith
+  spelled_within (c ∷ w) at p e =
       let no_zero = both (not (eqb (folded c) 0)) _ p in
       let there = both (eqb (folded (byte_at s at)) (folded c)) _ e in
-      omega (arith, in-text at c no_zero.0 (eqb-true _ _ there.0), spelled-within w (at + 1) no_zero.1 there.1)
+      omega (arith, in_text at c no_zero.0 (eqb-true _ _ there.0), spelled_within w (at + 1) no_zero.1 there.1)
 
   module _ (at : ℕ) where
-    first-inside : (ws : List (List ℕ)) (k : ℕ) → k + length ws ≤ 12 → all_from proper k ws ≡ true → Inside s at (first_word k ws s at)
-    first-inside [] k h p = tt
-    first-inside (w ∷ ws) k h p =
+    first_inside : (ws : List (List ℕ)) (k : ℕ) → k + length ws ≤ 12 → all_from proper k ws ≡ true → Inside s at (first_word k ws s at)
+    first_inside [] k h p = tt
+    first_inside (w ∷ ws) k h p =
         let on_word = both (proper k w) _ p in
-        let on-length = both (ltb 0 (length w)) _ on_word.0 in
-        let some : 0 < length w = ltb-true _ _ on-length.0 in
-        by-if (Inside s at) (spelled_at w s at) _ _ (λ e. (omega arith, some, omega (arith, spelled-within w at on-length.1 e)))
-        (λ e. first-inside ws (suc k) (omega arith) on_word.1)
+        let on_length = both (ltb 0 (length w)) _ on_word.0 in
+        let some : 0 < length w = ltb-true _ _ on_length.0 in
+        by_if (Inside s at) (spelled_at w s at) _ _ (λ e. (omega arith, some, omega (arith, spelled_within w at on_length.1 e)))
+        (λ e. first_inside ws (suc k) (omega arith) on_word.1)
 
     pub inside : (list : WordList) → Inside s at (word_at list s at)
     unfolding word_at
-    inside list = first-inside (words_of list) 0 (omega (arith, (laid list).few)) (laid list).words
+    inside list = first_inside (words_of list) 0 (omega (arith, (laid list).few)) (laid list).words
 
 -- ---- the search of its beginning
 module _ (t : List ℕ) where
@@ -151,9 +151,9 @@ module _ (t : List ℕ) where
       rw (not_there h w (ltb-true _ _ on_word.0)) (none h ws (suc k) on_word.1)
 
   module _ (list : WordList) where
-    pub no-space : byte_at t 0 ≡ 32 → Nothing ≡ word_in list t
+    pub no_space : byte_at t 0 ≡ 32 → Nothing ≡ word_in list t
     unfolding word_in
-    no-space h = sym (none h (small_words list) 0 (laid list).small)
+    no_space h = sym (none h (small_words list) 0 (laid list).small)
 
     -- what the search finds from row k on
     abbrev pub from : ℕ → Word
@@ -169,8 +169,8 @@ module _ (t : List ℕ) where
       abbrev w : List ℕ
       w = get_or (small_words list) k []
 
-      length-is : n ≡ length_at w t 0
-      length-is = is ∙ ap (λ (v : List ℕ). length_at v t 0) ((laid list).row k h)
+      length_is : n ≡ length_at w t 0
+      length_is = is ∙ ap (λ (v : List ℕ). length_at v t 0) ((laid list).row k h)
 
       -- past the last word the row is empty
       no_word : length (small_words list) ≤ k → w ≡ []
@@ -179,30 +179,30 @@ module _ (t : List ℕ) where
       a_word : k < length (small_words list) → 0 < length w
       a_word l =
           let above : 32 < byte_at w 0 = ltb-true _ _ (entry begins [] (small_words list) (laid list).small k l) in
-          byte-within w 0 (λ z. omega arith)
+          byte_within w 0 (λ z. omega arith)
 
       -- the three cases: the word of row k is there, it is not, or row k is past the last word
-      by_Row
+      by_row
           : {P : Type 0} → (k < length (small_words list) → matches_at w t 0 ≡ true → n ≡ length w → P)
           → (k < length (small_words list) → matches_at w t 0 ≡ false → n ≡ 0 → P) → (length (small_words list) ≤ k → n ≡ 0 → P) → P
-      by_Row {P} hit miss past =
+      by_row {P} hit miss past =
           (elim (ltb k (length (small_words list))) as (λ b. ltb k (length (small_words list)) ≡ b → P) [
             | true ↦ λ l.
                 (elim (matches_at w t 0) as (λ b. matches_at w t 0 ≡ b → P) [
-                  | true ↦ λ e. hit (ltb-true _ _ l) e (rw e at length-is)
-                  | false ↦ λ e. miss (ltb-true _ _ l) e (rw e at length-is)
+                  | true ↦ λ e. hit (ltb-true _ _ l) e (rw e at length_is)
+                  | false ↦ λ e. miss (ltb-true _ _ l) e (rw e at length_is)
                 ]) refl
-            | false ↦ λ l. let past-last = ltb-false _ _ l in past past-last (rw (no_word past-last) at length-is)
+            | false ↦ λ l. let past_last = ltb-false _ _ l in past past_last (rw (no_word past_last) at length_is)
           ]) refl
 
       pub found : 0 < n → word_in list t ≡ from k → At k n ≡ word_in list t
       found p q =
-          by_Row (λ l e m. ap (At k) m ∙ sym (q ∙ rw (drop-cons (small_words list) k [] l, e))) (λ l e m. absurd (omega arith))
+          by_row (λ l e m. ap (At k) m ∙ sym (q ∙ rw (drop-cons (small_words list) k [] l, e))) (λ l e m. absurd (omega arith))
           (λ l m. absurd (omega arith))
 
       pub next : n ≤ 0 → from k ≡ from (k + 1)
       next p =
-          by_Row (λ l e m. absurd (omega (arith, a_word l))) (λ l e m. rw (drop-cons (small_words list) k [] l, e, add-one k))
+          by_row (λ l e m. absurd (omega (arith, a_word l))) (λ l e m. rw (drop-cons (small_words list) k [] l, e, add-one k))
           (λ l m. rw (drop_of_length-le (small_words list) l, drop_of_length-le (small_words list) {i = k + 1} (omega arith)))
 
 -- what is found in the folded beginning, in nine bytes, is what is found in the input
@@ -210,5 +210,5 @@ pub searched
     : (list : WordList) (s : List ℕ) (at n : ℕ) (start : List ℕ) (r : Word) → n ≡ longest (words_of list) → start ≡ in_nine (beginning n s at) → r ≡ word_in list start
     → Found s at (word_at list s at) r
 searched list s at n start r m b e =
-    let is : r ≡ word_at list s at = e ∙ ap (word_in list) (b ∙ ap (λ (k : ℕ). in_nine (beginning k s at)) m) ∙ same_word list _ ∙ fold-once.same list s at in
+    let is : r ≡ word_at list s at = e ∙ ap (word_in list) (b ∙ ap (λ (k : ℕ). in_nine (beginning k s at)) m) ∙ same_word list _ ∙ fold_once.same list s at in
     record { is = is; inside = subst (Inside s at) (sym is) (inside s at list) }

@@ -48,11 +48,11 @@ abbrev pub read_word : List ℕ → Node → Task → Fields → Place → Readi
 read_word s n task f p = stored_word n task (word_at (list_of task.operand) s p.at) f p
 
 -- unfolds all that a pattern that reads a word is computed by, for worked examples
-unfoldable pub word-computes : ℕ
+unfoldable pub word_computes : ℕ
 unfolding meant stored_word word_at
-word-computes = 0
+word_computes = 0
 
 -- May is month 5, PM is 1, and xii is December
 pub worked : (meant month 4 ≡ 5) × (meant odd_hour12 3 ≡ 1) × (meant roman_month 0 ≡ 12)
-unfolding word-computes
+unfolding word_computes
 worked = (refl, refl, refl)

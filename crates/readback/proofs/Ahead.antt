@@ -1,9 +1,9 @@
 -- How far a reader may be ahead of the text that is left: by bytes in front that are spaces or separators.
 -- Assumes nothing.
 -- `Ahead e u`: the first e bytes of u are spaces or separators. `inked`: a text begins with a byte that is neither.
--- `ahead-spaces`, `ahead-skip`, `ahead_more`: a reader that skips spaces, or one more such byte, is still so ahead.
--- `ahead_within`: it is not past the end. `ahead-all`: where it is at the end, it is ahead by the whole last part.
--- `ink-ahead`, `ink-spaces`, `ink-some`: before an inked text no reader is ahead; it has no spaces; it is not empty.
+-- `ahead_spaces`, `ahead_skip`, `ahead_more`: a reader that skips spaces, or one more such byte, is still so ahead.
+-- `ahead_within`: it is not past the end. `ahead_all`: where it is at the end, it is ahead by the whole last part.
+-- `ink_ahead`, `ink_spaces`, `ink_some`: before an inked text no reader is ahead; it has no spaces; it is not empty.
 use mathlib.Core.Path.{◌≡◌, refl}
 use mathlib.Core.Bool.{Bool, true, false, not, false≢true}
 use mathlib.Core.List.{List, [], ◌∷◌, ◌++◌}
@@ -24,10 +24,10 @@ Ahead zero u = Unit {0}
 Ahead (suc e) [] = ⊥
 Ahead (suc e) (b ∷ u) = (is_blank b ≡ true) × Ahead e u
 
-pub ahead-spaces : (u : List ℕ) → Ahead (spaces u) u
+pub ahead_spaces : (u : List ℕ) → Ahead (spaces u) u
 unfolding leading
-ahead-spaces [] = tt
-ahead-spaces (b ∷ u) = by (is_space b) refl (ahead-spaces u)
+ahead_spaces [] = tt
+ahead_spaces (b ∷ u) = by (is_space b) refl (ahead_spaces u)
   where
     by : (t : Bool) → is_space b ≡ t → Ahead (spaces u) u → Ahead (when t then suc (spaces u) else 0) (b ∷ u)
     by true q ih = (rw q, ih)
@@ -48,25 +48,25 @@ abbrev pub inked : List ℕ → Bool
 inked [] = false
 inked (b ∷ u) = not (is_blank b)
 
-pub ink-ahead : (u v : List ℕ) → inked u ≡ true → (e : ℕ) → Ahead e (u ++ v) → e ≡ 0
-ink-ahead u v i zero k = refl
-ink-ahead [] v i (suc e) k = absurd (false≢true i)
-ink-ahead (b ∷ u) v i (suc e) k = absurd (false≢true (rw k.0 at i))
+pub ink_ahead : (u v : List ℕ) → inked u ≡ true → (e : ℕ) → Ahead e (u ++ v) → e ≡ 0
+ink_ahead u v i zero k = refl
+ink_ahead [] v i (suc e) k = absurd (false≢true i)
+ink_ahead (b ∷ u) v i (suc e) k = absurd (false≢true (rw k.0 at i))
 
-pub ink-spaces : (u v : List ℕ) → inked u ≡ true → spaces (u ++ v) ≡ 0
+pub ink_spaces : (u v : List ℕ) → inked u ≡ true → spaces (u ++ v) ≡ 0
 unfolding leading
-ink-spaces [] v i = absurd (false≢true i)
-ink-spaces (b ∷ u) v i = rw (neither (is_space b) (is_separator b) (not-true _ i)).0
+ink_spaces [] v i = absurd (false≢true i)
+ink_spaces (b ∷ u) v i = rw (neither (is_space b) (is_separator b) (not-true _ i)).0
 
-pub ink-some : (u : List ℕ) → inked u ≡ true → 0 < length u
-ink-some [] i = absurd (false≢true i)
-ink-some (b ∷ u) i = omega arith
+pub ink_some : (u : List ℕ) → inked u ≡ true → 0 < length u
+ink_some [] i = absurd (false≢true i)
+ink_some (b ∷ u) i = omega arith
 
-pub ahead-all : (u v : List ℕ) → Ahead (length (u ++ v)) (u ++ v) → Ahead (length v) v
-ahead-all [] v k = k
-ahead-all (b ∷ u) v k = ahead-all u v k.1
+pub ahead_all : (u v : List ℕ) → Ahead (length (u ++ v)) (u ++ v) → Ahead (length v) v
+ahead_all [] v k = k
+ahead_all (b ∷ u) v k = ahead_all u v k.1
 
-pub ahead-skip : (e : ℕ) (u : List ℕ) → Ahead e u → Ahead (e + spaces (drop e u)) u
-ahead-skip zero u k = rw (zero-add (spaces u)) (ahead-spaces u)
-ahead-skip (suc e) [] k = absurd k
-ahead-skip (suc e) (b ∷ u) k = rw (suc-add e (spaces (drop e u))) (k.0, ahead-skip e u k.1)
+pub ahead_skip : (e : ℕ) (u : List ℕ) → Ahead e u → Ahead (e + spaces (drop e u)) u
+ahead_skip zero u k = rw (zero-add (spaces u)) (ahead_spaces u)
+ahead_skip (suc e) [] k = absurd k
+ahead_skip (suc e) (b ∷ u) k = rw (suc-add e (spaces (drop e u))) (k.0, ahead_skip e u k.1)

@@ -15,7 +15,7 @@ use Rattle.write_pieces.specs.declared.Moment.{Moment}
 use Rattle.write_text.specs.declared.Unwritten.{Unwritten}
 use Rattle.write_text.specs.declared.Written.{Written}
 use Rattle.write_text.specs.declared.Written.TheVariants.{Length, Refused}
-use Rattle.write_text.proofs.Room.{to-measured}
+use Rattle.write_text.proofs.Room.{to_measured}
 use Rattle.readback.specs.ReadBack.{WroteAndRead, again_of, read_again}
 use Rattle.readback.specs.declared.Again.{Again}
 use Rattle.readback.specs.declared.Again.TheVariants.{NotWritten}
@@ -39,19 +39,19 @@ module _ (set : Settings) (t : List ℕ) (m : Moment) {before after : List ℕ} 
     pub not_written : {why : Unwritten} → w ≡ Refused why → WroteAndRead set t m before after (NotWritten why)
     unfolding again_of
     not_written {why} refused =
-        let as-defined = sym wrote.is ∙ refused in
-        promised (NotWritten why) (rw as-defined) (wrote.buffer ∙ rw (as-defined, refused))
+        let as_defined = sym wrote.is ∙ refused in
+        promised (NotWritten why) (rw as_defined) (wrote.buffer ∙ rw (as_defined, refused))
 
     module _ {n : ℕ} (written : w ≡ Length n) where
       known : n ≡ length (text_of t m)
-      known = (to-measured (length before) set t m n (sym wrote.is ∙ written)).0
+      known = (to_measured (length before) set t m n (sym wrote.is ∙ written)).0
 
       after_is : after ≡ text_of t m ++ drop n before
       after_is = wrote.buffer ∙ rw written
 
       -- the buffer begins with the text
-      text_in-front : take n after ≡ text_of t m
-      text_in-front = rw (after_is, known) (take-append_seam (text_of t m) _)
+      text_in_front : take n after ≡ text_of t m
+      text_in_front = rw (after_is, known) (take-append_seam (text_of t m) _)
 
       pub room : n ≤ length after
       room = rw after_is (omega (arith, known, length-append (text_of t m) (drop n before)))
@@ -59,5 +59,5 @@ module _ (set : Settings) (t : List ℕ) (m : Moment) {before after : List ℕ} 
       pub read : (r : Again) → r ≡ read_again set t (take n after) (Length (length (take n after))) → WroteAndRead set t m before after r
       unfolding again_of
       read r answer =
-          let as-defined = sym wrote.is ∙ written in
-          promised r (answer ∙ rw (text_in-front, as-defined, known)) (wrote.buffer ∙ rw (as-defined, written))
+          let as_defined = sym wrote.is ∙ written in
+          promised r (answer ∙ rw (text_in_front, as_defined, known)) (wrote.buffer ∙ rw (as_defined, written))

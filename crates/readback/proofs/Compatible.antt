@@ -51,8 +51,8 @@ no_field k =
     ]) refl
 
 -- a date mode that was set and is the piece's is no other
-mode-kept : (c : ℕ) (v : Kept) (p : ℕ) (m : Moment) → is_mode c v ≡ true → mixes c (value_of v p m) ≡ false
-mode-kept c v p m e = by (eqb c 0) refl v e
+mode_kept : (c : ℕ) (v : Kept) (p : ℕ) (m : Moment) → is_mode c v ≡ true → mixes c (value_of v p m) ≡ false
+mode_kept c v p m e = by (eqb c 0) refl v e
   where
     by : (t : Bool) → eqb c 0 ≡ t → (v : Kept) → is_mode c v ≡ true → mixes c (value_of v p m) ≡ false
     by true q v e = rw q
@@ -61,16 +61,16 @@ mode-kept c v p m e = by (eqb c 0) refl v e
         let same : n ≡ c = eqb-true n c (rw q at e) in
         rw (q, same, eq-eqb c c refl) (and-false (not (eqb c 0)))
 
-own-times : (p : ℕ) (ps : List ℕ) → times p (p ∷ ps) ≡ suc (times p ps)
+own_times : (p : ℕ) (ps : List ℕ) → times p (p ∷ ps) ≡ suc (times p ps)
 unfolding times
-own-times p ps = rw (eq-eqb p p refl)
+own_times p ps = rw (eq-eqb p p refl)
 
 -- the pieces done, the piece p, and those that follow it are all
 module _ (all : List ℕ) (c : together all ≡ true) (m : Moment) (done : List ℕ) (p : ℕ) (ps : List ℕ) (small : p < 18)
     (fits : (q : ℕ) → times q done + times q (p ∷ ps) ≡ times q all) where
   -- p is one of all, so it passes the test
   here : has all p ≡ true
-  here = lt-ltb 0 (times p all) (omega (arith, fits p, own-times p ps))
+  here = lt-ltb 0 (times p all) (omega (arith, fits p, own_times p ps))
 
   pairs : (in_pairs (has all) settings ≡ true) × (all_from (λ (p x : ℕ). goes all p) 0 (replicate 18 0) ≡ true)
   pairs = both (in_pairs (has all) settings) _ c
@@ -80,28 +80,28 @@ module _ (all : List ℕ) (c : together all ≡ true) (m : Moment) (done : List 
 
   -- it was not read before
   unread : times p done ≡ 0
-  unread = omega (arith, leb-true (times p all) 1 needs.0, fits p, own-times p ps)
+  unread = omega (arith, leb-true (times p all) 1 needs.0, fits p, own_times p ps)
 
   -- a piece that is done is one of all, and is not p
   sub : (q : ℕ) → has done q ≡ true → has all q ≡ true
   sub q e = lt-ltb 0 (times q all) (omega (arith, ltb-true 0 (times q done) e, fits q))
 
-  sub-other : (q : ℕ) → has done q ≡ true → (has all q && not (eqb q p)) ≡ true
-  sub-other q e =
+  sub_other : (q : ℕ) → has done q ≡ true → (has all q && not (eqb q p)) ≡ true
+  sub_other q e =
       let another : eqb q p ≡ false = ne_eqb q p (λ x. let z : times q done ≡ 0 = rw x unread in omega (arith, ltb-true 0 (times q done) e)) in
       rw (sub q e, another)
 
   pub absent : get (expected done m) (task_for p).field ≡ pos 0
   unfolding expected
   absent =
-      held m (λ q. has all q && not (eqb q p)) done sub-other (λ z. z ≡ pos 0) (task_for p).field (λ r. false) (λ r e. absurd (false≢true e)) 0 settings
+      held m (λ q. has all q && not (eqb q p)) done sub_other (λ z. z ≡ pos 0) (task_for p).field (λ r. false) (λ r e. absurd (false≢true e)) 0 settings
       (both (clear all p) _ needs.1).0 no_fields (no_field (task_for p).field)
 
   pub unmixed : mixes (mode_for p) (get (expected done m) mode) ≡ false
   unfolding expected
   unmixed =
       held m (has all) done sub (λ z. mixes (mode_for p) z ≡ false) mode (λ (r : Setting). is_mode (mode_for p) r.kept)
-      (λ r e. mode-kept (mode_for p) r.kept r.piece m e) 0 settings (both (clear all p) _ needs.1).1 no_fields (and-false (not (eqb (mode_for p) 0)))
+      (λ r e. mode_kept (mode_for p) r.kept r.piece m e) 0 settings (both (clear all p) _ needs.1).1 no_fields (and-false (not (eqb (mode_for p) 0)))
 
   pub stored : filled_by settings (p ∷ []) m (expected done m) ≡ expected (p ∷ done) m
   unfolding expected

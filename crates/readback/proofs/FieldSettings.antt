@@ -8,7 +8,7 @@ use Prim.Native.Nat.{ℕ, ◌+◌, ◌%◌}
 use lib.Dec.{eqb, ltb}
 use lib.IntN.{ℤ, pos, nat_abs}
 use Rattle.base_notation.specs.Choice.{when◌then◌else◌}
-use Rattle.calendar_gregorian.specs.IsoWeek.{weeks-compute}
+use Rattle.calendar_gregorian.specs.IsoWeek.{weeks_compute}
 use Rattle.template_patterns.specs.Patterns as P
 use Rattle.read_fields.specs.Fields as F
 use Rattle.read_fields.specs.declared.Fields.{Fields}
@@ -97,7 +97,7 @@ pub worked
     : map (F.get (expected (micros ∷ marker ∷ weekday ∷ week ∷ week_year ∷ second ∷ minute ∷ hour12 ∷ []) (moment 2021 1 1 15 4 5 6)))
     (F.mode ∷ F.hh ∷ F.pm ∷ F.clock ∷ F.mi ∷ F.ss ∷ F.us ∷ F.year ∷ F.yysz ∷ F.ww ∷ F.d ∷ F.dd ∷ [])
     ≡ pos 2 ∷ pos 3 ∷ pos 1 ∷ pos 12 ∷ pos 4 ∷ pos 5 ∷ pos 6 ∷ pos 2020 ∷ pos 4 ∷ pos 53 ∷ pos 6 ∷ pos 0 ∷ []
-unfolding expected filled_by times own_of number_of weeks-compute
+unfolding expected filled_by times own_of number_of weeks_compute
 worked = refl
 
 -- a name sets the month and the date mode

@@ -1,7 +1,7 @@
 -- Settings of pieces may be put in any order, if those of one field put the same into it. Assumes nothing.
 -- `has`, `among`, `in_pairs`: a piece occurs; a test passes at the settings of some pieces; these go with each other.
 -- `other`: of "not a or b", where a holds, b holds.
--- `order-free`: how often each piece occurs decides what is set, and not where it occurs.
+-- `order_free`: how often each piece occurs decides what is set, and not where it occurs.
 -- `held`: what holds of a field, and of each value that is put into it, holds of it in the end.
 -- `one_more`: the settings of one piece, put after those of others, make the settings of all of them.
 use mathlib.Core.Path.{◌≡◌, ◌∙◌, refl, sym, ap}
@@ -58,16 +58,16 @@ module _ (m : Moment) where
   abbrev set_by : Setting → Fields → Fields
   set_by r f = put f r.field (value r)
 
-  pub order-free : (rs : List Setting) (ps qs : List ℕ) → ((q : ℕ) → times q ps ≡ times q qs) → (f : Fields) → filled_by rs ps m f ≡ filled_by rs qs m f
+  pub order_free : (rs : List Setting) (ps qs : List ℕ) → ((q : ℕ) → times q ps ≡ times q qs) → (f : Fields) → filled_by rs ps m f ≡ filled_by rs qs m f
   unfolding filled_by
-  order-free [] ps qs e f = refl
-  order-free (r ∷ rs) ps qs e f = rw (e r.piece) (order-free rs ps qs e _)
+  order_free [] ps qs e f = refl
+  order_free (r ∷ rs) ps qs e f = rw (e r.piece) (order_free rs ps qs e _)
 
-  alike-value : (a b : Kept) (p q : ℕ) → alike_by a b (eqb p q) ≡ true → value_of a p m ≡ value_of b q m
-  alike-value (always a) (always b) p q e = ap pos (eqb-true a b e)
-  alike-value (always a) own p q e = absurd (false≢true e)
-  alike-value own (always b) p q e = absurd (false≢true e)
-  alike-value own own p q e = rw (eqb-true p q e)
+  alike_value : (a b : Kept) (p q : ℕ) → alike_by a b (eqb p q) ≡ true → value_of a p m ≡ value_of b q m
+  alike_value (always a) (always b) p q e = ap pos (eqb-true a b e)
+  alike_value (always a) own p q e = absurd (false≢true e)
+  alike_value own (always b) p q e = absurd (false≢true e)
+  alike_value own own p q e = rw (eqb-true p q e)
 
   -- such settings may be put in either order
   commute : (r s : Setting) (f : Fields) → apart r s ≡ true → set_by r (set_by s f) ≡ set_by s (set_by r f)
@@ -76,17 +76,17 @@ module _ (m : Moment) where
       by : (t : Bool) → eqb r.field s.field ≡ t
           → set_by r (set_by s f) ≡ set_by s (set_by r f)
       by true q =
-          let same : value r ≡ value s = alike-value r.kept s.kept r.piece s.piece (rw q at e) in
+          let same : value r ≡ value s = alike_value r.kept s.kept r.piece s.piece (rw q at e) in
           rw (same, eqb-true r.field s.field q)
       by false q = ap (λ (v : List ℤ). record { values = v }) (sym (set_comm f.values r.field s.field (value r) (value s) (eqb-false _ _ q)))
 
   module _ (known : ℕ → Bool) (done : List ℕ) (sub : (q : ℕ) → has done q ≡ true → known q ≡ true) where
     -- a setting may be put before those of the pieces done, as well as after them
-    put-past : (r : Setting) (i : ℕ) (rs : List Setting) → among known (apart r) i rs ≡ true → (f : Fields)
+    put_past : (r : Setting) (i : ℕ) (rs : List Setting) → among known (apart r) i rs ≡ true → (f : Fields)
         → set_by r (filled_by rs done m f) ≡ filled_by rs done m (set_by r f)
     unfolding filled_by
-    put-past r i [] e f = refl
-    put-past r i (s ∷ rs) e f = put-past r (suc i) rs split.1 _ ∙ ap (filled_by rs done m) (by (has done s.piece) refl)
+    put_past r i [] e f = refl
+    put_past r i (s ∷ rs) e f = put_past r (suc i) rs split.1 _ ∙ ap (filled_by rs done m) (by (has done s.piece) refl)
       where
         split : (not (known s.piece) || apart r s ≡ true) × (among known (apart r) (suc i) rs ≡ true)
         split = both (not (known s.piece) || apart r s) _ e
@@ -132,5 +132,5 @@ module _ (m : Moment) where
             let none : times r.piece done ≡ 0 = rw same z in
             let before : filled_by (r ∷ rs) done m f ≡ filled_by rs done m f = rw none in
             rw (before, q, none) (
-            ap (filled_by rs (p ∷ []) m) (put-past r 0 rs (other (known r.piece) _ (rw same kp) split.0) f) ∙ ih (set_by r f))
+            ap (filled_by rs (p ∷ []) m) (put_past r 0 rs (other (known r.piece) _ (rw same kp) split.0) f) ∙ ih (set_by r f))
         by false q ih = rw q (ih _)

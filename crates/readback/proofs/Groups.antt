@@ -1,8 +1,8 @@
 -- The pieces of a full template are those of a date group, a time group and US, in some order. Assumes nothing.
 -- `EachFull`: a property of the pieces of each date group with each time group and US.
 -- `grouped`: pieces that are full occur as often as in one of these lists, which has each property of all (`Grouped`).
--- `pieces-below`: the pieces of sound nodes are below 18.
--- `expected-same`: what pieces set depends on how often each occurs, and on nothing else.
+-- `pieces_below`: the pieces of sound nodes are below 18.
+-- `expected_same`: what pieces set depends on how often each occurs, and on nothing else.
 use mathlib.Core.Path.{◌≡◌, ◌∙◌, refl, sym}
 use mathlib.Core.Bool.{Bool, true, false, false≢true}
 use mathlib.Core.List.{List, [], ◌∷◌, ◌++◌}
@@ -19,8 +19,8 @@ use Rattle.write_text.specs.Full.{pieces, date_groups, time_groups, times, same_
 use Rattle.write_pieces.specs.Pieces.{micros, piece_of}
 use Rattle.write_pieces.specs.declared.Moment.{Moment}
 use Rattle.readback.proofs.FieldSettings.{expected}
-use Rattle.readback.proofs.Filled.{order-free}
-use Rattle.readback.proofs.Sound.{Sound, a-literal, a-pattern, AllSound, pieces-literal, pieces-pattern}
+use Rattle.readback.proofs.Filled.{order_free}
+use Rattle.readback.proofs.Sound.{Sound, a_literal, a_pattern, AllSound, pieces_literal, pieces-pattern}
 
 -- a property of each of the lists
 abbrev pub AllOf : (List ℕ → Type 0) → List (List ℕ) → Type 0
@@ -49,11 +49,11 @@ abbrev pub EachFull : (List ℕ → Type 0) → Type 0
 EachFull P = AllOf (Timed P) date_groups
 
 -- each of the pieces 0 to 17 occurs as often
-same-each : (ps qs : List ℕ) (n i : ℕ) → same_from (count_from i (suc n)) ps qs ≡ true → Each (λ q. times q ps ≡ times q qs) i n
-same-each ps qs zero i e = eqb-true _ _ (both (eqb (times i ps) (times i qs)) _ e).0
-same-each ps qs (suc n) i e =
+same_each : (ps qs : List ℕ) (n i : ℕ) → same_from (count_from i (suc n)) ps qs ≡ true → Each (λ q. times q ps ≡ times q qs) i n
+same_each ps qs zero i e = eqb-true _ _ (both (eqb (times i ps) (times i qs)) _ e).0
+same_each ps qs (suc n) i e =
     let split = both (eqb (times i ps) (times i qs)) _ e in
-    (eqb-true _ _ split.0, same-each ps qs n (suc i) split.1)
+    (eqb-true _ _ split.0, same_each ps qs n (suc i) split.1)
 
 -- pieces are below 18
 abbrev pub below18 : List ℕ → Bool
@@ -70,18 +70,18 @@ none_above (p ∷ ps) i q e h =
 pub same-times : (ps qs : List ℕ) → below18 ps ≡ true → below18 qs ≡ true → same ps qs ≡ true → (q : ℕ) → times q ps ≡ times q qs
 same-times ps qs b c e q =
     (elim (ltb q 18) as (λ w. ltb q 18 ≡ w → times q ps ≡ times q qs) [
-      | true ↦ λ w. each (λ q. times q ps ≡ times q qs) 0 17 (same-each ps qs 17 0 e) q (omega arith) (omega (arith, ltb-true q 18 w))
+      | true ↦ λ w. each (λ q. times q ps ≡ times q qs) 0 17 (same_each ps qs 17 0 e) q (omega arith) (omega (arith, ltb-true q 18 w))
       | false ↦ λ w. none_above ps 0 q b (ltb-false q 18 w) ∙ sym (none_above qs 0 q c (ltb-false q 18 w))
     ]) refl
 
 -- pieces that are, in some order, those of two groups and US
 pub record Grouped (ps : List ℕ) : Type 1 where
   pub all : List ℕ
-  pub as-often : (q : ℕ) → times q ps ≡ times q all
+  pub as_often : (q : ℕ) → times q ps ≡ times q all
   pub pick : (P : List ℕ → Type 0) → EachFull P → P all
 
-all-below : EachFull (λ all. below18 all ≡ true)
-all-below = (
+all_below : EachFull (λ all. below18 all ≡ true)
+all_below = (
   (refl, (refl, (refl, (refl, tt)))),
   ((refl, (refl, (refl, (refl, tt)))), ((refl, (refl, (refl, (refl, tt)))), ((refl, (refl, (refl, (refl, tt)))), ((refl, (refl, (refl, (refl, tt)))), tt)))),
 )
@@ -101,17 +101,17 @@ grouped ps below e =
 
     whole : (all : List ℕ) → ((P : List ℕ → Type 0) → EachFull P → P all) → same ps all ≡ true → Grouped ps
     whole all pick r =
-        record { all = all; as-often = same-times ps all below (pick (λ x. below18 x ≡ true) all-below) r; pick = pick }
+        record { all = all; as_often = same-times ps all below (pick (λ x. below18 x ≡ true) all_below) r; pick = pick }
 
-pub pieces-below : (t : List ℕ) (ns : List Node) (i : ℕ) → AllSound t ns → all_from (λ (i p : ℕ). ltb p 18) i (pieces ns) ≡ true
+pub pieces_below : (t : List ℕ) (ns : List Node) (i : ℕ) → AllSound t ns → all_from (λ (i p : ℕ). ltb p 18) i (pieces ns) ≡ true
 unfolding pieces
-pieces-below t [] i a = refl
-pieces-below t (n ∷ ns) i a = by a.0 (λ j. pieces-below t ns j a.1)
+pieces_below t [] i a = refl
+pieces_below t (n ∷ ns) i a = by a.0 (λ j. pieces_below t ns j a.1)
   where
     by : Sound t n → ((j : ℕ) → all_from (λ (i p : ℕ). ltb p 18) j (pieces ns) ≡ true) → all_from (λ (i p : ℕ). ltb p 18) i (pieces (n ∷ ns)) ≡ true
-    by (a-literal l) ih = rw (pieces-literal t n ns l) (ih i)
-    by (a-pattern k) ih = rw (pieces-pattern t n ns k, lt-ltb (piece_of n.pattern) 18 k.reads.piece) (ih (suc i))
+    by (a_literal l) ih = rw (pieces_literal t n ns l) (ih i)
+    by (a_pattern k) ih = rw (pieces-pattern t n ns k, lt-ltb (piece_of n.pattern) 18 k.reads.piece) (ih (suc i))
 
-pub expected-same : (m : Moment) (ps qs : List ℕ) → ((q : ℕ) → times q ps ≡ times q qs) → expected ps m ≡ expected qs m
+pub expected_same : (m : Moment) (ps qs : List ℕ) → ((q : ℕ) → times q ps ≡ times q qs) → expected ps m ≡ expected qs m
 unfolding expected
-expected-same m ps qs e = order-free m _ ps qs e _
+expected_same m ps qs e = order_free m _ ps qs e _

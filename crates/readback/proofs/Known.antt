@@ -12,7 +12,7 @@ use lib.Dec.{eqb, leb, ltb}
 use lib.IntN.{nat_abs}
 use lib.ListN.{length, get_or, replicate}
 use Rattle.base_notation.proofs.Cases.{beq-true, both}
-use Rattle.read_fields.proofs.Assigned.{same_task, same-task}
+use Rattle.read_fields.proofs.Assigned.{same_task, same_task_lem}
 use Rattle.base_notation.specs.Choice.{when◌then◌else◌}
 use Rattle.base_notation.proofs.Table.{entry}
 use Rattle.template_patterns.specs.Affixes.{affix_length}
@@ -99,7 +99,7 @@ known k h n =
     let digits = both (beq (pattern_of k).is_digit (ltb p P.marker)) _ modes.1 in
     record {
       piece = ltb-true _ _ pieces.0;
-      does = same-task _ _ tasks.0;
+      does = same_task_lem _ _ tasks.0;
       mode = eqb-true _ _ modes.0;
       digit = beq-true _ _ digits.0;
       size = leb-true _ _ digits.1;

@@ -1,6 +1,6 @@
 -- The nodes of a well-formed template. Assumes nothing.
 -- `Alike`: what is read as a literal: one character, as long as it and of its first byte's class.
--- `good-nodes`: each node is a literal of one whole character (`Literal`) or a pattern of the table (`Named`), and
+-- `good_nodes`: each node is a literal of one whole character (`Literal`) or a pattern of the table (`Named`), and
 -- together, with their prefixes, they have no more bytes than the template (`lengths`). The idea: each step begins
 -- where a character begins (`Taken`).
 use mathlib.Core.Path.{◌≡◌, ◌∙◌, refl, sym}
@@ -16,28 +16,28 @@ use lib.ListN.{length, take, drop, length-take, length-drop}
 use lib.Seq.{drop-cons, get_or-drop}
 use Rattle.base_notation.specs.Choice.{when◌then◌else◌}
 use Rattle.base_notation.specs.Text.{byte_at}
-use Rattle.base_notation.proofs.Cases.{both, by-if}
+use Rattle.base_notation.proofs.Cases.{both, by_if}
 use Rattle.base_accents.specs.Accents.{mark_at, measure_of}
-use Rattle.base_accents.proofs.Marks.{low-no-mark}
-use Rattle.base_accents.proofs.Measures.{char-first, count, mark-left, measure-left, plain-one}
-use Rattle.base_accents.proofs.Texts.{mark-kept, measure-kept, past-character, whole-character}
+use Rattle.base_accents.proofs.Marks.{low_no_mark}
+use Rattle.base_accents.proofs.Measures.{char_first, count, mark_left, measure_left, plain_one}
+use Rattle.base_accents.proofs.Texts.{mark_kept, measure_kept, past_character, whole_character}
 use Rattle.base_chars.specs.Character.{char_length, lead}
 use Rattle.base_chars.specs.Class.{class_of, is_letter, is_space, is_separator}
 use Rattle.base_chars.specs.Utf8.{well_formed, sequence}
 use Rattle.base_chars.proofs.Characters.{measure}
 use Rattle.base_chars.proofs.Sequences.{sequence-lead}
-use Rattle.base_chars.proofs.WellFormed.{char-is-sequence}
+use Rattle.base_chars.proofs.WellFormed.{char_is_sequence}
 use Rattle.template_patterns.specs.Affixes.{affix_length, bit_at}
 use Rattle.template_patterns.specs.Patterns.{name_of}
 use Rattle.template_patterns.specs.Search.{pattern_at}
 use Rattle.template_patterns.specs.declared.Found.{Found}
 use Rattle.template_patterns.specs.declared.Found.TheVariants.{Pattern, Nothing}
-use Rattle.template_patterns.proofs.Search.{found-range, found_name}
+use Rattle.template_patterns.proofs.Search.{found_range, found_name}
 use Rattle.template_nodes.specs.Template.{end, action, character, separator, space, kind_of, char_at, char_place, escapes, in_mode, literal, literal_at, skip, element_of, plain_at, step_at, nodes_by, nodes_from, made_by}
 use Rattle.template_nodes.specs.declared.Node.{Node}
 use Rattle.template_nodes.specs.declared.Step.{Step}
 use Rattle.write_text.specs.Text.{literal_text}
-use Rattle.readback.proofs.Boundaries.{Boundary, past-byte, past-affix, past-pattern}
+use Rattle.readback.proofs.Boundaries.{Boundary, past_byte, past_affix, past_pattern}
 
 -- a space or a separator
 abbrev pub is_blank : ℕ → Bool
@@ -58,26 +58,26 @@ pub record Alike (t : List ℕ) (n : Node) (x : List ℕ) : Type 0 where
 pub one_byte : {t : List ℕ} {n : Node} {x : List ℕ} (a : Alike t n x) → a.b < 0x80 → is_letter a.b ≡ false → n.len ≡ 1
 one_byte {n = n} {x = x} a small e =
     let text : x ++ [] ≡ a.b ∷ a.others ++ [] = rw a.is in
-    sym (a.long [] (λ m. low-no-mark [] 0 (omega arith)))
-    ∙ rw text (plain-one (a.b ∷ a.others ++ []) 0 n.accents (omega arith) small e)
+    sym (a.long [] (λ m. low_no_mark [] 0 (omega arith)))
+    ∙ rw text (plain_one (a.b ∷ a.others ++ []) 0 n.accents (omega arith) small e)
 
 -- a literal: one character of the template
 pub record Literal (t : List ℕ) (n : Node) : Type 0 where
   pub own : Alike t n (literal_text t n)
   pub begins : (v : List ℕ) → mark_at (literal_text t n ++ v) 0 ≡ mark_at t n.start
-  pub no-action : eqb n.kind action ≡ false
+  pub no_action : eqb n.kind action ≡ false
   pub no_end : eqb n.kind end ≡ false
   pub blank : (eqb n.kind separator || eqb n.kind space) ≡ true → is_blank (byte_at t n.start) ≡ true
 
 -- a pattern of the table
 pub record Named (n : Node) : Type 0 where
-  pub is-action : n.kind ≡ action
+  pub is_action : n.kind ≡ action
   pub known : n.pattern < 112
   pub size : n.len ≡ length (name_of n.pattern)
 
 pub data Good (t : List ℕ) (n : Node) : Type 0 where
-  is-literal : Literal t n → Good t n
-  is-named : Named n → Good t n
+  is_literal : Literal t n → Good t n
+  is_named : Named n → Good t n
 
 abbrev pub AllGood : List ℕ → List Node → Type 0
 AllGood t [] = Unit {0}
@@ -90,22 +90,22 @@ lengths (n ∷ ns) = n.len + affix_length n.suffix + lengths ns
 
 -- a kind of literals: of a character as it is, or by its class
 record Kind (kind b : ℕ) : Type 0 where
-  no-action : eqb kind action ≡ false
+  no_action : eqb kind action ≡ false
   no_end : eqb kind end ≡ false
   blank : (eqb kind separator || eqb kind space) ≡ true → is_blank b ≡ true
 
-plain-kind : (b : ℕ) → Kind character b
-plain-kind b = record { no-action = refl; no_end = refl; blank = λ e. absurd (false≢true e) }
+plain_kind : (b : ℕ) → Kind character b
+plain_kind b = record { no_action = refl; no_end = refl; blank = λ e. absurd (false≢true e) }
 
-class-kind : (b : ℕ) → Kind (kind_of b) b
+class_kind : (b : ℕ) → Kind (kind_of b) b
 unfolding kind_of
-class-kind b = by (is_separator b) (is_space b) refl refl
+class_kind b = by (is_separator b) (is_space b) refl refl
   where
     by : (u v : Bool) → is_separator b ≡ u → is_space b ≡ v → Kind (when u then separator else when v then space else character) b
-    by true true p q = record { no-action = refl; no_end = refl; blank = λ e. rw (p, q) }
-    by true false p q = record { no-action = refl; no_end = refl; blank = λ e. rw (p, q) }
-    by false true p q = record { no-action = refl; no_end = refl; blank = λ e. rw (p, q) }
-    by false false p q = record { no-action = refl; no_end = refl; blank = λ e. absurd (false≢true e) }
+    by true true p q = record { no_action = refl; no_end = refl; blank = λ e. rw (p, q) }
+    by true false p q = record { no_action = refl; no_end = refl; blank = λ e. rw (p, q) }
+    by false true p q = record { no_action = refl; no_end = refl; blank = λ e. rw (p, q) }
+    by false false p q = record { no_action = refl; no_end = refl; blank = λ e. absurd (false≢true e) }
 
 -- what a step from a place takes: it makes a good node or none, and ends where a character begins
 record Taken (t : List ℕ) (at : ℕ) (s : Step) : Type 0 where
@@ -118,31 +118,31 @@ module _ (accents : Bool) (t : List ℕ) where
   first_byte p = rw (get_or-drop p t 0 0, add-zero p)
 
   -- a character is as long by itself
-  own-long : (p : ℕ) (v : List ℕ) → lead (byte_at t p) ≤ length (drop p t) → (accents ≡ true → mark_at v 0 ≡ false)
+  own_long : (p : ℕ) (v : List ℕ) → lead (byte_at t p) ≤ length (drop p t) → (accents ≡ true → mark_at v 0 ≡ false)
       → measure_of accents (take (measure_of accents t p) (drop p t) ++ v) 0 ≡ measure_of accents t p
-  own-long p v whole clear =
-      rw (← measure-left t p accents) (measure-kept (drop p t) v (rw (first_byte p) whole) accents clear)
+  own_long p v whole clear =
+      rw (← measure_left t p accents) (measure_kept (drop p t) v (rw (first_byte p) whole) accents clear)
 
   -- and is a mark or none, as in the template
-  own-mark : (p : ℕ) (v : List ℕ) → lead (byte_at t p) ≤ length (drop p t) → lead (byte_at t p) ≤ measure_of accents t p
+  own_mark : (p : ℕ) (v : List ℕ) → lead (byte_at t p) ≤ length (drop p t) → lead (byte_at t p) ≤ measure_of accents t p
       → mark_at (take (measure_of accents t p) (drop p t) ++ v) 0 ≡ mark_at t p
-  own-mark p v whole enough = mark-kept (drop p t) v (rw (first_byte p) whole) (measure_of accents t p) (rw (first_byte p) enough) ∙ mark-left t p
+  own_mark p v whole enough = mark_kept (drop p t) v (rw (first_byte p) whole) (measure_of accents t p) (rw (first_byte p) enough) ∙ mark_left t p
 
   -- a literal character at p
-  char-taken : (at p kind : ℕ) (quoted : Bool) → at ≤ p → p < length t → Boundary t p → Kind kind (byte_at t p) → Taken t at (char_at accents t p kind quoted)
-  char-taken at p kind quoted l h b k =
+  char_taken : (at p kind : ℕ) (quoted : Bool) → at ≤ p → p < length t → Boundary t p → Kind kind (byte_at t p) → Taken t at (char_at accents t p kind quoted)
+  char_taken at p kind quoted l h b k =
       let x = byte_at t p in
       let r = drop (suc p) t in
       let d : drop p t ≡ x ∷ r = drop-cons t p 0 h in
       let one_char = count accents t p in
-      let same : char_length t p ≡ sequence (x ∷ r) = char-is-sequence t p h b.begins ∙ rw d in
+      let same : char_length t p ≡ sequence (x ∷ r) = char_is_sequence t p h b.begins ∙ rw d in
       let long : lead x ≡ char_length t p = sequence-lead x r (omega (arith, (measure t p).some, same)) ∙ sym same in
       let whole : lead x ≤ length (drop p t) = omega (arith, long, (measure t p).within, length-drop p t) in
       record {
-        next = record { within = omega (arith, one_char.within); begins = past-character accents t p b.begins };
+        next = record { within = omega (arith, one_char.within); begins = past_character accents t p b.begins };
         from = omega arith;
         node = λ e. (
-          is-literal ((elim (measure_of accents t p) as (λ n. measure_of accents t p ≡ n → Literal t (in_mode accents (literal kind p (measure_of accents t p)))) [
+          is_literal ((elim (measure_of accents t p) as (λ n. measure_of accents t p ≡ n → Literal t (in_mode accents (literal kind p (measure_of accents t p)))) [
             | zero ↦ λ q. absurd (omega (arith, one_char.some))
             | suc n ↦ λ q. record {
               own = record {
@@ -150,12 +150,12 @@ module _ (accents : Bool) (t : List ℕ) where
                 others = take n r;
                 is = rw (q, d);
                 size = omega (arith, q, length-take n r, length-drop (suc p) t, one_char.within);
-                long = λ v clear. own-long p v whole clear;
+                long = λ v clear. own_long p v whole clear;
                 class = refl;
-                whole = whole-character accents t p b.begins h;
+                whole = whole_character accents t p b.begins h;
               };
-              begins = λ v. own-mark p v whole (omega (arith, long, char-first accents t p));
-              no-action = k.no-action;
+              begins = λ v. own_mark p v whole (omega (arith, long, char_first accents t p));
+              no_action = k.no_action;
               no_end = k.no_end;
               blank = k.blank;
             }
@@ -173,69 +173,69 @@ module _ (accents : Bool) (t : List ℕ) where
   placed : (at : ℕ) (quoted : Bool) → at < length t → Boundary t at → Place at (char_place t at quoted)
   unfolding char_place
   placed at quoted h b =
-      by-if (Place at) (escapes t at quoted) (at + 1) at
+      by_if (Place at) (escapes t at quoted) (at + 1) at
       (λ e. let escape = both (eqb (byte_at t at) 92) _ e in
-      let next = (past-byte t at 92 refl (eqb-true _ _ escape.0) b).1 in
+      let next = (past_byte t at 92 refl (eqb-true _ _ escape.0) b).1 in
       record { from = omega arith; inside = inside quoted next escape.1; boundary = next })
       (λ e. record { from = omega arith; inside = h; boundary = b })
     where
       inside : (q : Bool) → Boundary t (at + 1) → (when q then ltb (at + 1) (length t) else eqb (byte_at t (at + 1)) 34) ≡ true → at + 1 < length t
       inside true next e = ltb-true _ _ e
-      inside false next e = (past-byte t (at + 1) 34 refl (eqb-true _ _ e) next).0
+      inside false next e = (past_byte t (at + 1) 34 refl (eqb-true _ _ e) next).0
 
   -- a step that makes no node
   skipped : (from at : ℕ) (quoted : Bool) → from ≤ at → Boundary t at → Taken t from (skip at quoted)
   skipped from at quoted l b = record { next = b; from = l; node = λ e. absurd (false≢true e) }
 
   -- a quote is skipped, anything else is a literal character
-  literal-taken : (from at : ℕ) (quoted : Bool) → from ≤ at → at < length t → Boundary t at → Taken t from (literal_at accents t at quoted)
+  literal_taken : (from at : ℕ) (quoted : Bool) → from ≤ at → at < length t → Boundary t at → Taken t from (literal_at accents t at quoted)
   unfolding literal_at
-  literal-taken from at quoted l h b =
+  literal_taken from at quoted l h b =
       let char = placed at quoted h b in
-      by-if (Taken t from) (eqb (byte_at t at) 34) (skip (at + 1) (not quoted)) _
-      (λ e. skipped from (at + 1) (not quoted) (omega arith) (past-byte t at 34 refl (eqb-true _ _ e) b).1)
-      (λ e. char-taken from (char_place t at quoted) _ quoted (omega arith) char.inside char.boundary (kind quoted))
+      by_if (Taken t from) (eqb (byte_at t at) 34) (skip (at + 1) (not quoted)) _
+      (λ e. skipped from (at + 1) (not quoted) (omega arith) (past_byte t at 34 refl (eqb-true _ _ e) b).1)
+      (λ e. char_taken from (char_place t at quoted) _ quoted (omega arith) char.inside char.boundary (kind quoted))
     where
       kind : (q : Bool) → Kind (when q then character else kind_of (byte_at t (char_place t at quoted))) (byte_at t (char_place t at quoted))
-      kind true = plain-kind _
-      kind false = class-kind _
+      kind true = plain_kind _
+      kind false = class_kind _
 
   -- the affixes of a pattern have the bytes that are taken for its prefix and its suffix
-  affix-bytes : (prefix suffix : ℕ) → affix_length (bit_or prefix suffix) ≤ affix_length prefix + affix_length suffix
-  affix-bytes prefix suffix = by (eqb prefix 0) refl
+  affix_bytes : (prefix suffix : ℕ) → affix_length (bit_or prefix suffix) ≤ affix_length prefix + affix_length suffix
+  affix_bytes prefix suffix = by (eqb prefix 0) refl
     where
       by : (b : Bool) → eqb prefix 0 ≡ b → affix_length (bit_or prefix suffix) ≤ (when b then 0 else 2) + affix_length suffix
       by true e = rw (eqb-true prefix 0 e, or_zero_l suffix) (omega arith)
-      by false e = by-if (λ (n : ℕ). n ≤ 2 + affix_length suffix) (eqb (bit_or prefix suffix) 0) 0 2 (λ q. omega arith) (λ q. omega arith)
+      by false e = by_if (λ (n : ℕ). n ≤ 2 + affix_length suffix) (eqb (bit_or prefix suffix) 0) 0 2 (λ q. omega arith) (λ q. omega arith)
 
   -- a pattern with its prefix and suffix, or a literal
-  element-taken : (from at prefix : ℕ) (f : Found) → pattern_at t at ≡ f → from + affix_length prefix ≤ at → at < length t → Boundary t at
+  element_taken : (from at prefix : ℕ) (f : Found) → pattern_at t at ≡ f → from + affix_length prefix ≤ at → at < length t → Boundary t at
       → Taken t from (element_of accents f t at prefix)
-  element-taken from at prefix Nothing e l h b = literal-taken from at false (omega arith) h b
-  element-taken from at prefix (Pattern k n) e l h b =
-      let number = found-range t at k n e in
+  element_taken from at prefix Nothing e l h b = literal_taken from at false (omega arith) h b
+  element_taken from at prefix (Pattern k n) e l h b =
+      let number = found_range t at k n e in
       let name = found_name t at k n e in
-      let past : Boundary t (at + n) = rw name.0 (past-pattern t at b k number.0 name.1) in
+      let past : Boundary t (at + n) = rw name.0 (past_pattern t at b k number.0 name.1) in
       record {
-        next = past-affix t (at + n) past false;
+        next = past_affix t (at + n) past false;
         from = omega arith;
-        node = λ q. (is-named (record { is-action = refl; known = number.0; size = name.0 }), omega (arith, affix-bytes prefix (bit_at false t (at + n))));
+        node = λ q. (is_named (record { is_action = refl; known = number.0; size = name.0 }), omega (arith, affix_bytes prefix (bit_at false t (at + n))));
       }
 
   -- outside quotes a prefix may come first
-  plain-taken : (at : ℕ) → at < length t → Boundary t at → Taken t at (plain_at accents t at)
+  plain_taken : (at : ℕ) → at < length t → Boundary t at → Taken t at (plain_at accents t at)
   unfolding plain_at
-  plain-taken at h b =
+  plain_taken at h b =
       let start = at + affix_length (bit_at true t at) in
-      let past : Boundary t start = past-affix t at b true in
-      by-if (Taken t at) (ltb start (length t)) _ (skip start false)
-      (λ e. element-taken at start (bit_at true t at) (pattern_at t start) refl (omega arith) (ltb-true _ _ e) past)
+      let past : Boundary t start = past_affix t at b true in
+      by_if (Taken t at) (ltb start (length t)) _ (skip start false)
+      (λ e. element_taken at start (bit_at true t at) (pattern_at t start) refl (omega arith) (ltb-true _ _ e) past)
       (λ e. skipped at start false (omega arith) past)
 
-  step-taken : (at : ℕ) (quoted : Bool) → at < length t → Boundary t at → Taken t at (step_at accents t at quoted)
+  step_taken : (at : ℕ) (quoted : Bool) → at < length t → Boundary t at → Taken t at (step_at accents t at quoted)
   unfolding step_at
-  step-taken at true h b = literal-taken at at true (omega arith) h b
-  step-taken at false h b = plain-taken at h b
+  step_taken at true h b = literal_taken at at true (omega arith) h b
+  step_taken at false h b = plain_taken at h b
 
   -- nodes from a place on
   record Nodes (at : ℕ) (ns : List Node) : Type 0 where
@@ -253,17 +253,17 @@ module _ (accents : Bool) (t : List ℕ) where
       by true e = let made = k.node e in record { good = (made.0, r.good); within = omega (arith, made.1, r.within) }
       by false e = record { good = r.good; within = omega (arith, k.from, r.within) }
 
-  nodes-from : (fuel at : ℕ) (quoted : Bool) → Boundary t at → Nodes at (nodes_from accents fuel t at quoted)
+  nodes_from_lem : (fuel at : ℕ) (quoted : Bool) → Boundary t at → Nodes at (nodes_from accents fuel t at quoted)
   unfolding nodes_from
-  nodes-from zero at quoted b = none_left at b
-  nodes-from (suc fuel) at quoted b =
+  nodes_from_lem zero at quoted b = none_left at b
+  nodes_from_lem (suc fuel) at quoted b =
       let s = step_at accents t at quoted in
-      by-if (Nodes at) (ltb at (length t)) _ []
-      (λ e. let taken = step-taken at quoted (ltb-true _ _ e) b in joined at s _ taken (nodes-from fuel s.next s.quoted taken.next))
+      by_if (Nodes at) (ltb at (length t)) _ []
+      (λ e. let taken = step_taken at quoted (ltb-true _ _ e) b in joined at s _ taken (nodes_from_lem fuel s.next s.quoted taken.next))
       (λ e. none_left at b)
 
-  pub good-nodes : well_formed t ≡ true → AllGood t (nodes_by accents t) × (lengths (nodes_by accents t) ≤ length t)
+  pub good_nodes : well_formed t ≡ true → AllGood t (nodes_by accents t) × (lengths (nodes_by accents t) ≤ length t)
   unfolding nodes_by
-  good-nodes e =
-      let from_start = nodes-from (length t) 0 false (record { within = omega arith; begins = e }) in
+  good_nodes e =
+      let from_start = nodes_from_lem (length t) 0 false (record { within = omega arith; begins = e }) in
       (from_start.good, omega (arith, from_start.within))

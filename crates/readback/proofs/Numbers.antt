@@ -16,8 +16,8 @@ use Rattle.read_integers.specs.declared.Number.TheVariants.{Read}
 use Rattle.base_strtol.specs.Decimal.{decimal}
 use Rattle.base_strtol.specs.Runs.{leading, digits, spaces}
 use Rattle.base_strtol.specs.Strtol.{strtol, answer}
-use Rattle.base_strtol.proofs.Decimals.{decimal-length, decimal-digits, count-append}
-use Rattle.base_strtol.proofs.Unsigned.{no-space, strtol-field}
+use Rattle.base_strtol.proofs.Decimals.{decimal-length, decimal_digits, count_append}
+use Rattle.base_strtol.proofs.Unsigned.{no_space, strtol_field}
 
 module _ (s u : List ℕ) (at w n pattern : ℕ) (some : 0 < w) (small : n < 10 ^ w) (fits : n < 2 ^ 31) (here : drop at s ≡ decimal w n ++ u) where
   -- what strtol finds is taken
@@ -29,9 +29,9 @@ module _ (s u : List ℕ) (at w n pattern : ℕ) (some : 0 < w) (small : n < 10 
   room : w ≤ length s - at
   room = omega (arith, length-drop at s, ap (λ (t : List ℕ). length t) here, length-append (decimal w n) u, decimal-length w n)
 
-  no-spaces : spaces (drop at s) ≡ 0
-  no-spaces =
-      no-space (drop at s) (omega (arith, ap digits here, count-append u (decimal w n) (decimal-digits w n), decimal-length w n))
+  no_spaces : spaces (drop at s) ≡ 0
+  no_spaces =
+      no_space (drop at s) (omega (arith, ap digits here, count_append u (decimal w n) (decimal_digits w n), decimal-length w n))
 
   -- the digits of the field alone
   within : take w (drop at s) ≡ decimal w n ++ []
@@ -41,10 +41,10 @@ module _ (s u : List ℕ) (at w n pattern : ℕ) (some : 0 < w) (small : n < 10 
   fixed : fixed_at s at w pattern ≡ Read (pos n) (at + w)
   unfolding fixed_at leading
   fixed =
-      let in_field : strtol (take w (drop at s)) 0 ≡ answer (pos n) (0 + w) false = strtol-field (take w (drop at s)) 0 w n [] some small (omega arith) refl within in
-      rw (no-spaces, add-zero at, in_field, zero-add w, le-ltb (length s - at) w room, lt-ltb 0 w some, le-ltb w w (omega arith)) taken
+      let in_field : strtol (take w (drop at s)) 0 ≡ answer (pos n) (0 + w) false = strtol_field (take w (drop at s)) 0 w n [] some small (omega arith) refl within in
+      rw (no_spaces, add-zero at, in_field, zero-add w, le-ltb (length s - at) w room, lt-ltb 0 w some, le-ltb w w (omega arith)) taken
 
   pub number_read : (free : Bool) → (free ≡ true → digits u ≡ 0) → number_at s at w pattern free ≡ Read (pos n) (at + w)
   unfolding number_at
-  number_read true stops = ap (checked pattern at) (strtol-field s at w n u some small (omega arith) (stops refl) here) ∙ taken
+  number_read true stops = ap (checked pattern at) (strtol_field s at w n u some small (omega arith) (stops refl) here) ∙ taken
   number_read false stops = fixed

@@ -1,13 +1,13 @@
 -- The theorem of reading back, `every_back`: for every full template and every moment the text is written, no other
 -- moment has it, and it is read as the moment, by every caller whose limits are six bytes apart. Assumes nothing. Two
 -- halves, joined here:
--- 1. Reading the text sets exactly what the template's pieces set: `text-is-read`, `fields_read` in ReadText.
+-- 1. Reading the text sets exactly what the template's pieces set: `text_is_read`, `fields_read` in ReadText.
 --    A template is whole characters and known patterns (Boundaries, Nodes, Known, Sound), and the text spells them
 --    (Words, Texts, Spells). A pattern, read at what spells its piece, sets the fields of the piece (FieldSettings,
 --    Numbers, PieceNumbers, Actions). A reader may be ahead by spaces and separators, and literals let it (Ahead,
 --    Literals). The pieces are those of a date group, a time group and US (Groups), and can be read in any order
 --    (Filled, Compatible). So, by induction on the nodes, any input that spells them is read (Simulation).
--- 2. Fields that are set so are read as the moment: `moment-read` in MomentRead. They make the date (GroupFields,
+-- 2. Fields that are set so are read as the moment: `moment_read` in MomentRead. They make the date (GroupFields,
 --    FieldSteps, DateGroups) and the time (TimeGroups).
 use mathlib.Core.Path.{◌≡◌, refl, sym, ◌∙◌, ap}
 use mathlib.Core.Bool.{Bool, true}
@@ -19,10 +19,10 @@ use lib.IntN.{nat_abs}
 use lib.ListN.{length}
 use Rattle.base_settings.specs.Limits.{template_limit, input_limit}
 use Rattle.base_settings.specs.declared.Settings.{Settings}
-use Rattle.readback.proofs.GroupFields.{by-month, by-day, by-week, of-24, of-12, by-second}
-use Rattle.readback.proofs.MomentRead.{moment-read}
+use Rattle.readback.proofs.GroupFields.{by_month, by_day, by_week, of_24, of_12, by_second}
+use Rattle.readback.proofs.MomentRead.{moment_read}
 use Rattle.moment_instants.specs.ByTemplate.{timestamp_of, date_of}
-use Rattle.moment_instants.proofs.Plain.{plain_parts, instant-is, day-is}
+use Rattle.moment_instants.proofs.Plain.{plain_parts, instant_is, day_is}
 use Rattle.moment_parts.specs.Parts.{moment_of, parts_of, parts_read}
 use Rattle.moment_parts.specs.declared.Answer.{Answer}
 use Rattle.moment_parts.specs.declared.Answer.TheVariants.{Moment as Accepted, Refused}
@@ -38,17 +38,17 @@ use Rattle.write_pieces.proofs.Moments.{Numbers, numbers}
 use Rattle.readback.specs.ReadBack.{EveryBack, MarksJoined, ReadAs, ReadsBack}
 use Rattle.readback.proofs.FieldSettings.{own_of, filled_by, expected}
 use Rattle.readback.proofs.Groups.{EachFull}
-use Rattle.readback.proofs.ReadText.{full_is, text-is-utf8, text-longer, text-is-read, fields_read}
+use Rattle.readback.proofs.ReadText.{full_is, text_is_utf8, text_longer, text_is_read, fields_read}
 
 -- the numbers of a moment in its ranges, as natural numbers
-is-moment : {m : Moment} → Numbers m
+is_moment_lem : {m : Moment} → Numbers m
     → IsMoment (nat_abs m.year) (nat_abs m.month) (nat_abs m.day) (nat_abs m.hour) (nat_abs m.minute) (nat_abs m.second) (nat_abs m.micros)
-is-moment n = record {
+is_moment_lem n = record {
   date = n.date;
-  hour = omega (arith, n.hour-to);
-  minute = omega (arith, n.minute-to);
-  second = omega (arith, n.second-to);
-  micros = omega (arith, n.micros-to);
+  hour = omega (arith, n.hour_to);
+  minute = omega (arith, n.minute_to);
+  second = omega (arith, n.second_to);
+  micros = omega (arith, n.micros_to);
 }
 
 -- a moment is made of these numbers
@@ -70,28 +70,28 @@ each_read : (strict : Bool) {y mo d h mi s us : ℕ} → IsMoment y mo d h mi s 
 unfolding expected filled_by times own_of number_of
 each_read strict is = (
   (
-    moment-read is strict by-month of-24 _ (λ k h. refl),
-    (moment-read is strict by-month of-12 _ (λ k h. refl), (moment-read is strict by-month of-12 _ (λ k h. refl), (moment-read is strict by-month by-second _ (λ k h. refl), tt))),
+    moment_read is strict by_month of_24 _ (λ k h. refl),
+    (moment_read is strict by_month of_12 _ (λ k h. refl), (moment_read is strict by_month of_12 _ (λ k h. refl), (moment_read is strict by_month by_second _ (λ k h. refl), tt))),
   ),
   (
     (
-      moment-read is strict by-month of-24 _ (λ k h. refl),
-      (moment-read is strict by-month of-12 _ (λ k h. refl), (moment-read is strict by-month of-12 _ (λ k h. refl), (moment-read is strict by-month by-second _ (λ k h. refl), tt))),
+      moment_read is strict by_month of_24 _ (λ k h. refl),
+      (moment_read is strict by_month of_12 _ (λ k h. refl), (moment_read is strict by_month of_12 _ (λ k h. refl), (moment_read is strict by_month by_second _ (λ k h. refl), tt))),
     ),
     (
       (
-        moment-read is strict by-month of-24 _ (λ k h. refl),
-        (moment-read is strict by-month of-12 _ (λ k h. refl), (moment-read is strict by-month of-12 _ (λ k h. refl), (moment-read is strict by-month by-second _ (λ k h. refl), tt))),
+        moment_read is strict by_month of_24 _ (λ k h. refl),
+        (moment_read is strict by_month of_12 _ (λ k h. refl), (moment_read is strict by_month of_12 _ (λ k h. refl), (moment_read is strict by_month by_second _ (λ k h. refl), tt))),
       ),
       (
         (
-          moment-read is strict by-day of-24 _ (λ k h. refl),
-          (moment-read is strict by-day of-12 _ (λ k h. refl), (moment-read is strict by-day of-12 _ (λ k h. refl), (moment-read is strict by-day by-second _ (λ k h. refl), tt))),
+          moment_read is strict by_day of_24 _ (λ k h. refl),
+          (moment_read is strict by_day of_12 _ (λ k h. refl), (moment_read is strict by_day of_12 _ (λ k h. refl), (moment_read is strict by_day by_second _ (λ k h. refl), tt))),
         ),
         (
           (
-            moment-read is strict by-week of-24 _ (λ k h. refl),
-            (moment-read is strict by-week of-12 _ (λ k h. refl), (moment-read is strict by-week of-12 _ (λ k h. refl), (moment-read is strict by-week by-second _ (λ k h. refl), tt))),
+            moment_read is strict by_week of_24 _ (λ k h. refl),
+            (moment_read is strict by_week of_12 _ (λ k h. refl), (moment_read is strict by_week of_12 _ (λ k h. refl), (moment_read is strict by_week by_second _ (λ k h. refl), tt))),
           ),
           tt,
         ),
@@ -110,25 +110,25 @@ module _ (set : Settings) (apart : ReadsBack set) (t : List ℕ) (full : is_full
     now = moment y mo d h mi s us
 
     -- the parts answer accepts the text with the seven numbers, no offset and all three marks
-    text-parts : parts_of set t (text_of t now) ≡ Accepted (plain_parts y mo d h mi s us)
+    text_parts : parts_of set t (text_of t now) ≡ Accepted (plain_parts y mo d h mi s us)
     unfolding parts_of parts_read
-    text-parts =
+    text_parts =
         rw (
           le-ltb (template_limit set) (length t) (full_is set t full).short,
-          le-ltb (input_limit set) (length (text_of t now)) (within (text-longer set t full joined is)),
+          le-ltb (input_limit set) (length (text_of t now)) (within (text_longer set t full joined is)),
           (full_is set t full).text,
-          text-is-utf8 set t full joined is,
-          (text-is-read set t full joined is).verdict,
+          text_is_utf8 set t full joined is,
+          (text_is_read set t full joined is).verdict,
         )
         (fields_read set t full joined is (λ f. moment_of set.strict f ≡ Accepted (plain_parts y mo d h mi s us)) (each_read set.strict is))
 
     -- and so do the other two answers
-    text-read : ReadAs set t (text_of t now) now
+    text_read : ReadAs set t (text_of t now) now
     unfolding timestamp_of date_of
-    text-read = record {
-      parts = text-parts;
-      instant = rw text-parts (instant-is is.date h mi s us is.hour is.minute is.second is.micros);
-      day = rw text-parts (day-is is.date h mi s us);
+    text_read = record {
+      parts = text_parts;
+      instant = rw text_parts (instant_is is.date h mi s us is.hour is.minute is.second is.micros);
+      day = rw text_parts (day_is is.date h mi s us);
     }
 
   module _ (m : Moment) (is : is_moment m ≡ true) where
@@ -137,15 +137,15 @@ module _ (set : Settings) (apart : ReadsBack set) (t : List ℕ) (full : is_full
     n = numbers m is
 
     read_back : ReadAs set t (text_of t m) m
-    read_back = rw (plain m n) (text-read (is-moment n))
+    read_back = rw (plain m n) (text_read (is_moment_lem n))
 
     longer : length (text_of t m) ≤ length t + 6
-    longer = rw (plain m n) (text-longer set t full joined (is-moment n))
+    longer = rw (plain m n) (text_longer set t full joined (is_moment_lem n))
 
     -- a buffer of that length is enough
-    all-written : (room : ℕ) → length (text_of t m) ≤ room → written_to set t m room ≡ Length (length (text_of t m))
+    all_written : (room : ℕ) → length (text_of t m) ≤ room → written_to set t m room ≡ Length (length (text_of t m))
     unfolding written_to
-    all-written room h =
+    all_written room h =
         rw (
           le-ltb (template_limit set) (length t) (full_is set t full).short,
           (full_is set t full).text,
@@ -170,14 +170,14 @@ moment_in (Refused why) other = other
 -- reading back: two moments with the same text are the same, since each is what the text is read as
 pub every_back : EveryBack
 every_back set apart t m full joined is = record {
-  written = λ before h. rw (all-written set apart t full joined m is (length before) h) (refl, refl);
+  written = λ before h. rw (all_written set apart t full joined m is (length before) h) (refl, refl);
   longer = longer set apart t full joined m is;
   within = within set apart t full joined (longer set apart t full joined m is);
   same = λ n other. (
     λ same_text.
         ap (λ a. moment_in a m)
         (sym (read_back set apart t full joined m is).parts ∙ ap (parts_of set t) same_text ∙ (read_back set apart t full joined n other).parts),
-    λ same-moment. ap (text_of t) same-moment,
+    λ same_moment. ap (text_of t) same_moment,
   );
   read = read_back set apart t full joined m is;
 }

@@ -1,8 +1,8 @@
 -- Reading back, first half: the text of a moment by a full template, and what reading it sets in the caller's mode.
 -- Assumes nothing.
 -- `full_is`: what the test of a full template says (`Full`).
--- `text-is-utf8`, `text-longer`: the text is UTF-8, and at most six bytes longer than the template.
--- `text-is-read`: reading it by the template accepts it, and sets exactly what the template's pieces set.
+-- `text_is_utf8`, `text_longer`: the text is UTF-8, and at most six bytes longer than the template.
+-- `text_is_read`: reading it by the template accepts it, and sets exactly what the template's pieces set.
 -- `fields_read`: what holds of what each date group sets with each time group and US holds of the fields that are read.
 use mathlib.Core.Path.{◌≡◌, ◌∙◌, refl}
 use mathlib.Core.Bool.{Bool, true, ◌&&◌}
@@ -28,16 +28,16 @@ use Rattle.write_pieces.specs.Pieces.{micros, month_name}
 use Rattle.write_text.specs.Text.{nodes_text, text_of}
 use Rattle.write_text.specs.Writer.{all_written, first_unwritten}
 use Rattle.write_pieces.specs.declared.Moment.{Moment}
-use Rattle.write_text.proofs.Modes.{pieces-in-both, text_in-both, unwritten-in-both}
+use Rattle.write_text.proofs.Modes.{pieces_in_both, text_in_both, unwritten_in_both}
 use Rattle.readback.specs.ReadBack.{MarksJoined}
-use Rattle.readback.proofs.Clear.{clear-nodes}
+use Rattle.readback.proofs.Clear.{clear_nodes}
 use Rattle.readback.proofs.FieldSettings.{filled_by, expected}
 use Rattle.readback.proofs.Compatible.{together}
-use Rattle.readback.proofs.Groups.{EachFull, Grouped, grouped, pieces-below, expected-same}
-use Rattle.readback.proofs.Nodes.{good-nodes}
+use Rattle.readback.proofs.Groups.{EachFull, Grouped, grouped, pieces_below, expected_same}
+use Rattle.readback.proofs.Nodes.{good_nodes}
 use Rattle.readback.proofs.Simulation.{Ends, simulated}
-use Rattle.readback.proofs.Sound.{AllSound, sound-nodes}
-use Rattle.readback.proofs.Spells.{AllSpelled, extra, spelled-length, spelled-utf8, text-spelled}
+use Rattle.readback.proofs.Sound.{AllSound, sound_nodes}
+use Rattle.readback.proofs.Spells.{AllSpelled, extra, spelled_length, spelled_utf8, text_spelled}
 
 -- each date group goes with each time group, and their text is at most six bytes longer than the template
 abbrev tested : List ℕ → Bool
@@ -50,9 +50,9 @@ all_tested = (
   ((refl, (refl, (refl, (refl, tt)))), ((refl, (refl, (refl, (refl, tt)))), ((refl, (refl, (refl, (refl, tt)))), ((refl, (refl, (refl, (refl, tt)))), tt)))),
 )
 
-none-expected : (m : Moment) → expected [] m ≡ no_fields
+none_expected : (m : Moment) → expected [] m ≡ no_fields
 unfolding expected filled_by times
-none-expected m = refl
+none_expected m = refl
 
 pub record Full (set : Settings) (t : List ℕ) : Type 0 where
   pub short : length t ≤ template_limit set
@@ -68,19 +68,19 @@ full_is set t e =
     let known = both (eqb (first_unwritten (nodes_of t)) all_written) _ text.1 in
     record { short = leb-true _ _ short.0; text = text.0; known = eqb-true _ _ known.0; full = known.1 }
 
-module _ (set : Settings) (t : List ℕ) (is-full : is_full set t ≡ true) (joined : MarksJoined set t) where
+module _ (set : Settings) (t : List ℕ) (is_full_lem : is_full set t ≡ true) (joined : MarksJoined set t) where
   checks : Full set t
-  checks = full_is set t is-full
+  checks = full_is set t is_full_lem
 
   -- the nodes of the caller's mode
   abbrev ns : List Node
   ns = nodes_by set.accents t
 
   sound : AllSound t ns
-  sound = sound-nodes t ns (good-nodes set.accents t checks.text).0 (unwritten-in-both set.accents t ∙ checks.known)
+  sound = sound_nodes t ns (good_nodes set.accents t checks.text).0 (unwritten_in_both set.accents t ∙ checks.known)
 
   groups : Grouped (pieces ns)
-  groups = grouped (pieces ns) (pieces-below t ns 0 sound) (rw (pieces-in-both set.accents t) checks.full)
+  groups = grouped (pieces ns) (pieces_below t ns 0 sound) (rw (pieces_in_both set.accents t) checks.full)
 
   goes : (together groups.all ≡ true) × (leb (extra groups.all) 6 ≡ true)
   goes = both (together groups.all) _ (groups.pick (λ all. tested all ≡ true) all_tested)
@@ -90,31 +90,31 @@ module _ (set : Settings) (t : List ℕ) (is-full : is_full set t ≡ true) (joi
     now = moment y mo d h mi s us
 
     -- the text is that of these nodes, and spells them
-    text-is : nodes_text t now ns ≡ text_of t now
-    text-is = text_in-both t now set.accents
+    text_is : nodes_text t now ns ≡ text_of t now
+    text_is = text_in_both t now set.accents
 
     spelled : AllSpelled t now ns (text_of t now)
-    spelled = rw (← text-is) (text-spelled t now ns sound (clear-nodes t is set.accents joined sound))
+    spelled = rw (← text_is) (text_spelled t now ns sound (clear_nodes t is set.accents joined sound))
 
-    pub text-is-utf8 : well_formed (text_of t now) ≡ true
-    text-is-utf8 = spelled-utf8 t is ns (text_of t now) spelled
+    pub text_is_utf8 : well_formed (text_of t now) ≡ true
+    text_is_utf8 = spelled_utf8 t is ns (text_of t now) spelled
 
-    pub text-longer : length (text_of t now) ≤ length t + 6
-    text-longer =
-        let longer = spelled-length t is ns (text_of t now) spelled in
+    pub text_longer : length (text_of t now) ≤ length t + 6
+    text_longer =
+        let longer = spelled_length t is ns (text_of t now) spelled in
         let most = leb-true (extra groups.all) 6 goes.1 in
-        omega (arith, longer, most, (good-nodes set.accents t checks.text).1, groups.as-often micros, groups.as-often month_name)
+        omega (arith, longer, most, (good_nodes set.accents t checks.text).1, groups.as_often micros, groups.as_often month_name)
 
     -- what the template's pieces set is what its groups set
-    by-groups : expected (pieces ns) now ≡ expected groups.all now
-    by-groups = expected-same now (pieces ns) groups.all groups.as-often
+    by_groups : expected (pieces ns) now ≡ expected groups.all now
+    by_groups = expected_same now (pieces ns) groups.all groups.as_often
 
-    pub text-is-read : Ends (expected (pieces ns) now) (read_all t (text_of t now) ns)
+    pub text_is_read : Ends (expected (pieces ns) now) (read_all t (text_of t now) ns)
     unfolding read_all times
-    text-is-read =
-        rw (by-groups, ← none-expected now)
+    text_is_read =
+        rw (by_groups, ← none_expected now)
         (simulated t (text_of t now) is groups.all goes.0 ns true _ 0 0 [] spelled (record { within = omega arith; is = refl }) tt
-        (λ q. omega (arith, groups.as-often q)))
+        (λ q. omega (arith, groups.as_often q)))
 
     pub fields_read : (P : Fields → Type 0) → EachFull (λ all. P (expected all now)) → P (read_all t (text_of t now) ns).fields
-    fields_read P a = rw (text-is-read.fields, by-groups) (groups.pick (λ all. P (expected all now)) a)
+    fields_read P a = rw (text_is_read.fields, by_groups) (groups.pick (λ all. P (expected all now)) a)

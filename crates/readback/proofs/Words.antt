@@ -1,10 +1,10 @@
 -- Words that are read as they were written, in whatever case, from any list. Assumes nothing.
--- `Written`: what holds of the text of every piece. `ascii-first`: an ASCII byte before a text in UTF-8 leaves it so.
+-- `Written`: what holds of the text of every piece. `ascii_first`: an ASCII byte before a text in UTF-8 leaves it so.
 -- `word_of`: a word of a list in small letters. `differs`: two words differ at a place that both have.
--- `Fit`: a word of a list is ASCII, begins with a letter, and differs so from each word before it; `fit`, `is-fit`: the
+-- `Fit`: a word of a list is ASCII, begins with a letter, and differs so from each word before it; `fit`, `is_fit`: the
 -- same as a test.
 -- Of what has the folded bytes of such a word:
--- `word-written`, `word-stops`, `word_size`: it is `Written`, begins with no digit, and is no longer than the list's
+-- `word_written`, `word_stops`, `word_size`: it is `Written`, begins with no digit, and is no longer than the list's
 -- longest word.
 -- `word_read`: it is found in the list, whatever follows it; no word before it begins it or is begun by it.
 use mathlib.Core.Path.{◌≡◌, ◌∙◌, refl, sym, ap}
@@ -24,9 +24,9 @@ use Rattle.base_chars.specs.Fold.{folded}
 use Rattle.base_chars.specs.Range.{◌‥◌}
 use Rattle.base_chars.specs.Utf8.{well_formed}
 use Rattle.base_chars.proofs.Classes.{the_class}
-use Rattle.base_chars.proofs.Folds.{fold_up, fold-class}
+use Rattle.base_chars.proofs.Folds.{fold_up, fold_class}
 use Rattle.base_chars.proofs.Ranges.{inside}
-use Rattle.base_chars.proofs.WellFormed.{ascii_run, empty-text}
+use Rattle.base_chars.proofs.WellFormed.{ascii_run, empty_text}
 use Rattle.base_strtol.specs.Runs.{leading, digits}
 use Rattle.template_patterns.specs.Search.{matches_at}
 use Rattle.template_patterns.specs.Words.{words_of, small_words, longest}
@@ -34,7 +34,7 @@ use Rattle.template_patterns.specs.declared.tables.WordList.{WordList}
 use Rattle.read_words.specs.FoldOnce.{beginning, first_in, word_in}
 use Rattle.read_words.specs.Spelling.{word_at}
 use Rattle.read_words.specs.declared.spelling.Word.TheVariants.{At}
-use Rattle.read_words.proofs.FoldOnce.{fold-once}
+use Rattle.read_words.proofs.FoldOnce.{fold_once}
 use Rattle.readback.proofs.Ahead.{inked}
 
 pub record Written (u : List ℕ) : Type 0 where
@@ -42,8 +42,8 @@ pub record Written (u : List ℕ) : Type 0 where
   pub ink : inked u ≡ true
   pub ascii : (v : List ℕ) → byte_at (u ++ v) 0 ≤ 127
 
-pub ascii-first : (b : ℕ) (u : List ℕ) → b ≤ 127 → well_formed u ≡ true → well_formed (b ∷ u) ≡ true
-ascii-first b u h e = sym (ascii_run 1 (b ∷ u) (rw (inside (0 ‥ 127) b (omega arith) h))) ∙ e
+pub ascii_first : (b : ℕ) (u : List ℕ) → b ≤ 127 → well_formed u ≡ true → well_formed (b ∷ u) ≡ true
+ascii_first b u h e = sym (ascii_run 1 (b ∷ u) (rw (inside (0 ‥ 127) b (omega arith) h))) ∙ e
 
 -- all bytes are ASCII
 abbrev all_ascii : List ℕ → Bool
@@ -81,8 +81,8 @@ fit list k =
     let w = word_of list k in
     lettered w && (all_ascii w && (leb (length w) (longest (words_of list)) && apart_before (small_words list) k w))
 
-pub is-fit : (list : WordList) (k : ℕ) → fit list k ≡ true → Fit list k
-is-fit list k e =
+pub is_fit : (list : WordList) (k : ℕ) → fit list k ≡ true → Fit list k
+is_fit list k e =
     let w = word_of list k in
     let first = both (lettered w) _ e in
     let second = both (all_ascii w) _ first.1 in
@@ -91,20 +91,20 @@ is-fit list k e =
 
 -- the search in a text t
 module _ (t : List ℕ) where
-  byte-here : (at : ℕ) {b : ℕ} {u : List ℕ} → drop at t ≡ b ∷ u → byte_at t at ≡ b
-  byte-here at {b} e = let first : byte_at t (at + 0) ≡ b = rw (← get_or-drop at t 0 0, e) in rw (add-zero at) at first
+  byte_here : (at : ℕ) {b : ℕ} {u : List ℕ} → drop at t ≡ b ∷ u → byte_at t at ≡ b
+  byte_here at {b} e = let first : byte_at t (at + 0) ≡ b = rw (← get_or-drop at t 0 0, e) in rw (add-zero at) at first
 
-  rest-here : (at : ℕ) {b : ℕ} {u : List ℕ} → drop at t ≡ b ∷ u → drop (at + 1) t ≡ u
-  rest-here at e = rw (← drop-drop 1 at t, e)
+  rest_here : (at : ℕ) {b : ℕ} {u : List ℕ} → drop at t ≡ b ∷ u → drop (at + 1) t ≡ u
+  rest_here at e = rw (← drop-drop 1 at t, e)
 
   matched : (w rest : List ℕ) (at : ℕ) → drop at t ≡ w ++ rest → matches_at w t at ≡ true
   matched [] rest at e = refl
-  matched (b ∷ w) rest at e = rw (byte-here at e, eq-eqb b b refl) (matched w rest (at + 1) (rest-here at e))
+  matched (b ∷ w) rest at e = rw (byte_here at e, eq-eqb b b refl) (matched w rest (at + 1) (rest_here at e))
 
   unmatched : (v w rest : List ℕ) (at : ℕ) → differs v w ≡ true → drop at t ≡ w ++ rest → matches_at v t at ≡ false
   unmatched [] w rest at d e = absurd (false≢true d)
   unmatched (a ∷ v) [] rest at d e = absurd (false≢true d)
-  unmatched (a ∷ v) (b ∷ w) rest at d e = rw (byte-here at e) (by (eqb b a) d (λ later. unmatched v w rest (at + 1) later (rest-here at e)))
+  unmatched (a ∷ v) (b ∷ w) rest at d e = rw (byte_here at e) (by (eqb b a) d (λ later. unmatched v w rest (at + 1) later (rest_here at e)))
     where
       by : (same : Bool) → (not same || differs v w) ≡ true → (differs v w ≡ true → matches_at v t (at + 1) ≡ false)
           → (same && matches_at v t (at + 1)) ≡ false
@@ -120,40 +120,40 @@ module _ (t : List ℕ) where
       rw (unmatched v (get_or ws k []) rest 0 tests.0 e, add-suc i k, ← suc-add i k) (first_found ws (suc i) k rest tests.1 e)
 
 -- bytes that are ASCII once they are folded were ASCII before
-ascii-text : (u : List ℕ) → all_ascii (map folded u) ≡ true → well_formed u ≡ true
-ascii-text [] e = empty-text
-ascii-text (b ∷ u) e =
+ascii_text : (u : List ℕ) → all_ascii (map folded u) ≡ true → well_formed u ≡ true
+ascii_text [] e = empty_text
+ascii_text (b ∷ u) e =
     let tests = both (leb (folded b) 127) _ e in
-    ascii-first b u (omega (arith, fold_up b, leb-true (folded b) 127 tests.0)) (ascii-text u tests.1)
+    ascii_first b u (omega (arith, fold_up b, leb-true (folded b) 127 tests.0)) (ascii_text u tests.1)
 
 -- what begins with a letter once it is folded did so before
-first-letter : (b : ℕ) → is_letter (folded b) ≡ true → class_of b ≡ letter
-first-letter b e = sym (fold-class b) ∙ the_class _ letter e
+first_letter : (b : ℕ) → is_letter (folded b) ≡ true → class_of b ≡ letter
+first_letter b e = sym (fold_class b) ∙ the_class _ letter e
 
-letter-inked : (u : List ℕ) → lettered (map folded u) ≡ true → inked u ≡ true
-letter-inked [] e = absurd (false≢true e)
-letter-inked (b ∷ u) e = rw (first-letter b e)
+letter_inked : (u : List ℕ) → lettered (map folded u) ≡ true → inked u ≡ true
+letter_inked [] e = absurd (false≢true e)
+letter_inked (b ∷ u) e = rw (first_letter b e)
 
-letter-ascii : (u v : List ℕ) → lettered (map folded u) ≡ true → all_ascii (map folded u) ≡ true → byte_at (u ++ v) 0 ≤ 127
-letter-ascii [] v e a = absurd (false≢true e)
-letter-ascii (b ∷ u) v e a = omega (arith, fold_up b, leb-true (folded b) 127 (both (leb (folded b) 127) _ a).0)
+letter_ascii : (u v : List ℕ) → lettered (map folded u) ≡ true → all_ascii (map folded u) ≡ true → byte_at (u ++ v) 0 ≤ 127
+letter_ascii [] v e a = absurd (false≢true e)
+letter_ascii (b ∷ u) v e a = omega (arith, fold_up b, leb-true (folded b) 127 (both (leb (folded b) 127) _ a).0)
 
-letter-stops : (u v : List ℕ) → lettered (map folded u) ≡ true → digits (u ++ v) ≡ 0
+letter_stops : (u v : List ℕ) → lettered (map folded u) ≡ true → digits (u ++ v) ≡ 0
 unfolding leading
-letter-stops [] v e = absurd (false≢true e)
-letter-stops (b ∷ u) v e = rw (first-letter b e)
+letter_stops [] v e = absurd (false≢true e)
+letter_stops (b ∷ u) v e = rw (first_letter b e)
 
 -- u has the folded bytes of the word k of a list
 module _ {list : WordList} {k : ℕ} (ok : Fit list k) (u : List ℕ) (same : map folded u ≡ word_of list k) where
-  pub word-written : Written u
-  word-written = record {
-    text = ascii-text u (rw same ok.ascii);
-    ink = letter-inked u (rw same ok.begins);
-    ascii = λ v. letter-ascii u v (rw same ok.begins) (rw same ok.ascii);
+  pub word_written : Written u
+  word_written = record {
+    text = ascii_text u (rw same ok.ascii);
+    ink = letter_inked u (rw same ok.begins);
+    ascii = λ v. letter_ascii u v (rw same ok.begins) (rw same ok.ascii);
   }
 
-  pub word-stops : (v : List ℕ) → digits (u ++ v) ≡ 0
-  word-stops v = letter-stops u v (rw same ok.begins)
+  pub word_stops : (v : List ℕ) → digits (u ++ v) ≡ 0
+  word_stops v = letter_stops u v (rw same ok.begins)
 
   size : length (word_of list k) ≡ length u
   size = ap length (sym same) ∙ length-map u folded
@@ -177,6 +177,6 @@ module _ {list : WordList} {k : ℕ} (ok : Fit list k) (u : List ℕ) (same : ma
     pub word_read : word_at list s at ≡ At k (length u)
     unfolding word_in
     word_read =
-        sym (fold-once.same list s at)
+        sym (fold_once.same list s at)
         ∙ first_found _ (small_words list) 0 k (map folded (take more v)) ok.apart begun
         ∙ rw (zero-add k, size)

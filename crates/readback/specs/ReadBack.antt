@@ -1,18 +1,18 @@
 -- Reading back: what it is for a text to be read as a moment, and what is promised of every full template and moment.
 use Rattle.std.specs.Prelude.{◌≡◌, refl, true, false, List, ◌++◌, ℕ, ◌+◌, ◌≤◌, ℤ, pos, nat_abs, length, drop}
 use Rattle.base_settings.specs.Accents.{with_accents}
-use Rattle.base_settings.specs.Limits.{input_limit, limits, limits-compute, pages, template_limit, with_limits}
+use Rattle.base_settings.specs.Limits.{input_limit, limits, limits_compute, pages, template_limit, with_limits}
 use Rattle.base_settings.specs.declared.Settings.{Settings}
 use Rattle.base_notation.specs.Text.{encoded, utf8}
 use Rattle.base_chars.specs.Utf8.{sequence, well_formed_after}
 use Rattle.base_refusals.specs.declared.Refusal.TheVariants.{TooLong}
 use Rattle.base_strtol.specs.Decimal.{decimal}
-use Rattle.template_nodes.specs.Examples.{nodes-compute}
+use Rattle.template_nodes.specs.Examples.{nodes_compute}
 use Rattle.template_nodes.specs.Joined.{has_lone_mark, none_alone}
 use Rattle.template_patterns.specs.Cases.{case_of}
-use Rattle.moment_date.specs.Dates.{all_bits, date-computes}
-use Rattle.moment_time.specs.Time.{time-computes}
-use Rattle.read_input.specs.Examples.{reading-computes}
+use Rattle.moment_date.specs.Dates.{all_bits, date_computes}
+use Rattle.moment_time.specs.Time.{time_computes}
+use Rattle.read_input.specs.Examples.{reading_computes}
 use Rattle.moment_instants.specs.ByTemplate.{timestamp_of, date_of}
 use Rattle.moment_instants.specs.Plain.{days_since_1970, micros_since_1970}
 use Rattle.moment_instants.specs.declared.epoch.Day.TheVariants.{Number}
@@ -114,7 +114,7 @@ abbrev pub september : Moment
 september = moment 2024 9 5 0 0 1 7
 
 pub worked : (text_of joined september ≡ utf8 "2024September0500001000007") × (length joined ≡ 20) × (length (text_of joined september) ≡ 26)
-unfolding text_of nodes_text node_text piece_of case_of piece_text number_of decimal nodes-compute
+unfolding text_of nodes_text node_text piece_of case_of piece_text number_of decimal nodes_compute
 worked = (refl, refl, refl)
 
 -- so five bytes between the limits are not enough: for a caller with limits of 20 and 25 this template is full and the
@@ -126,9 +126,9 @@ SixNeeded =
     (is_full (caller 25) joined ≡ true) × (is_moment september ≡ true) × (written_to (caller 25) joined september 26 ≡ Length 26)
     × (parts_of (caller 25) joined text ≡ refused_by TooLong) × (parts_of (caller 26) joined text ≡ Accepted (parts_in september))
 
-pub six-needed : SixNeeded
-unfolding is_full are_full times pieces first_unwritten is_moment written_to parts_of parts_read limits-compute text_of nodes_text node_text piece_of case_of piece_text number_of decimal parts_moment checked_moment well_formed_after sequence reading-computes time-computes date-computes
-six-needed = (refl, refl, refl, refl, refl)
+pub six_needed : SixNeeded
+unfolding is_full are_full times pieces first_unwritten is_moment written_to parts_of parts_read limits_compute text_of nodes_text node_text piece_of case_of piece_text number_of decimal parts_moment checked_moment well_formed_after sequence reading_computes time_computes date_computes
+six_needed = (refl, refl, refl, refl, refl)
 
 -- a mark right after a quote counts alone, so what is written is not read back in the accents mode: the letter before
 -- the mark takes it, the literal of the mark takes the first digit of the year, and the year is 24. Without the mode it
@@ -146,6 +146,6 @@ JoinedNeeded =
     (is_full accents lone_mark ≡ true) × (none_alone lone_mark ≡ false) × (text ≡ utf8 "000000 00000 05 Jana" ++ encoded 0x301 ++ utf8 "2024")
     × (parts_of accents lone_mark text ≡ Accepted (parts_in (moment 24 1 5 0 0 0 0))) × (parts_of pages lone_mark text ≡ Accepted (parts_in january))
 
-pub joined-needed : JoinedNeeded
-unfolding has_lone_mark is_full are_full times pieces first_unwritten parts_of parts_read limits-compute text_of nodes_text node_text piece_of case_of piece_text number_of decimal parts_moment checked_moment well_formed_after sequence reading-computes time-computes date-computes
-joined-needed = (refl, refl, refl, refl, refl)
+pub joined_needed : JoinedNeeded
+unfolding has_lone_mark is_full are_full times pieces first_unwritten parts_of parts_read limits_compute text_of nodes_text node_text piece_of case_of piece_text number_of decimal parts_moment checked_moment well_formed_after sequence reading_computes time_computes date_computes
+joined_needed = (refl, refl, refl, refl, refl)

@@ -1,5 +1,5 @@
 -- The nodes of a template, put one by one.
--- `node-is`: a node of the buffer that a template was parsed into is the template's.
+-- `node_is`: a node of the buffer that a template was parsed into is the template's.
 -- `begun`, `more`: what was put, then the nodes that are left, are the template's (`Listed`), at first and with a node
 -- more. `ended`: no node is left. Assumes nothing.
 use mathlib.Core.Path.{◌≡◌, ◌∙◌, refl, sym, ap}
@@ -15,14 +15,14 @@ use lib.Seq.{drop-cons, get_or-take}
 use Rattle.template_nodes.specs.Bytes.{Parsed, mode_bit, node_from, nodes_in}
 use Rattle.template_nodes.specs.Template.{end_node}
 use Rattle.template_nodes.specs.declared.Node.{Node}
-use Rattle.template_nodes.proofs.Encoding.{Small, node_in, parsed-nodes, parsed-room}
+use Rattle.template_nodes.proofs.Encoding.{Small, node_in, parsed_nodes, parsed_room}
 use Rattle.line_buffers.specs.Output.{Put}
 use Rattle.line_buffers.proofs.Puts.{put_then}
 use Rattle.replay.specs.Answers.{node_text, nodes_text}
 
 -- a node within the first n bytes
-part-node : (c : List ℕ) (n at : ℕ) → at + 5 < n → node_from (take n c) at ≡ node_from c at
-part-node c n at h = λ i. record {
+part_node : (c : List ℕ) (n at : ℕ) → at + 5 < n → node_from (take n c) at ≡ node_from c at
+part_node c n at h = λ i. record {
   start = get_or-take n c at 0 (omega arith) i;
   len = get_or-take n c (at + 1) 0 (omega arith) i * 256 + get_or-take n c (at + 2) 0 (omega arith) i;
   kind = get_or-take n c (at + 3) 0 (omega arith) i;
@@ -31,15 +31,15 @@ part-node c n at h = λ i. record {
   accents = leb mode_bit (get_or-take n c (at + 5) 0 (omega arith) i);
 }
 
-pub node-is : {ns : List Node} → Small ns → {before after : List ℕ} {r : ℕ} → Parsed ns before after r → (i : ℕ) → i < r
+pub node_is : {ns : List Node} → Small ns → {before after : List ℕ} {r : ℕ} → Parsed ns before after r → (i : ℕ) → i < r
     → get_or (nodes_in after) i end_node ≡ get_or ns i end_node
-node-is {ns} small {before} {after} {r} p i h =
-    let room = parsed-room p in
+node_is {ns} small {before} {after} {r} p i h =
+    let room = parsed_room p in
     let size : length (take (6 * r) after) ≡ 6 * r = length-take (6 * r) after ∙ omega arith in
     sym (node_in after i (omega arith))
-    ∙ sym (part-node after (6 * r) (6 * i) (omega arith))
+    ∙ sym (part_node after (6 * r) (6 * i) (omega arith))
     ∙ node_in (take (6 * r) after) i (omega arith)
-    ∙ ap (λ (l : List Node). get_or l i end_node) (parsed-nodes p small)
+    ∙ ap (λ (l : List Node). get_or l i end_node) (parsed_nodes p small)
 
 -- the buffer with the nodes before node i
 pub record Listed (ns : List Node) (out₀ : List ℕ) (at i : ℕ) (out : List ℕ) (next : ℕ) : Type 0 where

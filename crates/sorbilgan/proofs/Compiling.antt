@@ -1,5 +1,5 @@
 -- What compiling answers, by its tests.
--- `long`: -1 for a template over its limit. `ill-formed`: -2 for one that is not UTF-8.
+-- `long`: -1 for a template over its limit. `ill_formed`: -2 for one that is not UTF-8.
 -- `parsed`: else the bytes of its nodes, as `parse_format` stored them. Assumes nothing.
 use mathlib.Core.Path.{◌≡◌, refl}
 use mathlib.Core.Bool.{true, false}
@@ -26,9 +26,9 @@ module _ (set : Settings) (t before : List ℕ) where
   long h = record { is = rw (lt-ltb (template_limit set) (length t) h); buffer = refl }
 
   module _ (short : length t ≤ template_limit set) where
-    pub ill-formed : well_formed t ≡ false → CompiledTo set t before before (negsuc 1)
+    pub ill_formed : well_formed t ≡ false → CompiledTo set t before before (negsuc 1)
     unfolding compiled_to
-    ill-formed e = record { is = rw (le-ltb (template_limit set) (length t) short, e); buffer = refl }
+    ill_formed e = record { is = rw (le-ltb (template_limit set) (length t) short, e); buffer = refl }
 
     pub parsed : well_formed t ≡ true → {after : List ℕ} {r : ℕ} → Parsed (nodes_by set.accents t) before after r → CompiledTo set t before after (to_z w64 (6 * r))
     unfolding compiled_to

@@ -18,8 +18,8 @@ pub record AccentsMode : Type 0 where
   -- the nodes of a template are those of the other mode, each mark joined to the letter right before it
   pub before : ByWhatIsBefore
   -- reading by nodes takes the mode from the nodes, whatever the settings say
-  pub by-nodes : (b : Bool) (set : Settings) (ns : List Node) (t s : List ℕ) → parts_by (with_accents b set) ns t s ≡ parts_by set ns t s
+  pub by_nodes : (b : Bool) (set : Settings) (ns : List Node) (t s : List ℕ) → parts_by (with_accents b set) ns t s ≡ parts_by set ns t s
   -- writing is the same in both modes, and so is which templates are full
   pub written : (b : Bool) (set : Settings) (t : List ℕ) (m : Moment) (room : ℕ) → written_to (with_accents b set) t m room ≡ written_to set t m room
-  pub written-by : (b : Bool) (set : Settings) (c t : List ℕ) (m : Moment) (room : ℕ) → written_in (with_accents b set) c t m room ≡ written_in set c t m room
+  pub written_by : (b : Bool) (set : Settings) (c t : List ℕ) (m : Moment) (room : ℕ) → written_in (with_accents b set) c t m room ≡ written_in set c t m room
   pub full : (b : Bool) (set : Settings) (t : List ℕ) → is_full (with_accents b set) t ≡ is_full set t

@@ -23,10 +23,10 @@ pub record EqualAnswers (a b : Settings) (t s : List ℕ) : Type 0 where
   pub day : date_of a t s ≡ date_of b t s
   pub written : (m : Moment) (room : ℕ) → written_to a t m room ≡ written_to b t m room
   pub compiled : compiled_to a t ≡ compiled_to b t
-  pub parts-by : (ns : List Node) → parts_by a ns t s ≡ parts_by b ns t s
-  pub instant-by : (ns : List Node) → instant_by (parts_by a ns t s) ≡ instant_by (parts_by b ns t s)
-  pub day-by : (ns : List Node) → day_by (parts_by a ns t s) ≡ day_by (parts_by b ns t s)
-  pub written-by : (c : List ℕ) → length c ≤ nodes_limit a → length c ≤ nodes_limit b → (m : Moment) (room : ℕ)
+  pub parts_by_nodes : (ns : List Node) → parts_by a ns t s ≡ parts_by b ns t s
+  pub instant_by_nodes : (ns : List Node) → instant_by (parts_by a ns t s) ≡ instant_by (parts_by b ns t s)
+  pub day_by_nodes : (ns : List Node) → day_by (parts_by a ns t s) ≡ day_by (parts_by b ns t s)
+  pub written_by : (c : List ℕ) → length c ≤ nodes_limit a → length c ≤ nodes_limit b → (m : Moment) (room : ℕ)
       → written_in a c t m room ≡ written_in b c t m room
 
 -- callers that differ in their limits alone

@@ -1,12 +1,12 @@
 -- Compiling a template into a lent buffer: the answer, and the buffer after it.
 use Rattle.std.specs.Prelude.{◌≡◌, refl, true, not, List, [], ◌∷◌, ◌++◌, ℕ, ltb, ℤ, pos, negsuc, length, drop, replicate}
 use Rattle.base_settings.specs.Accents.{with_accents}
-use Rattle.base_settings.specs.Limits.{cards, limits-compute, pages, template_limit}
+use Rattle.base_settings.specs.Limits.{cards, limits_compute, pages, template_limit}
 use Rattle.base_settings.specs.declared.Settings.{Settings}
 use Rattle.base_notation.specs.Choice.{when◌then◌else◌}
 use Rattle.base_notation.specs.Text.{encoded as encoded_char, utf8}
 use Rattle.base_chars.specs.Utf8.{sequence, well_formed, well_formed_after}
-use Rattle.template_nodes.specs.Examples.{nodes-compute}
+use Rattle.template_nodes.specs.Examples.{nodes_compute}
 use Rattle.template_nodes.specs.Bytes.{encoded}
 use Rattle.template_nodes.specs.Template.{action, character, nodes_by}
 
@@ -37,14 +37,14 @@ pub worked
     × (compiled_to pages (utf8 "DD") ≡ pos 6)
     × (compiled_to pages [] ≡ pos 0)
     × (compiled_to pages (0xff ∷ []) ≡ negsuc 1)
-unfolding compiled_to limits-compute encoded nodes-compute well_formed_after sequence
+unfolding compiled_to limits_compute encoded nodes_compute well_formed_after sequence
 worked = (refl, refl, refl, refl)
 
 -- a with a mark is two nodes of one and two bytes; in the accents mode it is one of three bytes, which says so
 pub marked
     : (compiled pages (utf8 "a" ++ encoded_char 0x301) ≡ 0 ∷ 0 ∷ 1 ∷ character ∷ 0 ∷ 0 ∷ 1 ∷ 0 ∷ 2 ∷ character ∷ 0 ∷ 0 ∷ [])
     × (compiled (with_accents true pages) (utf8 "a" ++ encoded_char 0x301) ≡ 0 ∷ 0 ∷ 3 ∷ character ∷ 0 ∷ 128 ∷ [])
-unfolding encoded nodes-compute
+unfolding encoded nodes_compute
 marked = (refl, refl)
 
 -- 65 bytes are too many for the flash cards, also where they are no UTF-8
@@ -52,5 +52,5 @@ pub limited
     : (compiled_to cards (replicate 64 0xff) ≡ negsuc 1)
     × (compiled_to cards (replicate 65 0xff) ≡ negsuc 0)
     × (compiled_to pages (replicate 65 0xff) ≡ negsuc 1)
-unfolding compiled_to limits-compute well_formed_after sequence
+unfolding compiled_to limits_compute well_formed_after sequence
 limited = (refl, refl, refl)

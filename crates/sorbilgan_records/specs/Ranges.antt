@@ -54,7 +54,7 @@ held r = record {
 pub record MomentRecord (strict : Bool) (r : List ℤ) : Type 0 where
   pub number : entry r 0 ≡ pos 0
   pub zoned : Within 0 1 (entry r 12)
-  pub no-offset : entry r 12 ≡ pos 0 → entry r 13 ≡ pos 0
+  pub no_offset : entry r 12 ≡ pos 0 → entry r 13 ≡ pos 0
   pub marks : Within 0 7 (entry r 14)
   pub parts : InRange strict (held r)
 

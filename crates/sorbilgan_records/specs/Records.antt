@@ -58,19 +58,19 @@ pub record Recorded (entries after : List ℤ) (r : ℕ) : Type 0 where
 
 -- February 29 of 2024, seven hours east, with all three marks; DD (number 9 of the table) with 1 byte left of 2; a day
 -- that its month never has
-pub worked-parts
+pub worked_parts
     : (parts_record (Moment (parts (pos 2024) 2 29 500000 3 (East (pos 25200))))
     ≡ pos 0 ∷ pos 112 ∷ pos 0 ∷ pos 0 ∷ pos 2024 ∷ pos 2 ∷ pos 29 ∷ pos 0 ∷ pos 0 ∷ pos 0 ∷ pos 500000 ∷ pos 3 ∷ pos 1 ∷ pos 25200 ∷ pos 7 ∷ [])
     × (parts_record (Refused (By (Short 9 2 1))) ≡ pos 5 ∷ pos 9 ∷ pos 2 ∷ pos 1 ∷ replicate 11 (pos 0))
     × (parts_record (Refused NoSuchDay) ≡ pos 25 ∷ pos 112 ∷ replicate 13 (pos 0))
 unfolding parts_record unread_report report_of
-worked-parts = (refl, refl, refl)
+worked_parts = (refl, refl, refl)
 
 -- the microsecond before 1970, and January 1 of that year; refused: the value is 0
-pub worked-values
+pub worked_values
     : (instant_record (Micros (negsuc 0)) ≡ pos 0 ∷ pos 112 ∷ pos 0 ∷ pos 0 ∷ negsuc 0 ∷ [])
     × (instant_record (NoInstant InstantRange) ≡ pos 17 ∷ pos 112 ∷ pos 0 ∷ pos 0 ∷ pos 0 ∷ [])
     × (day_record (Number (pos 0)) ≡ pos 0 ∷ pos 112 ∷ pos 0 ∷ pos 0 ∷ pos 0 ∷ [])
     × (day_record (NoDay (Unread (By FieldOverflow))) ≡ pos 15 ∷ pos 112 ∷ pos 0 ∷ pos 0 ∷ pos 0 ∷ [])
 unfolding instant_record day_record undated_report unread_report report_of
-worked-values = (refl, refl, refl, refl)
+worked_values = (refl, refl, refl, refl)

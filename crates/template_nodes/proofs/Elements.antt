@@ -1,6 +1,6 @@
 -- What the compiler finds at a place is the step of the definitions. Assumes nothing.
--- `step_of`: the step that an element makes, with the literal if it is no pattern. `element-step`: it is the step there.
--- `found-step`, `rest-step`: so it is for a pattern, and for no pattern. `goes_on`: a step takes at least one byte.
+-- `step_of`: the step that an element makes, with the literal if it is no pattern. `element_step`: it is the step there.
+-- `found_step`, `rest_step`: so it is for a pattern, and for no pattern. `goes_on`: a step takes at least one byte.
 use mathlib.Core.Path.{◌≡◌, refl}
 use mathlib.Core.Bool.{Bool, true, false}
 use mathlib.Core.List.{List}
@@ -35,10 +35,10 @@ goes_on size at p next h l m f = split (ltb p size) refl
     split false q = let past = ltb-false p size q in omega arith
 
 module _ (accents : Bool) (t : List ℕ) (at : ℕ) (h : at < length t) where
-  pub element-step : (quoted : Bool) → step_of accents t quoted (element_from t at quoted) ≡ step_at accents t at quoted
+  pub element_step : (quoted : Bool) → step_of accents t quoted (element_from t at quoted) ≡ step_at accents t at quoted
   unfolding step_at plain_at
-  element-step true = rw (lt-ltb at (length t) h)
-  element-step false = by (ltb start (length t)) refl (pattern_at t start)
+  element_step true = rw (lt-ltb at (length t) h)
+  element_step false = by (ltb start (length t)) refl (pattern_at t start)
     where
       start : ℕ
       start = at + affix_length (bit_at true t at)
@@ -51,8 +51,8 @@ module _ (accents : Bool) (t : List ℕ) (at : ℕ) (h : at < length t) where
 
   -- the same for what was found there
   module _ (quoted : Bool) (e : Element) (is : e ≡ element_from t at quoted) where
-    pub found-step : e.found ≡ true → pattern_step accents quoted e ≡ step_at accents t at quoted
-    found-step q = rw (← is, q) at (element-step quoted)
+    pub found_step : e.found ≡ true → pattern_step accents quoted e ≡ step_at accents t at quoted
+    found_step q = rw (← is, q) at (element_step quoted)
 
-    pub rest-step : e.found ≡ false → rest_at accents t e.next quoted ≡ step_at accents t at quoted
-    rest-step q = rw (← is, q) at (element-step quoted)
+    pub rest_step : e.found ≡ false → rest_at accents t e.next quoted ≡ step_at accents t at quoted
+    rest_step q = rw (← is, q) at (element_step quoted)

@@ -1,5 +1,5 @@
 -- The cases of a literal.
--- `at-quote`: a quote makes no node. `at_literal`: any other character is a node. Assumes nothing.
+-- `at_quote`: a quote makes no node. `at_literal`: any other character is a node. Assumes nothing.
 use mathlib.Core.Path.{◌≡◌}
 use mathlib.Core.Bool.{Bool, not}
 use mathlib.Core.List.{List}
@@ -10,9 +10,9 @@ use Rattle.base_notation.specs.Text.{byte_at}
 use Rattle.template_nodes.specs.Template.{character, char_at, char_place, kind_of, literal_at, skip}
 
 module _ (accents : Bool) (t : List ℕ) (at : ℕ) (quoted : Bool) where
-  pub at-quote : byte_at t at ≡ 34 → literal_at accents t at quoted ≡ skip (at + 1) (not quoted)
+  pub at_quote : byte_at t at ≡ 34 → literal_at accents t at quoted ≡ skip (at + 1) (not quoted)
   unfolding literal_at
-  at-quote e = rw e
+  at_quote e = rw e
 
   pub at_literal : (byte_at t at ≡ 34 → ⊥) → (p : ℕ) → p ≡ char_place t at quoted
       → literal_at accents t at quoted ≡ char_at accents t p (when quoted then character else kind_of (byte_at t p)) quoted

@@ -3,7 +3,7 @@
 -- makes none. `turned`: so it stays by either.
 -- `put_one`: a step puts one node at most.
 -- `ended`: at the template's end the buffer holds the template's nodes.
--- `plain_step`, `in-quotes`: a plain character in quotes is a step, which stays in quotes. Assumes nothing.
+-- `plain_step`, `in_quotes`: a plain character in quotes is a step, which stays in quotes. Assumes nothing.
 use mathlib.Core.Path.{◌≡◌, ◌∙◌, refl, sym, ap}
 use mathlib.Core.Bool.{Bool, true, false, not, false≢true}
 use mathlib.Core.List.{List, [], ◌∷◌, ◌++◌, append_assoc, append-nil}
@@ -14,12 +14,12 @@ use lib.Dec.{eqb}
 use lib.ListN.{length, drop, length-append}
 use lib.Seq.{sets}
 use Rattle.base_notation.specs.Text.{byte_at}
-use Rattle.base_notation.proofs.Cases.{both, by-if}
+use Rattle.base_notation.proofs.Cases.{both, by_if}
 use Rattle.template_nodes.specs.Bytes.{Parsed, Put, bytes_of, encoded}
 use Rattle.template_nodes.specs.Template.{character, char_at, char_place, is_quoted_char, literal_at, step_at, made_by, nodes_by, nodes_from}
 use Rattle.template_nodes.specs.declared.Node.{Node}
 use Rattle.template_nodes.specs.declared.Step.{Step}
-use Rattle.template_nodes.proofs.Encoding.{put-after}
+use Rattle.template_nodes.proofs.Encoding.{put_after}
 
 -- n nodes are done, and the fuel that is left is enough for the rest
 pub record Read (accents : Bool) (t before after : List ℕ) (n at : ℕ) (quoted : Bool) : Type 0 where
@@ -36,18 +36,18 @@ begun accents t before = record { fuel = length t; done = []; enough = omega ari
 
 -- a step puts one node at most
 pub put_one : (s : Step) (before after : List ℕ) (i r : ℕ) → Put s before after i r → r ≤ i + 1
-put_one s before after i r put = rw put.count (by-if (λ (n : ℕ). n ≤ i + 1) s.made (i + 1) i (λ e. omega arith) (λ e. omega arith))
+put_one s before after i r put = rw put.count (by_if (λ (n : ℕ). n ≤ i + 1) s.made (i + 1) i (λ e. omega arith) (λ e. omega arith))
 
 -- at the end nothing is left
-pub after-end : (accents : Bool) (t : List ℕ) (fuel at : ℕ) (quoted : Bool) → length t ≤ at → nodes_from accents fuel t at quoted ≡ []
+pub after_end : (accents : Bool) (t : List ℕ) (fuel at : ℕ) (quoted : Bool) → length t ≤ at → nodes_from accents fuel t at quoted ≡ []
 unfolding nodes_from
-after-end accents t zero at quoted h = refl
-after-end accents t (suc f) at quoted h = rw (le-ltb at (length t) h)
+after_end accents t zero at quoted h = refl
+after_end accents t (suc f) at quoted h = rw (le-ltb at (length t) h)
 
 pub ended : (accents : Bool) (t before after : List ℕ) (n at : ℕ) (quoted : Bool) → Read accents t before after n at quoted → n ≤ 256 → length t ≤ at
     → Parsed (nodes_by accents t) before after n
 ended accents t before after n at quoted r few h =
-    let all : r.done ≡ nodes_by accents t = rw (after-end accents t r.fuel at quoted h, append-nil) at r.whole in
+    let all : r.done ≡ nodes_by accents t = rw (after_end accents t r.fuel at quoted h, append-nil) at r.whole in
     let count : n ≡ length (nodes_by accents t) = sym r.size ∙ ap (λ (l : List Node). length l) all in
     record { is = r.stored ∙ rw (all, count); count = count; few = few }
 
@@ -56,13 +56,13 @@ pub plain_step : (accents : Bool) (t : List ℕ) (at : ℕ) (quoted : Bool) → 
     → char_at accents t at character true ≡ step_at accents t at quoted
 unfolding step_at literal_at char_place
 plain_step accents t at true e =
-    let both-are = both (not (eqb (byte_at t at) 34)) _ e in
-    rw (not-true (eqb (byte_at t at) 34) both-are.0, not-true (eqb (byte_at t at) 92) both-are.1)
+    let both_are = both (not (eqb (byte_at t at) 34)) _ e in
+    rw (not-true (eqb (byte_at t at) 34) both_are.0, not-true (eqb (byte_at t at) 92) both_are.1)
 plain_step accents t at false e = absurd (false≢true e)
 
-pub in-quotes : (t : List ℕ) (at : ℕ) (quoted : Bool) → is_quoted_char t at quoted ≡ true → true ≡ quoted
-in-quotes t at true e = refl
-in-quotes t at false e = absurd (false≢true e)
+pub in_quotes : (t : List ℕ) (at : ℕ) (quoted : Bool) → is_quoted_char t at quoted ≡ true → true ≡ quoted
+in_quotes t at true e = refl
+in_quotes t at false e = absurd (false≢true e)
 
 -- a step
 pub one : (accents : Bool) (t : List ℕ) (fuel at : ℕ) (quoted : Bool) (s : Step) → s ≡ step_at accents t at quoted → at < length t
@@ -90,7 +90,7 @@ module _ (accents : Bool) (t before : List ℕ) (n at : ℕ) (quoted : Bool) (s 
     kept room m =
         turn r.fuel r.done r.enough r.whole (sets after (6 * n) (bytes_of s.node)) (n + 1)
         (rw (m, length-append) (omega (arith, r.size)))
-        (rw (r.stored, m) (put-after r.done before s.node n r.size room))
+        (rw (r.stored, m) (put_after r.done before s.node n r.size room))
 
     pub passed : s.made ≡ false → Read accents t before after n s.next s.quoted
     passed m =

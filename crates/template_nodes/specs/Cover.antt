@@ -6,7 +6,7 @@ use Rattle.std.specs.Int.Bits.{bit_or}
 use Rattle.std.proofs.Math.Seq.{slice}
 use Rattle.base_notation.specs.Choice.{when◌then◌else◌}
 use Rattle.base_notation.specs.Text.{byte_at, utf8}
-use Rattle.base_accents.specs.Accents.{measure_of, measure-computes}
+use Rattle.base_accents.specs.Accents.{measure_of, measure_computes}
 use Rattle.template_patterns.specs.Affixes.{affix_length, bit_at}
 use Rattle.template_patterns.specs.Patterns.{name_of}
 use Rattle.template_nodes.specs.Template.{action, backslash, character, escapes, in_mode, kind_of, literal, nodes_by, pattern, quote}
@@ -33,21 +33,21 @@ pattern_node accents at prefix k suffix =
 -- the text from a place on, in quotes or outside, is covered by nodes; each line below is one way in which it goes on
 pub data Covers (accents : Bool) : Bool → ℕ → List ℕ → List Node → Type 0 where
   -- nothing is left; quotes may be open
-  at-end : {quoted : Bool} {at : ℕ} → Covers accents quoted at [] []
+  at_end : {quoted : Bool} {at : ℕ} → Covers accents quoted at [] []
   -- a quote makes no node
-  at-quote : {quoted : Bool} {at : ℕ} {t : List ℕ} {ns : List Node} → Covers accents (not quoted) (at + 1) t ns → Covers accents quoted at (quote ∷ t) ns
+  at_quote : {quoted : Bool} {at : ℕ} {t : List ℕ} {ns : List Node} → Covers accents (not quoted) (at + 1) t ns → Covers accents quoted at (quote ∷ t) ns
   -- outside quotes a prefix may be dropped
-  at-prefix : {at : ℕ} {t : List ℕ} {ns : List Node} (prefix : List ℕ) → IsAffix true prefix → Covers accents false (at + length prefix) t ns
+  at_prefix : {at : ℕ} {t : List ℕ} {ns : List Node} (prefix : List ℕ) → IsAffix true prefix → Covers accents false (at + length prefix) t ns
       → Covers accents false at (prefix ++ t) ns
   -- outside quotes a pattern's name is a node; a prefix before it and a suffix after it are its bits
   at_name : {at : ℕ} {t : List ℕ} {ns : List Node} (prefix : List ℕ) (k : ℕ) (suffix : List ℕ) → IsAffix true prefix → k < 112 → IsAffix false suffix
       → Covers accents false (at + length prefix + length (name_of k) + length suffix) t ns
       → Covers accents false at (prefix ++ name_of k ++ suffix ++ t) (pattern_node accents at prefix k suffix ∷ ns)
   -- a character is a node, unless it is a quote or a backslash that makes the next one plain
-  at-character : {quoted : Bool} {at : ℕ} {t : List ℕ} {ns : List Node} (c : List ℕ) → IsCharacter accents c t → eqb (byte_at c 0) quote ≡ false
+  at_character : {quoted : Bool} {at : ℕ} {t : List ℕ} {ns : List Node} (c : List ℕ) → IsCharacter accents c t → eqb (byte_at c 0) quote ≡ false
       → escapes (c ++ t) 0 quoted ≡ false → Covers accents quoted (at + length c) t ns → Covers accents quoted at (c ++ t) (literal_node accents quoted at c ∷ ns)
   -- any character after such a backslash is a node; the backslash makes none
-  at-backslash : {quoted : Bool} {at : ℕ} {t : List ℕ} {ns : List Node} (c : List ℕ) → IsCharacter accents c t → escapes (backslash ∷ c ++ t) 0 quoted ≡ true
+  at_backslash : {quoted : Bool} {at : ℕ} {t : List ℕ} {ns : List Node} (c : List ℕ) → IsCharacter accents c t → escapes (backslash ∷ c ++ t) 0 quoted ≡ true
       → Covers accents quoted (at + 1 + length c) t ns → Covers accents quoted at (backslash ∷ c ++ t) (literal_node accents quoted (at + 1) c ∷ ns)
 
 -- the bytes of a node are in the template, at least one, and those of a pattern's node are its name
@@ -68,9 +68,9 @@ pub record Covered (accents : Bool) (t : List ℕ) : Type 0 where
 
 -- a prefix, a pattern, and in quotes a character and a quote after a backslash
 pub worked : Covers false false 0 (utf8 "FMDDth\"x\\\"\"") (pattern 2 2 9 5 ∷ literal character 7 1 ∷ literal character 9 1 ∷ [])
-unfolding bit_at measure-computes
+unfolding bit_at measure_computes
 worked =
     at_name (utf8 "FM") 9 (utf8 "th") refl (omega arith) refl
-    (at-quote
-    (at-character (utf8 "x") (record { some = omega arith; one = refl }) refl refl
-    (at-backslash (utf8 "\"") (record { some = omega arith; one = refl }) refl (at-quote at-end))))
+    (at_quote
+    (at_character (utf8 "x") (record { some = omega arith; one = refl }) refl refl
+    (at_backslash (utf8 "\"") (record { some = omega arith; one = refl }) refl (at_quote at_end))))

@@ -3,7 +3,7 @@ use Rattle.std.specs.Prelude.{◌≡◌, refl, Bool, true, false, not, ◌&&◌,
 use Rattle.base_notation.specs.Choice.{when◌then◌else◌}
 use Rattle.base_notation.specs.Text.{encoded, utf8}
 use Rattle.base_accents.specs.Accents.{letter_at, mark_at}
-use Rattle.template_nodes.specs.Examples.{nodes-compute}
+use Rattle.template_nodes.specs.Examples.{nodes_compute}
 use Rattle.template_nodes.specs.Template.{action, character, in_mode, literal, nodes_by, nodes_of, pattern}
 use Rattle.template_nodes.specs.declared.Node.{Node}
 
@@ -34,7 +34,7 @@ abbrev pub joined : List ℕ → List Node → List Node
 joined t [] = []
 joined t (n ∷ ns) = joined_to t n ns
 
--- the nodes of the accents mode are those of the other with their marks joined; `by-what-is-before` in
+-- the nodes of the accents mode are those of the other with their marks joined; `by_what_is_before` in
 -- proofs/Joined.antt is the theorem
 abbrev pub ByWhatIsBefore : Type 0
 ByWhatIsBefore = (t : List ℕ) → nodes_by true t ≡ map (in_mode true) (joined t (nodes_of t))
@@ -60,12 +60,12 @@ pub worked
     × (nodes_by true (utf8 "5" ++ acute) ≡ marked (literal character 0 1) ∷ marked (literal character 1 2) ∷ [])
     × (nodes_by true (utf8 "\"a\"" ++ acute) ≡ marked (literal character 1 1) ∷ marked (literal character 3 2) ∷ [])
     × (nodes_by true (utf8 "DD" ++ acute) ≡ marked (pattern 0 2 9 0) ∷ marked (literal character 2 2) ∷ [])
-unfolding nodes-compute
+unfolding nodes_compute
 worked = (refl, refl, refl, refl)
 
 -- after a backslash, a suffix and a prefix that is dropped a mark counts alone; a letter after them has its mark
 pub alone
     : (none_alone (utf8 "\"a\\" ++ acute) ≡ false) × (none_alone (utf8 "DDth" ++ acute) ≡ false) × (none_alone (utf8 "aFM" ++ acute) ≡ false)
     × (none_alone (utf8 "\"\\a" ++ acute ++ utf8 "\"DDthu" ++ acute ++ utf8 "FMu" ++ acute) ≡ true)
-unfolding has_lone_mark nodes-compute
+unfolding has_lone_mark nodes_compute
 alone = (refl, refl, refl, refl)

@@ -1,7 +1,7 @@
 -- The affix at a place is that of its two letters. Assumes nothing.
--- `by-letters`: the bit at a place is that of the two letters there. `none-past`: past the end there is none.
+-- `by_letters`: the bit at a place is that of the two letters there. `none_past`: past the end there is none.
 -- `none_below`: no affix begins with a byte below F.
--- `affix-short`: an affix has at most two letters. `affix-there`: its letters are in the text, whole.
+-- `affix_short`: an affix has at most two letters. `affix_there`: its letters are in the text, whole.
 use mathlib.Core.Path.{◌≡◌, ◌∙◌, refl, sym}
 use mathlib.Core.Bool.{Bool, true, false, and-false}
 use mathlib.Core.List.{List, [], ◌∷◌}
@@ -12,21 +12,21 @@ use borrow.Author.Tests.{eqb-true, eqb-false, ne_eqb}
 use lib.Dec.{eqb}
 use lib.ListN.{length, get_or-eq_default}
 use lib.Seq.{drop-cons}
-use Rattle.base_notation.proofs.Bytes.{byte-within}
-use Rattle.base_notation.proofs.Cases.{by-if}
+use Rattle.base_notation.proofs.Bytes.{byte_within}
+use Rattle.base_notation.proofs.Cases.{by_if}
 use Rattle.base_notation.specs.Text.{byte_at}
 use Rattle.template_patterns.specs.Affixes.{affix_length, bit_at}
 use Rattle.template_patterns.proofs.Names.{There}
 
-pub by-letters : (wanted : Bool) (t : List ℕ) (at : ℕ) → bit_at wanted t at ≡ bit_at wanted (byte_at t at ∷ byte_at t (at + 1) ∷ []) 0
+pub by_letters : (wanted : Bool) (t : List ℕ) (at : ℕ) → bit_at wanted t at ≡ bit_at wanted (byte_at t at ∷ byte_at t (at + 1) ∷ []) 0
 unfolding bit_at
-by-letters wanted t at = refl
+by_letters wanted t at = refl
 
 -- there is none past the end
-pub none-past : (wanted : Bool) (t : List ℕ) (at : ℕ) → length t ≤ at → bit_at wanted t at ≡ 0
+pub none_past : (wanted : Bool) (t : List ℕ) (at : ℕ) → length t ≤ at → bit_at wanted t at ≡ 0
 unfolding bit_at
-none-past true t at h = simp (get_or-eq_default t 0 h)
-none-past false t at h = simp (get_or-eq_default t 0 h)
+none_past true t at h = simp (get_or-eq_default t 0 h)
+none_past false t at h = simp (get_or-eq_default t 0 h)
 
 -- every affix begins with F or a later letter
 below : (b c : ℕ) → b < 70 → 70 ≤ c → eqb b c ≡ false
@@ -38,14 +38,14 @@ none_below true t at h = simp (below _ 70 h (omega arith), below _ 102 h (omega 
 none_below false t at h = simp (below _ 84 h (omega arith), below _ 116 h (omega arith), below _ 83 h (omega arith))
 
 -- an affix has at most two letters
-pub affix-short : (bit : ℕ) → affix_length bit ≤ 2
-affix-short bit = by-if (λ (n : ℕ). n ≤ 2) (eqb bit 0) 0 2 (λ e. omega arith) (λ e. omega arith)
+pub affix_short : (bit : ℕ) → affix_length bit ≤ 2
+affix_short bit = by_if (λ (n : ℕ). n ≤ 2) (eqb bit 0) 0 2 (λ e. omega arith) (λ e. omega arith)
 
 -- an affix has a second letter
-second-letter : (wanted : Bool) (a b : ℕ) → b ≡ 0 → bit_at wanted (a ∷ b ∷ []) 0 ≡ 0
+second_letter : (wanted : Bool) (a b : ℕ) → b ≡ 0 → bit_at wanted (a ∷ b ∷ []) 0 ≡ 0
 unfolding bit_at
-second-letter true a b e = simp (e, and-false)
-second-letter false a b e = simp (e, and-false)
+second_letter true a b e = simp (e, and-false)
+second_letter false a b e = simp (e, and-false)
 
 -- nothing, or the letters of the affix at a place: they have its bit
 pub record AffixThere (wanted : Bool) (t : List ℕ) (at : ℕ) : Type 0 where
@@ -54,8 +54,8 @@ pub record AffixThere (wanted : Bool) (t : List ℕ) (at : ℕ) : Type 0 where
   pub size : length name ≡ affix_length (bit_at wanted t at)
   pub same : bit_at wanted name 0 ≡ bit_at wanted t at
 
-pub affix-there : (wanted : Bool) (t : List ℕ) (at : ℕ) → at ≤ length t → AffixThere wanted t at
-affix-there wanted t at h = by (eqb (bit_at wanted t at) 0) refl
+pub affix_there : (wanted : Bool) (t : List ℕ) (at : ℕ) → at ≤ length t → AffixThere wanted t at
+affix_there wanted t at h = by (eqb (bit_at wanted t at) 0) refl
   where
     by : (z : Bool) → eqb (bit_at wanted t at) 0 ≡ z → AffixThere wanted t at
     by true e =
@@ -64,11 +64,11 @@ affix-there wanted t at h = by (eqb (bit_at wanted t at) 0) refl
           name = [];
           there = record { within = omega arith; rest = rw same };
           size = rw e;
-          same = none-past wanted [] 0 (omega arith) ∙ sym (eqb-true _ _ e);
+          same = none_past wanted [] 0 (omega arith) ∙ sym (eqb-true _ _ e);
         }
     by false e =
         let inside : at + 1 < length t =
-        byte-within t (at + 1) (λ z. eqb-false _ _ e (by-letters wanted t at ∙ second-letter wanted (byte_at t at) (byte_at t (at + 1)) z)) in
+        byte_within t (at + 1) (λ z. eqb-false _ _ e (by_letters wanted t at ∙ second_letter wanted (byte_at t at) (byte_at t (at + 1)) z)) in
         let two : suc (at + 1) ≡ at + 2 = omega arith in
         record {
           name = byte_at t at ∷ byte_at t (at + 1) ∷ [];
@@ -77,5 +77,5 @@ affix-there wanted t at h = by (eqb (bit_at wanted t at) 0) refl
             rest = drop-cons t at 0 (omega arith) ∙ rw (← add-one at, drop-cons t (at + 1) 0 inside, two);
           };
           size = rw e;
-          same = sym (by-letters wanted t at);
+          same = sym (by_letters wanted t at);
         }

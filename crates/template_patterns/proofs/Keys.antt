@@ -1,7 +1,7 @@
 -- A name and the bytes at a place compared as numbers. Assumes nothing.
--- `number-parts`: what the number of a name says: its first byte, how many bits and bytes it has, and its bytes.
--- `key-begins`: the lowest bits of the bytes at a place are those of a name exactly if the name is there.
--- `key-first`: the lowest byte of the bytes at a place is the first.
+-- `number_parts`: what the number of a name says: its first byte, how many bits and bytes it has, and its bytes.
+-- `key_begins`: the lowest bits of the bytes at a place are those of a name exactly if the name is there.
+-- `key_first`: the lowest byte of the bytes at a place is the first.
 -- `no_start`: no name begins with a byte that is none of the first bytes.
 use mathlib.Core.Path.{◌≡◌, refl, ◌∙◌, sym, ap}
 use mathlib.Core.Bool.{Bool, true, false, ◌&&◌, ◌||◌, false≢true}
@@ -19,7 +19,7 @@ use Rattle.base_notation.specs.Text.{byte_at, utf8}
 use Rattle.template_patterns.specs.Numbers.{five_at, name_number, number_of, packed}
 use Rattle.template_patterns.specs.Patterns.{names, name_of, pattern_of, patterns}
 use Rattle.template_patterns.specs.Search.{first_with, matches_at, start_of}
-use Rattle.template_patterns.proofs.Names.{head, name-is, name-length}
+use Rattle.template_patterns.proofs.Names.{head, name_is, name_length}
 
 -- a number is one of some
 abbrev elem : ℕ → List ℕ → Bool
@@ -46,25 +46,25 @@ pub record Parts (k : ℕ) : Type 0 where
   pub low : name_number k % 2 ^ (8 * length (name_of k)) ≡ packed (name_of k)
   pub bytes : all_from is_byte 0 (name_of k) ≡ true
 
-pub number-parts : (k : ℕ) → k < 112 → Parts k
+pub number_parts : (k : ℕ) → k < 112 → Parts k
 unfolding name_number
-number-parts k h =
-    let tests = both (eqb (number_of (name_of k) % 256) (head k)) _ (rw (name-is k) at (entry parted [] names refl k h)) in
+number_parts k h =
+    let tests = both (eqb (number_of (name_of k) % 256) (head k)) _ (rw (name_is k) at (entry parted [] names refl k h)) in
     let after_first = both (eqb (number_of (name_of k) / 2 ^ 40) _) _ tests.1 in
-    let after-bits = both (eqb (number_of (name_of k) / 2 ^ 43) _) _ after_first.1 in
-    let after-size = both (eqb (number_of (name_of k) % 2 ^ (8 * length (name_of k))) _) _ after-bits.1 in
+    let after_bits = both (eqb (number_of (name_of k) / 2 ^ 43) _) _ after_first.1 in
+    let after_size = both (eqb (number_of (name_of k) % 2 ^ (8 * length (name_of k))) _) _ after_bits.1 in
     record {
       first = eqb-true _ _ tests.0;
       bits = eqb-true _ _ after_first.0;
-      size = eqb-true _ _ after-bits.0;
-      low = eqb-true _ _ after-size.0;
-      bytes = after-size.1;
+      size = eqb-true _ _ after_bits.0;
+      low = eqb-true _ _ after_size.0;
+      bytes = after_size.1;
     }
 
 -- past the table a name has no bytes
-pub past-numbers : (k : ℕ) → 112 ≤ k → name_number k ≡ 0
+pub past_numbers : (k : ℕ) → 112 ≤ k → name_number k ≡ 0
 unfolding name_number
-past-numbers k h = rw (get_or-eq_default patterns (pattern_of 112) h)
+past_numbers k h = rw (get_or-eq_default patterns (pattern_of 112) h)
 
 -- c is none of some bytes, as a match says of its last arm
 abbrev pub NoneOf : ℕ → List ℕ → Type 0
@@ -114,7 +114,7 @@ module _ (t : List ℕ) (bytes : (i : ℕ) → byte_at t i < 256) where
   low_bits [] i n at p h = rw mod-one
   low_bits (c ∷ cs) i zero at p h = absurd (not-suc-le-zero h)
   low_bits (c ∷ cs) i (suc n) at p h =
-      let in-range = both (ltb c 256) _ p in
+      let in_range = both (ltb c 256) _ p in
       let b = byte_at t at in
       let rest = packed_at n (at + 1) in
       let small = bytes at in
@@ -126,21 +126,21 @@ module _ (t : List ℕ) (bytes : (i : ℕ) → byte_at t i < 256) where
         mod-pow-add (b + 256 * rest) (8 * length cs) 8,
         upper,
         lower,
-        same_parts b c (rest % 2 ^ (8 * length cs)) (packed cs) small (ltb-true c 256 in-range.0),
-        low_bits cs (suc i) n (at + 1) in-range.1 (omega arith),
+        same_parts b c (rest % 2 ^ (8 * length cs)) (packed cs) small (ltb-true c 256 in_range.0),
+        low_bits cs (suc i) n (at + 1) in_range.1 (omega arith),
       )
 
-  five-is : (at : ℕ) → five_at t at ≡ packed_at 5 at
-  five-is at =
+  five_is : (at : ℕ) → five_at t at ≡ packed_at 5 at
+  five_is at =
       let two : at + 1 + 1 ≡ at + 2 = omega arith in
       let three : at + 2 + 1 ≡ at + 3 = omega arith in
       let four : at + 3 + 1 ≡ at + 4 = omega arith in
       rw (two, three, four)
 
-  pub key-begins : (at k : ℕ) → k < 112 → eqb (five_at t at % 2 ^ (name_number k / 2 ^ 40)) (name_number k % 2 ^ (name_number k / 2 ^ 40)) ≡ matches_at (name_of k) t at
-  key-begins at k h =
-      let parts = number-parts k h in
-      rw (parts.bits, parts.low, five-is at) (low_bits (name_of k) 0 5 at parts.bytes (name-length k h).1)
+  pub key_begins : (at k : ℕ) → k < 112 → eqb (five_at t at % 2 ^ (name_number k / 2 ^ 40)) (name_number k % 2 ^ (name_number k / 2 ^ 40)) ≡ matches_at (name_of k) t at
+  key_begins at k h =
+      let parts = number_parts k h in
+      rw (parts.bits, parts.low, five_is at) (low_bits (name_of k) 0 5 at parts.bytes (name_length k h).1)
 
-  pub key-first : (at : ℕ) → five_at t at % 256 ≡ byte_at t at
-  key-first at = omega (arith, bytes at)
+  pub key_first : (at : ℕ) → five_at t at % 256 ≡ byte_at t at
+  key_first at = omega (arith, bytes at)

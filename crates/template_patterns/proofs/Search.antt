@@ -1,9 +1,9 @@
 -- The search from the first name with the same first byte on finds the first pattern of the whole table.
 -- Assumes nothing.
 -- `begins`: the first pattern is the first from that number on. `next`: a name that is not there is passed over.
--- `found`: a name that is there is found. `none-on`: a name that begins with another byte ends the search.
--- `none-outside`: nothing is found if no name begins with the byte. `head-range`: a first byte is 33 to 125.
--- `found-range`, `found_name`: what is found is one of the 112 patterns, with a name of 1 to 5 bytes that is there.
+-- `found`: a name that is there is found. `none_on`: a name that begins with another byte ends the search.
+-- `none_outside`: nothing is found if no name begins with the byte. `head_range`: a first byte is 33 to 125.
+-- `found_range`, `found_name`: what is found is one of the 112 patterns, with a name of 1 to 5 bytes that is there.
 use mathlib.Core.Path.{◌≡◌, refl, ◌∙◌, sym, ap}
 use mathlib.Core.Bool.{Bool, true, false, ◌&&◌, ◌||◌, not}
 use mathlib.Core.List.{List, [], ◌∷◌}
@@ -23,7 +23,7 @@ use Rattle.template_patterns.specs.Patterns.{names, name_of}
 use Rattle.template_patterns.specs.Search.{matches_at, first_at, first_with, pattern_at, start_of}
 use Rattle.template_patterns.specs.declared.Found.{Found}
 use Rattle.template_patterns.specs.declared.Found.TheVariants.{Pattern, Nothing}
-use Rattle.template_patterns.proofs.Names.{name-is, name-length, head, matches-not}
+use Rattle.template_patterns.proofs.Names.{name_is, name_length, head, matches_not}
 
 -- x is the number of the first name that begins with c, counted from k, or past the last
 record First (k c : ℕ) (ns : List (List ℕ)) (x : ℕ) : Type 0 where
@@ -32,10 +32,10 @@ record First (k c : ℕ) (ns : List (List ℕ)) (x : ℕ) : Type 0 where
   own : (i : ℕ) → k + i ≡ x → i < length ns → byte_at (get_or ns i []) 0 ≡ c
   others : (i : ℕ) → k + i < x → byte_at (get_or ns i []) 0 ≡ c → ⊥
 
-first-is : (ns : List (List ℕ)) (k c : ℕ) → First k c ns (first_with k c ns)
-first-is [] k c =
+first_is : (ns : List (List ℕ)) (k c : ℕ) → First k c ns (first_with k c ns)
+first_is [] k c =
     record { from = omega arith; to = omega arith; own = λ i h l. absurd (not-suc-le-zero l); others = λ i h. absurd (omega (arith, h)) }
-first-is (n ∷ ns) k c = split (eqb (byte_at n 0) c) refl (first-is ns (suc k) c)
+first_is (n ∷ ns) k c = split (eqb (byte_at n 0) c) refl (first_is ns (suc k) c)
   where
     split : (b : Bool) → eqb (byte_at n 0) c ≡ b → First (suc k) c ns (first_with (suc k) c ns) → First k c (n ∷ ns) (when b then k else first_with (suc k) c ns)
     split true q f =
@@ -64,17 +64,17 @@ ordered k n = all_from (λ (j : ℕ) (m : List ℕ). implies (leb k j) (leb (byt
 
 pub sorted : (k j : ℕ) → k < 112 → j < 112 → k ≤ j → head k ≤ head j
 sorted k j p q r =
-    let after-k = entry ordered [] names refl k p in
-    let at_j = entry (λ (j : ℕ) (m : List ℕ). implies (leb k j) (leb (byte_at (get_or names k []) 0) (byte_at m 0))) [] names after-k j q in
-    leb-true _ _ (rw (le-leb k j r, name-is k, name-is j) at at_j)
+    let after_k = entry ordered [] names refl k p in
+    let at_j = entry (λ (j : ℕ) (m : List ℕ). implies (leb k j) (leb (byte_at (get_or names k []) 0) (byte_at m 0))) [] names after_k j q in
+    leb-true _ _ (rw (le-leb k j r, name_is k, name_is j) at at_j)
 
 abbrev printable : ℕ → List ℕ → Bool
 printable k n = ltb 32 (byte_at n 0) && ltb (byte_at n 0) 126
 
 -- each first byte is above the space and below the tilde
-pub head-range : (k : ℕ) → k < 112 → (32 < head k) × (head k < 126)
-head-range k p =
-    let bounds = both (ltb 32 (head k)) _ (rw (name-is k) at (entry printable [] names refl k p)) in
+pub head_range : (k : ℕ) → k < 112 → (32 < head k) × (head k < 126)
+head_range k p =
+    let bounds = both (ltb 32 (head k)) _ (rw (name_is k) at (entry printable [] names refl k p)) in
     (ltb-true _ _ bounds.0, ltb-true _ _ bounds.1)
 
 -- ---- the search
@@ -91,25 +91,25 @@ module _ (t : List ℕ) (at : ℕ) where
   other : (k : ℕ) → k < 112 → (head k ≡ byte_at t at → ⊥) → matches_at (get_or names k []) t at ≡ false
   other k p n =
       let same : at + 0 ≡ at = omega arith in
-      rw (name-is k) (rw same at (matches-not (name_of k) t at 0 (name-length k p).0 (λ q. n (sym q ∙ ap (byte_at t) same))))
+      rw (name_is k) (rw same at (matches_not (name_of k) t at 0 (name_length k p).0 (λ q. n (sym q ∙ ap (byte_at t) same))))
 
   -- if no name from k on begins with the byte, none is found
   pub ends : (k : ℕ) → k ≤ 112 → ((j : ℕ) → k ≤ j → j < 112 → head j ≡ byte_at t at → ⊥) → first_at k (drop k names) t at ≡ Nothing
   ends k l n =
-      let names-left : length (drop k names) ≡ 112 - k = length-drop k names in
+      let names_left : length (drop k names) ≡ 112 - k = length-drop k names in
       passed t at (drop k names) k (length (drop k names))
       (λ j b. rw (get_or-drop k names j []) (other (k + j) (omega arith) (n (k + j) (omega arith) (omega arith)))) (le_refl _)
       ∙ rw (drop-length (drop k names))
 
   -- if no name at all does, there is no pattern
-  pub none-outside : ((j : ℕ) → j < 112 → head j ≡ byte_at t at → ⊥) → pattern_at t at ≡ Nothing
+  pub none_outside : ((j : ℕ) → j < 112 → head j ≡ byte_at t at → ⊥) → pattern_at t at ≡ Nothing
   unfolding pattern_at
-  none-outside n = ends 0 (omega arith) (λ j b. n j)
+  none_outside n = ends 0 (omega arith) (λ j b. n j)
 
   -- the number where the search begins
   start : First 0 (byte_at t at) names (start_of (byte_at t at))
   unfolding start_of
-  start = first-is names 0 (byte_at t at)
+  start = first_is names 0 (byte_at t at)
 
   -- the names before it are passed over
   pub begins : (x : ℕ) → x ≡ start_of (byte_at t at) → (x ≤ 112) × (pattern_at t at ≡ first_at x (drop x names) t at)
@@ -117,21 +117,21 @@ module _ (t : List ℕ) (at : ℕ) where
   begins x e =
       let first : First 0 (byte_at t at) names x = rw e start in
       let to : x ≤ 112 = omega (arith, first.to) in
-      (to, rw (zero-add x) at (passed t at names 0 x (λ j b. other j (omega (arith, b)) (λ q. first.others j (omega (arith, b)) (ap (λ (n : List ℕ). byte_at n 0) (name-is j) ∙ q))) to))
+      (to, rw (zero-add x) at (passed t at names 0 x (λ j b. other j (omega (arith, b)) (λ q. first.others j (omega (arith, b)) (ap (λ (n : List ℕ). byte_at n 0) (name_is j) ∙ q))) to))
 
   -- a name that is there is found
   pub found : (k : ℕ) → k < 112 → matches_at (name_of k) t at ≡ true → first_at k (drop k names) t at ≡ Pattern k (length (name_of k))
-  found k p e = rw (drop-cons names k [] p, name-is k, e)
+  found k p e = rw (drop-cons names k [] p, name_is k, e)
 
   -- one that is not is passed over
   pub next : (k : ℕ) → k < 112 → matches_at (name_of k) t at ≡ false → first_at k (drop k names) t at ≡ first_at (k + 1) (drop (k + 1) names) t at
-  next k p e = rw (drop-cons names k [] p, name-is k, e, add-one k)
+  next k p e = rw (drop-cons names k [] p, name_is k, e, add-one k)
 
   -- the search ends where a name begins with another byte
-  pub none-on : (x k : ℕ) → x ≡ start_of (byte_at t at) → k < 112 → x ≤ k → (head k ≡ byte_at t at → ⊥) → first_at k (drop k names) t at ≡ Nothing
-  none-on x k e p l n =
+  pub none_on : (x k : ℕ) → x ≡ start_of (byte_at t at) → k < 112 → x ≤ k → (head k ≡ byte_at t at → ⊥) → first_at k (drop k names) t at ≡ Nothing
+  none_on x k e p l n =
       let first : First 0 (byte_at t at) names x = rw e start in
-      let own : head x ≡ byte_at t at = sym (ap (λ (n : List ℕ). byte_at n 0) (name-is x)) ∙ first.own x (zero-add x) (omega arith) in
+      let own : head x ≡ byte_at t at = sym (ap (λ (n : List ℕ). byte_at n 0) (name_is x)) ∙ first.own x (zero-add x) (omega arith) in
       ends k (omega arith) (λ j b q e. n (omega (arith, sorted x k (omega arith) p l, sorted k j p q b)))
 
 -- ---- what is found
@@ -156,18 +156,18 @@ hit t at (m ∷ ns) k p n e = split (matches_at m t at) refl (hit t at ns (suc k
         record { nth = suc h.nth; number = omega (arith, h.number); inside = omega (arith, h.inside); size = h.size; there = h.there }
 
 -- a pattern of the table, whose name has 1 to 5 bytes
-pub found-range : (t : List ℕ) (at p n : ℕ) → pattern_at t at ≡ Pattern p n → (p < 112) × (1 ≤ n) × (n ≤ 5)
+pub found_range : (t : List ℕ) (at p n : ℕ) → pattern_at t at ≡ Pattern p n → (p < 112) × (1 ≤ n) × (n ≤ 5)
 unfolding pattern_at
-found-range t at p n e =
-    let is-hit = hit t at names 0 p n e in
-    let same_length : n ≡ length (name_of is-hit.nth) = is-hit.size ∙ ap (λ (m : List ℕ). length m) (name-is is-hit.nth) in
-    let one-to-five = name-length is-hit.nth is-hit.inside in
-    (omega (arith, is-hit.number, is-hit.inside), omega (arith, one-to-five), omega (arith, one-to-five))
+found_range t at p n e =
+    let is_hit = hit t at names 0 p n e in
+    let same_length : n ≡ length (name_of is_hit.nth) = is_hit.size ∙ ap (λ (m : List ℕ). length m) (name_is is_hit.nth) in
+    let one_to_five = name_length is_hit.nth is_hit.inside in
+    (omega (arith, is_hit.number, is_hit.inside), omega (arith, one_to_five), omega (arith, one_to_five))
 
 -- its name is there
 pub found_name : (t : List ℕ) (at p n : ℕ) → pattern_at t at ≡ Pattern p n → (n ≡ length (name_of p)) × (matches_at (name_of p) t at ≡ true)
 unfolding pattern_at
 found_name t at p n e =
-    let is-hit = hit t at names 0 p n e in
-    let name : get_or names is-hit.nth [] ≡ name_of p = name-is is-hit.nth ∙ ap name_of (sym (is-hit.number ∙ zero-add is-hit.nth)) in
-    (is-hit.size ∙ ap (λ (m : List ℕ). length m) name, rw name at is-hit.there)
+    let is_hit = hit t at names 0 p n e in
+    let name : get_or names is_hit.nth [] ≡ name_of p = name_is is_hit.nth ∙ ap name_of (sym (is_hit.number ∙ zero-add is_hit.nth)) in
+    (is_hit.size ∙ ap (λ (m : List ℕ). length m) name, rw name at is_hit.there)

@@ -13,12 +13,12 @@ use Rattle.base_chars.specs.Sets.{in_set}
 use Rattle.base_chars.proofs.Sets.{set_is}
 
 -- past the table all patterns are the one without a name
-past-table : (k : ℕ) → 112 ≤ k → pattern_of k ≡ pattern_of 112
-past-table k h = get_or-eq_default patterns (pattern_of 112) h
+past_table : (k : ℕ) → 112 ≤ k → pattern_of k ≡ pattern_of 112
+past_table k h = get_or-eq_default patterns (pattern_of 112) h
 
 -- what no pattern past the table has
 none : (f : Pattern → Bool) → f (pattern_of 112) ≡ false → (k : ℕ) → 128 ≤ k → f (pattern_of k) ≡ false
-none f e k h = ap f (past-table k (omega arith)) ∙ e
+none f e k h = ap f (past_table k (omega arith)) ∙ e
 
 pub digits : (k : ℕ) → in_set 0x03fd7413ffefe340 0xff5d13ffefed k ≡ (pattern_of k).is_digit
 unfolding in_set

@@ -1,7 +1,7 @@
 -- The letters and dots of a marker, put into a buffer one after the other. Assumes nothing.
--- `marker-size`: a marker has two bytes, a dotted one four. `marker-some`: it has two or more.
+-- `marker_size`: a marker has two bytes, a dotted one four. `marker_some`: it has two or more.
 -- `half`: its first letter, that of the half of the day.
--- `plain-put`, `dotted-put`: its letters, without and with dots, put from a place on are its text put there.
+-- `plain_put`, `dotted_put`: its letters, without and with dots, put from a place on are its text put there.
 use mathlib.Core.Path.{◌≡◌, refl}
 use mathlib.Core.Bool.{Bool, true, false}
 use mathlib.Core.List.{List}
@@ -23,15 +23,15 @@ dot Small = refl
 dot Title = refl
 
 module _ (case : Case) where
-  pub marker-size : (dotted morning : Bool) → length (marker_text case dotted morning) ≡ (when dotted then 4 else 2)
-  marker-size true true = refl
-  marker-size true false = refl
-  marker-size false true = refl
-  marker-size false false = refl
+  pub marker_size : (dotted morning : Bool) → length (marker_text case dotted morning) ≡ (when dotted then 4 else 2)
+  marker_size true true = refl
+  marker_size true false = refl
+  marker_size false true = refl
+  marker_size false false = refl
 
-  pub marker-some : (dotted morning : Bool) → 2 ≤ length (marker_text case dotted morning)
-  marker-some true morning = omega (arith, marker-size true morning)
-  marker-some false morning = omega (arith, marker-size false morning)
+  pub marker_some : (dotted morning : Bool) → 2 ≤ length (marker_text case dotted morning)
+  marker_some true morning = omega (arith, marker_size true morning)
+  marker_some false morning = omega (arith, marker_size false morning)
 
   -- the letter of the half of the day
   abbrev pub half : Bool → ℕ
@@ -44,23 +44,23 @@ module _ (case : Case) where
     next : at + 1 ≡ suc at
     next = add-one at
 
-    next-2 : at + 2 ≡ suc (suc at)
-    next-2 = omega arith
+    next_2 : at + 2 ≡ suc (suc at)
+    next_2 = omega arith
 
-    next-3 : at + 3 ≡ suc (suc (suc at))
-    next-3 = omega arith
+    next_3 : at + 3 ≡ suc (suc (suc at))
+    next_3 = omega arith
 
     -- x and y are the letters
     module _ (x y : ℕ) (b : Bool) (first : x ≡ half b) (second : y ≡ m) where
-      pub plain-put : set (set l at x) (at + 1) y ≡ sets l at (marker_text case false b)
-      plain-put = rw (first, second, next) (by b)
+      pub plain_put : set (set l at x) (at + 1) y ≡ sets l at (marker_text case false b)
+      plain_put = rw (first, second, next) (by b)
         where
           by : (b : Bool) → set (set l at (half b)) (suc at) m ≡ sets l at (marker_text case false b)
           by true = refl
           by false = refl
 
-      pub dotted-put : set (set (set (set l at x) (at + 1) (code ".")) (at + 2) y) (at + 3) (code ".") ≡ sets l at (marker_text case true b)
-      dotted-put = rw (first, second, next, next-2, next-3) (by b)
+      pub dotted_put : set (set (set (set l at x) (at + 1) (code ".")) (at + 2) y) (at + 3) (code ".") ≡ sets l at (marker_text case true b)
+      dotted_put = rw (first, second, next, next_2, next_3) (by b)
         where
           by : (b : Bool) → set (set (set (set l at (half b)) (suc at) (code ".")) (suc (suc at)) m) (suc (suc (suc at))) (code ".") ≡ sets l at (marker_text case true b)
           by true = rw (dot case)

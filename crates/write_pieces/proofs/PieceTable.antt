@@ -1,7 +1,7 @@
 -- The table of pieces has each pattern's piece. Assumes nothing.
 -- `letter_at`: the entry of a pattern is the letter of its piece.
--- `none-past`: a number past the table has no piece.
--- `piece-range`: every piece is below 18.
+-- `none_past`: a number past the table has no piece.
+-- `piece_range`: every piece is below 18.
 use mathlib.Core.Path.{◌≡◌, refl, ap}
 use mathlib.Core.Bool.{Bool, true, false, ◌&&◌}
 use Prim.Native.Nat.{ℕ, ◌<◌, ◌≤◌}
@@ -30,13 +30,13 @@ pub letter_at : (k : ℕ) → k < 112 → get_or piece_table k 0 ≡ letter_of (
 letter_at k h = (tested k h).0
 
 -- a number past the table
-pub none-past : (k : ℕ) → 112 ≤ k → piece_of k ≡ none
+pub none_past : (k : ℕ) → 112 ≤ k → piece_of k ≡ none
 unfolding piece_of
-none-past k h = ap (λ (p : Pattern). piece_named p.name rows) (get_or-eq_default patterns (pattern_of 112) h)
+none_past k h = ap (λ (p : Pattern). piece_named p.name rows) (get_or-eq_default patterns (pattern_of 112) h)
 
-pub piece-range : (k : ℕ) → piece_of k < 18
-piece-range k = split (ltb k 112) refl
+pub piece_range : (k : ℕ) → piece_of k < 18
+piece_range k = split (ltb k 112) refl
   where
     split : (b : Bool) → ltb k 112 ≡ b → piece_of k < 18
     split true e = (tested k (ltb-true k 112 e)).1
-    split false e = rw (none-past k (ltb-false k 112 e)) (omega arith)
+    split false e = rw (none_past k (ltb-false k 112 e)) (omega arith)

@@ -31,7 +31,7 @@ is_moment m =
     && (within (pos 0) (pos 59) m.second && within (pos 0) (pos 999999) m.micros))))
 
 -- the same without tests: each of the seven numbers is in its range.
--- `moment-plain` and `plain-moment` in proofs/Moments.antt prove that the two agree.
+-- `moment_plain` and `plain_moment` in proofs/Moments.antt prove that the two agree.
 pub record PlainMoment (m : Moment) : Type 0 where
   pub year : Within 1 9999 m.year
   pub month : Within 1 12 m.month
@@ -47,8 +47,8 @@ unfolding is_moment
 worked = (refl, refl, refl)
 
 -- the first of these, number by number
-pub worked-plain : PlainMoment (moment 2024 2 29 23 59 59 999999)
-worked-plain =
+pub worked_plain : PlainMoment (moment 2024 2 29 23 59 59 999999)
+worked_plain =
     record {
       year = record { at = 2024; is = refl; from = omega arith; to = omega arith };
       month = record { at = 2; is = refl; from = omega arith; to = omega arith };

@@ -2,7 +2,7 @@
 -- month, in the pattern's case.
 use Rattle.std.specs.Prelude.{◌≡◌, refl, Bool, true, false, List, [], ◌∷◌, map, ℕ, ◌+◌, ◌*◌, ◌%◌, eqb, ltb, nat_abs, get_or}
 use Prim.Native.String.{String}
-use Rattle.calendar_gregorian.specs.IsoWeek.{weeks-compute, iso_week, iso_weekday, iso_year}
+use Rattle.calendar_gregorian.specs.IsoWeek.{weeks_compute, iso_week, iso_weekday, iso_year}
 use Rattle.base_notation.specs.Choice.{when◌then◌else◌}
 use Rattle.base_notation.specs.Text.{utf8}
 use Rattle.calendar_gregorian.specs.Gregorian.{day_number, day_of_year}
@@ -177,7 +177,7 @@ prefixes = (refl, refl)
 pub worked
     : (piece_text week_year Capitals (moment 2021 1 1 0 0 0 7) ≡ utf8 "2020") × (piece_text hour12 Capitals (moment 2021 1 1 0 0 0 7) ≡ utf8 "12")
     × (piece_text marker Capitals (moment 2021 1 1 0 0 0 7) ≡ utf8 "AM") × (piece_text micros Small (moment 2021 1 1 0 0 0 7) ≡ utf8 "000007")
-unfolding piece_text number_of decimal weeks-compute
+unfolding piece_text number_of decimal weeks_compute
 worked = (refl, refl, refl, refl)
 
 -- noon is pm, the hour before it a.m.; the month is named in the pattern's case

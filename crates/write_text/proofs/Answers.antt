@@ -1,7 +1,7 @@
 -- The cases of the writer's answer. Assumes nothing.
--- `too_long`, `not-utf8`: a template over its limit, or one that is not UTF-8. `by-nodes`: any other, by its nodes.
+-- `too_long`, `not_utf8`: a template over its limit, or one that is not UTF-8. `by_nodes`: any other, by its nodes.
 -- `many`: more nodes than a template has. `not_written`: a pattern that is not written.
--- `no-moment`: numbers that are no moment. `no_room`: a buffer shorter than the text.
+-- `no_moment`: numbers that are no moment. `no_room`: a buffer shorter than the text.
 -- `wrote`: the text is put, and its length is the answer.
 use mathlib.Core.Path.{◌≡◌, ◌∙◌, refl, ap}
 use mathlib.Core.Bool.{true, false}
@@ -31,16 +31,16 @@ module _ (set : Settings) (t : List ℕ) (m : Moment) (out : List ℕ) where
   unfolding written_to
   too_long h = record { is = rw (lt-ltb (template_limit set) (length t) h); buffer = refl }
 
-  pub not-utf8 : length t ≤ template_limit set → well_formed t ≡ false → Wrote set t m out out (Refused NotUtf8)
+  pub not_utf8 : length t ≤ template_limit set → well_formed t ≡ false → Wrote set t m out out (Refused NotUtf8)
   unfolding written_to
-  not-utf8 limit e = record { is = rw (le-ltb (template_limit set) (length t) limit, e); buffer = refl }
+  not_utf8 limit e = record { is = rw (le-ltb (template_limit set) (length t) limit, e); buffer = refl }
 
   -- by the bytes of the template's nodes
-  pub by-nodes : length t ≤ template_limit set → well_formed t ≡ true
+  pub by_nodes : length t ≤ template_limit set → well_formed t ≡ true
       → (c : List ℕ) → length c ≤ nodes_limit set → nodes_in c ≡ nodes_of t
       → {after : List ℕ} {r : Written} → WroteBy set c t m out after r → Wrote set t m out after r
   unfolding written_to written_in text_of
-  by-nodes limit utf8 c few own {after} {r} w =
+  by_nodes limit utf8 c few own {after} {r} w =
       let text = ap (nodes_text t m) own in
       record {
         is = rw (le-ltb (template_limit set) (length t) limit, utf8, ← own) (rw (le-ltb (nodes_limit set) (length c) few) at w.is);
@@ -59,9 +59,9 @@ module _ (set : Settings) (c t : List ℕ) (m : Moment) (out : List ℕ) where
     not_written h = record { is = rw (le-ltb (nodes_limit set) (length c) few, ← first, lt-ltb u 113 h); buffer = refl }
 
     module _ (none : 113 ≤ u) where
-      pub no-moment : is_moment m ≡ false → WroteBy set c t m out out (Refused NoMoment)
+      pub no_moment : is_moment m ≡ false → WroteBy set c t m out out (Refused NoMoment)
       unfolding written_in
-      no-moment e = record { is = rw (le-ltb (nodes_limit set) (length c) few, ← first, le-ltb u 113 none, e); buffer = refl }
+      no_moment e = record { is = rw (le-ltb (nodes_limit set) (length c) few, ← first, le-ltb u 113 none, e); buffer = refl }
 
       module _ (moment : is_moment m ≡ true) (n : ℕ) (needed : n ≡ length (text_in c t m)) where
         pub no_room : length out < n → WroteBy set c t m out out (Refused (NoRoom n))

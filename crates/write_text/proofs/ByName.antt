@@ -20,13 +20,13 @@ use Rattle.write_pieces.specs.Words.{in_case, month_names, month_text}
 use Rattle.write_pieces.specs.declared.Moment.{Moment}
 use Rattle.write_text.specs.ByName.{ByName}
 use Rattle.write_text.specs.Text.{node_text}
-use Rattle.write_text.proofs.Lengths.{action-text}
+use Rattle.write_text.proofs.Lengths.{action_text}
 
 -- the text of a name's piece
-month-piece : (case : Case) (full : Bool) (m : Moment) → piece_text (when full then month_name else short_month) case m ≡ month_text case full (nat_abs m.month)
+month_piece : (case : Case) (full : Bool) (m : Moment) → piece_text (when full then month_name else short_month) case m ≡ month_text case full (nat_abs m.month)
 unfolding piece_text
-month-piece case true m = refl
-month-piece case false m = refl
+month_piece case true m = refl
+month_piece case false m = refl
 
 -- the names by their pattern's name
 own : (name : String) (case : Case) (full : Bool) → case_in (utf8 name) ≡ case → piece_named (utf8 name) rows ≡ (when full then month_name else short_month)
@@ -34,8 +34,8 @@ own : (name : String) (case : Case) (full : Bool) → case_in (utf8 name) ≡ ca
     → node_text t m n ≡ get_or (map (in_case case) (month_names full)) (nat_abs m.month - 1) []
 unfolding case_of piece_of
 own name case full c p t m n e q =
-    action-text t m n e
-    ∙ rw (q, c, p) (month-piece case full m)
+    action_text t m n e
+    ∙ rw (q, c, p) (month_piece case full m)
     ∙ sym (get_or-map (in_case case) (month_names full) (nat_abs m.month - 1) [])
 
 -- in each case the names are the twelve of the statement, by computing them

@@ -1,5 +1,5 @@
 -- Why nothing is written names no pattern, or one of the template's. Assumes nothing.
--- `written-own`: so it is by a template. `written-in-own`: so it is by the nodes that any bytes hold.
+-- `written_own`: so it is by a template. `written_in_own`: so it is by the nodes that any bytes hold.
 use mathlib.Core.Path.{◌≡◌, refl, subst}
 use mathlib.Core.Bool.{false, not}
 use mathlib.Core.List.{List, [], ◌∷◌}
@@ -9,7 +9,7 @@ use native.Mathlib.Omega.{arith}
 use borrow.Author.Tests.{eqb-true, ltb-true, not-false}
 use lib.Dec.{eqb, ltb}
 use lib.ListN.{length}
-use Rattle.base_notation.proofs.Cases.{by-if, neither}
+use Rattle.base_notation.proofs.Cases.{by_if, neither}
 use Rattle.base_settings.specs.Limits.{template_limit}
 use Rattle.base_settings.specs.declared.Settings.{Settings}
 use Rattle.base_refusals.specs.Report.{no_pattern}
@@ -33,41 +33,41 @@ WrittenNames P (Length n) = Unit {0}
 WrittenNames P (Refused why) = P (unwritten_report why).pattern
 
 -- a node that is not written is a pattern
-unwritten-action : (n : Node) → is_written n ≡ false → n.kind ≡ action
-unwritten-action n e = eqb-true n.kind action (not-false _ (neither (not (eqb n.kind action)) _ e).0)
+unwritten_action : (n : Node) → is_written n ≡ false → n.kind ≡ action
+unwritten_action n e = eqb-true n.kind action (not-false _ (neither (not (eqb n.kind action)) _ e).0)
 
 -- the first node that is not written, if there is one
-first-own : (ns : List Node) → first_unwritten ns < all_written → NoneOrIn ns (first_unwritten ns)
+first_own : (ns : List Node) → first_unwritten ns < all_written → NoneOrIn ns (first_unwritten ns)
 unfolding first_unwritten
-first-own [] = λ h. absurd (omega arith)
-first-own (n ∷ ns) =
-    by-if (λ k. k < all_written → NoneOrIn (n ∷ ns) k) (is_written n) _ _ (λ e h. ⊎_elim inl (λ i. inr (inr i)) (first-own ns h))
-    (λ e h. by-if (NoneOrIn (n ∷ ns)) (ltb n.pattern no_pattern) _ _ (λ _. inr (inl (unwritten-action n e, refl))) (λ _. inl refl))
+first_own [] = λ h. absurd (omega arith)
+first_own (n ∷ ns) =
+    by_if (λ k. k < all_written → NoneOrIn (n ∷ ns) k) (is_written n) _ _ (λ e h. ⊎_elim inl (λ i. inr (inr i)) (first_own ns h))
+    (λ e h. by_if (NoneOrIn (n ∷ ns)) (ltb n.pattern no_pattern) _ _ (λ _. inr (inl (unwritten_action n e, refl))) (λ _. inl refl))
 
 -- the answer by nodes
-by-own : (ns : List Node) (m : Moment) (text : List ℕ) (room : ℕ) → WrittenNames (NoneOrIn ns) (written_by (first_unwritten ns) m text room)
+by_own : (ns : List Node) (m : Moment) (text : List ℕ) (room : ℕ) → WrittenNames (NoneOrIn ns) (written_by (first_unwritten ns) m text room)
 unfolding unwritten_report
-by-own ns m text room =
+by_own ns m text room =
     let P = WrittenNames (NoneOrIn ns) in
-    by-if P (ltb (first_unwritten ns) all_written) _ _ (λ e. first-own ns (ltb-true _ _ e))
-    (λ e. by-if P (not (is_moment m)) _ _ (λ e. inl refl) (λ e. by-if P (ltb room (length text)) _ _ (λ e. inl refl) (λ e. tt)))
+    by_if P (ltb (first_unwritten ns) all_written) _ _ (λ e. first_own ns (ltb-true _ _ e))
+    (λ e. by_if P (not (is_moment m)) _ _ (λ e. inl refl) (λ e. by_if P (ltb room (length text)) _ _ (λ e. inl refl) (λ e. tt)))
 
 module _ (set : Settings) (t : List ℕ) (m : Moment) (room : ℕ) where
-  to-own : WrittenNames (NoneOrIn (nodes_of t)) (written_to set t m room)
+  to_own : WrittenNames (NoneOrIn (nodes_of t)) (written_to set t m room)
   unfolding written_to unwritten_report
-  to-own =
+  to_own =
       let P = WrittenNames (NoneOrIn (nodes_of t)) in
-      by-if P (ltb (template_limit set) (length t)) _ _ (λ e. inl refl)
-      (λ e. by-if P (not (well_formed t)) _ _ (λ e. inl refl) (λ e. by-own (nodes_of t) m (text_of t m) room))
+      by_if P (ltb (template_limit set) (length t)) _ _ (λ e. inl refl)
+      (λ e. by_if P (not (well_formed t)) _ _ (λ e. inl refl) (λ e. by_own (nodes_of t) m (text_of t m) room))
 
-  in-own : (c : List ℕ) → WrittenNames (NoneOrIn (nodes_in c)) (written_in set c t m room)
+  in_own : (c : List ℕ) → WrittenNames (NoneOrIn (nodes_in c)) (written_in set c t m room)
   unfolding written_in unwritten_report
-  in-own c =
-      by-if (WrittenNames (NoneOrIn (nodes_in c))) (ltb (nodes_limit set) (length c)) _ _ (λ e. inl refl)
-      (λ e. by-own (nodes_in c) m (text_in c t m) room)
+  in_own c =
+      by_if (WrittenNames (NoneOrIn (nodes_in c))) (ltb (nodes_limit set) (length c)) _ _ (λ e. inl refl)
+      (λ e. by_own (nodes_in c) m (text_in c t m) room)
 
-  pub written-own : {why : Unwritten} → written_to set t m room ≡ Refused why → NoneOrIn (nodes_of t) (unwritten_report why).pattern
-  written-own e = subst (WrittenNames (NoneOrIn (nodes_of t))) e to-own
+  pub written_own : {why : Unwritten} → written_to set t m room ≡ Refused why → NoneOrIn (nodes_of t) (unwritten_report why).pattern
+  written_own e = subst (WrittenNames (NoneOrIn (nodes_of t))) e to_own
 
-  pub written-in-own : (c : List ℕ) {why : Unwritten} → written_in set c t m room ≡ Refused why → NoneOrIn (nodes_in c) (unwritten_report why).pattern
-  written-in-own c e = subst (WrittenNames (NoneOrIn (nodes_in c))) e (in-own c)
+  pub written_in_own : (c : List ℕ) {why : Unwritten} → written_in set c t m room ≡ Refused why → NoneOrIn (nodes_in c) (unwritten_report why).pattern
+  written_in_own c e = subst (WrittenNames (NoneOrIn (nodes_in c))) e (in_own c)

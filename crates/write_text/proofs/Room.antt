@@ -1,5 +1,5 @@
 -- What is written is the text, and has room. Assumes nothing.
--- `to-measured`, `in-measured`: where a length is answered, by a template or by nodes, it is the text's, and the buffer
+-- `to_measured`, `in_measured`: where a length is answered, by a template or by nodes, it is the text's, and the buffer
 -- is no shorter.
 use mathlib.Core.Path.{◌≡◌, sym}
 use mathlib.Core.Bool.{not}
@@ -9,7 +9,7 @@ use native.Mathlib.Omega.{arith}
 use borrow.Author.Tests.{ltb-false}
 use lib.Dec.{ltb}
 use lib.ListN.{length}
-use Rattle.base_notation.proofs.Cases.{by-if}
+use Rattle.base_notation.proofs.Cases.{by_if}
 use Rattle.base_settings.specs.Limits.{template_limit}
 use Rattle.base_settings.specs.declared.Settings.{Settings}
 use Rattle.base_chars.specs.Utf8.{well_formed}
@@ -32,23 +32,23 @@ module _ (room : ℕ) where
   refused : (text : List ℕ) (why : Unwritten) → Measured room text (Refused why)
   refused text why n e = let clash : ◌≡◌ {A = ℕ} 0 1 = cc in absurd (omega arith)
 
-  by-measured : (u : ℕ) (m : Moment) (text : List ℕ) → Measured room text (written_by u m text room)
-  by-measured u m text =
+  by_measured : (u : ℕ) (m : Moment) (text : List ℕ) → Measured room text (written_by u m text room)
+  by_measured u m text =
       let M = Measured room text in
-      by-if M (ltb u all_written) _ _ (λ e. refused text _)
-      (λ e. by-if M (not (is_moment m)) _ _ (λ e. refused text _)
-      (λ e. by-if M (ltb room (length text)) _ _ (λ e. refused text _)
+      by_if M (ltb u all_written) _ _ (λ e. refused text _)
+      (λ e. by_if M (not (is_moment m)) _ _ (λ e. refused text _)
+      (λ e. by_if M (ltb room (length text)) _ _ (λ e. refused text _)
       (λ e n q. let same : length text ≡ n = cc in (sym same, omega (arith, ltb-false room (length text) e)))))
 
-  pub to-measured : (set : Settings) (t : List ℕ) (m : Moment) → Measured room (text_of t m) (written_to set t m room)
+  pub to_measured : (set : Settings) (t : List ℕ) (m : Moment) → Measured room (text_of t m) (written_to set t m room)
   unfolding written_to
-  to-measured set t m =
+  to_measured set t m =
       let text = text_of t m in
-      by-if (Measured room text) (ltb (template_limit set) (length t)) _ _ (λ e. refused text _)
-      (λ e. by-if (Measured room text) (not (well_formed t)) _ _ (λ e. refused text _) (λ e. by-measured (first_unwritten (nodes_of t)) m text))
+      by_if (Measured room text) (ltb (template_limit set) (length t)) _ _ (λ e. refused text _)
+      (λ e. by_if (Measured room text) (not (well_formed t)) _ _ (λ e. refused text _) (λ e. by_measured (first_unwritten (nodes_of t)) m text))
 
-  pub in-measured : (set : Settings) (c t : List ℕ) (m : Moment) → Measured room (text_in c t m) (written_in set c t m room)
+  pub in_measured : (set : Settings) (c t : List ℕ) (m : Moment) → Measured room (text_in c t m) (written_in set c t m room)
   unfolding written_in
-  in-measured set c t m =
+  in_measured set c t m =
       let text = text_in c t m in
-      by-if (Measured room text) (ltb (nodes_limit set) (length c)) _ _ (λ e. refused text _) (λ e. by-measured (first_unwritten (nodes_in c)) m text)
+      by_if (Measured room text) (ltb (nodes_limit set) (length c)) _ _ (λ e. refused text _) (λ e. by_measured (first_unwritten (nodes_in c)) m text)

@@ -5,7 +5,7 @@ use Rattle.base_notation.specs.Text.{utf8}
 use Rattle.base_strtol.specs.Decimal.{decimal}
 use Rattle.template_patterns.specs.Cases.{case_of}
 use Rattle.template_patterns.specs.Patterns.{name_of}
-use Rattle.template_nodes.specs.Examples.{nodes-compute}
+use Rattle.template_nodes.specs.Examples.{nodes_compute}
 use Rattle.template_nodes.specs.Template.{action}
 use Rattle.template_nodes.specs.declared.Node.{Node}
 use Rattle.write_pieces.specs.Moment.{moment}
@@ -33,5 +33,5 @@ pub worked
     : (text_of (utf8 "DD FMMonth YYYY") (moment 2024 5 5 0 0 0 0) ≡ utf8 "05 May 2024")
     × (text_of (utf8 "FMMonthfmmonthFMMONTHMonmonMON") (moment 2024 6 5 0 0 0 0) ≡ utf8 "JunejuneJUNEJunjunJUN")
     × (text_of (utf8 "DDMonYYYYMon\"ch\"") (moment 2024 3 5 0 0 0 0) ≡ utf8 "05Mar2024March")
-unfolding text_of nodes_text node_text piece_of case_of piece_text number_of decimal nodes-compute
+unfolding text_of nodes_text node_text piece_of case_of piece_text number_of decimal nodes_compute
 worked = (refl, refl, refl)

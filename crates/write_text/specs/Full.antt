@@ -6,10 +6,10 @@ use Prim.Native.Char.{code}
 use Rattle.base_notation.specs.Choice.{when◌then◌else◌}
 use Rattle.base_notation.specs.Text.{utf8}
 use Rattle.base_chars.specs.Utf8.{sequence, well_formed, well_formed_after}
-use Rattle.base_settings.specs.Limits.{cards, limits-compute, pages, template_limit}
+use Rattle.base_settings.specs.Limits.{cards, limits_compute, pages, template_limit}
 use Rattle.base_settings.specs.declared.Settings.{Settings}
 use Rattle.template_patterns.specs.Search.{count_from}
-use Rattle.template_nodes.specs.Examples.{nodes-compute}
+use Rattle.template_nodes.specs.Examples.{nodes_compute}
 use Rattle.template_nodes.specs.Template.{action, nodes_of}
 use Rattle.template_nodes.specs.declared.Node.{Node}
 use Rattle.write_pieces.specs.Pieces.{year, month, day, year_day, week_year, week, weekday, hour24, hour12, minute, second, day_second, micros, marker, dotted_marker, month_name, short_month, piece_of}
@@ -68,7 +68,7 @@ is_full set t = leb (length t) (template_limit set) && (well_formed t && (eqb (f
 pub worked
     : (is_full pages (utf8 "YYYY-MM-DD\"T\"HH24:MI:SS.US") ≡ true) × (is_full pages (utf8 "YYYY-MM-DD HH24:MI:SS") ≡ false)
     × (is_full pages (utf8 "US SSSSS \"ngày IW\" FM,IW ID IYYY") ≡ true) × (is_full pages (utf8 "FMYYYY-DDD SSSSS US") ≡ false)
-unfolding is_full limits-compute are_full times pieces first_unwritten piece_of nodes-compute well_formed_after sequence
+unfolding is_full limits_compute are_full times pieces first_unwritten piece_of nodes_compute well_formed_after sequence
 worked = (refl, refl, refl, refl)
 
 -- so is one with the name of the month, full with FM or short; not with both, nor with a name and MM
@@ -76,7 +76,7 @@ pub names
     : (is_full pages (utf8 "DD FMMonth YYYY SSSSS US") ≡ true) × (is_full pages (utf8 "DDmonYYYY SSSSSUS") ≡ true)
     × (is_full pages (utf8 "DD Month YYYY SSSSS US") ≡ false) × (is_full pages (utf8 "DD Mon FMMONTH YYYY SSSSS US") ≡ false)
     × (is_full pages (utf8 "DD Mon MM YYYY SSSSS US") ≡ false)
-unfolding is_full limits-compute are_full times pieces first_unwritten piece_of nodes-compute well_formed_after sequence
+unfolding is_full limits_compute are_full times pieces first_unwritten piece_of nodes_compute well_formed_after sequence
 names = (refl, refl, refl, refl, refl)
 
 -- the limit is the caller's own: 64 bytes are full for both callers, 65 for the exercise pages alone
@@ -86,5 +86,5 @@ dashes n = replicate n (code "-") ++ utf8 "YYYYDDDSSSSSUS"
 pub limited
     : (is_full pages (dashes 50) ≡ true) × (is_full cards (dashes 50) ≡ true)
     × (is_full pages (dashes 51) ≡ true) × (is_full cards (dashes 51) ≡ false)
-unfolding is_full limits-compute are_full times pieces first_unwritten piece_of nodes-compute well_formed_after sequence
+unfolding is_full limits_compute are_full times pieces first_unwritten piece_of nodes_compute well_formed_after sequence
 limited = (refl, refl, refl, refl)

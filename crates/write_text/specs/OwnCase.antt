@@ -6,7 +6,7 @@ use Rattle.base_notation.specs.Text.{utf8}
 use Rattle.base_strtol.specs.Decimal.{decimal}
 use Rattle.template_patterns.specs.Cases.{case_of}
 use Rattle.template_patterns.specs.Patterns.{name_of}
-use Rattle.template_nodes.specs.Examples.{nodes-compute}
+use Rattle.template_nodes.specs.Examples.{nodes_compute}
 use Rattle.template_nodes.specs.Template.{action}
 use Rattle.template_nodes.specs.declared.Node.{Node}
 use Rattle.write_pieces.specs.Moment.{moment}
@@ -32,5 +32,5 @@ pub worked
     : (text_of (utf8 "HH12:MI am") (moment 2024 5 5 21 5 0 0) ≡ utf8 "09:05 pm")
     × (text_of (utf8 "AM PM A.M. P.M. am pm a.m. p.m.") (moment 2024 5 5 11 59 59 0) ≡ utf8 "AM AM A.M. A.M. am am a.m. a.m.")
     × (text_of (utf8 "AM PM A.M. P.M. am pm a.m. p.m.") (moment 2024 5 5 12 0 0 0) ≡ utf8 "PM PM P.M. P.M. pm pm p.m. p.m.")
-unfolding text_of nodes_text node_text piece_of case_of piece_text number_of decimal nodes-compute
+unfolding text_of nodes_text node_text piece_of case_of piece_text number_of decimal nodes_compute
 worked = (refl, refl, refl)

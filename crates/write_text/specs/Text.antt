@@ -4,7 +4,7 @@ use Rattle.std.specs.Prelude.{◌≡◌, refl, List, [], ◌∷◌, ◌++◌, �
 use Rattle.base_notation.specs.Choice.{when◌then◌else◌}
 use Rattle.base_notation.specs.Text.{utf8}
 use Rattle.base_strtol.specs.Decimal.{decimal}
-use Rattle.template_nodes.specs.Examples.{nodes-compute}
+use Rattle.template_nodes.specs.Examples.{nodes_compute}
 use Rattle.template_nodes.specs.Template.{action, character, literal, nodes_of, pattern}
 use Rattle.template_nodes.specs.declared.Node.{Node}
 use Rattle.template_patterns.specs.Cases.{case_of}
@@ -31,7 +31,7 @@ text_of t m = nodes_text t m (nodes_of t)
 
 -- a Vietnamese date
 pub worked : text_of (utf8 "\"ngày \"DD\" tháng \"MM\" năm \"YYYY") (moment 2024 2 29 0 0 0 0) ≡ utf8 "ngày 29 tháng 02 năm 2024"
-unfolding text_of nodes_text node_text piece_of piece_text number_of decimal nodes-compute
+unfolding text_of nodes_text node_text piece_of piece_text number_of decimal nodes_compute
 worked = refl
 
 -- YYYY, a literal of two bytes, and one that the template cuts off after the first

@@ -2,7 +2,7 @@
 use mathlib.Core.Path.{◌≡◌, sym}
 use Prim.Native.Nat.{◌<◌}
 use borrow.Author.Rules.{rules}
-use Rattle.base_accents.proofs.Measures.{ascii-one, counted}
+use Rattle.base_accents.proofs.Measures.{ascii_one, counted}
 use Rattle.base_accents.proofs.measure_usual.Statement.{statement}
 use Rattle.base_accents.proofs.measure_usual.Tie as tie
 
@@ -11,7 +11,7 @@ returns c =
     let after_next = c.before in
     let ascii = after_next.before in
     let within = ascii.before.before in
-    counted _ _ _ _ (sym (ascii-one _ _ _ within.if-at-s.true ascii.if-s-at-lt128.true (rw after_next.byte_at.ensures at c.if-byte_at-lt-FIRST_LOW.true)))
+    counted _ _ _ _ (sym (ascii_one _ _ _ within.if-at-s.true ascii.if-s-at-lt128.true (rw after_next.byte_at.ensures at c.if-byte_at-lt-FIRST_LOW.true)))
 
 pub measure_usual_spec : {M : Type 1} → statement M
 measure_usual_spec =

@@ -5,7 +5,7 @@ use native.Mathlib.Omega.{arith}
 use borrow.Author.Rules.{rules}
 use lib.ListN.{length, drop}
 use Rattle.base_accents.specs.Accents.{marks}
-use Rattle.base_accents.proofs.Marks.{mark-there, marks-on, marks-stop, marks-end}
+use Rattle.base_accents.proofs.Marks.{mark_there, marks_on, marks_stop, marks_end}
 use Rattle.base_accents.proofs.past_marks.Statement.{statement}
 use Rattle.base_accents.proofs.past_marks.Tie as tie
 
@@ -18,15 +18,15 @@ decreases-loop s at i₀ i = length s - i
 -- a mark
 loop-again : tie.Need-loop-i-preserved invariant-loop decreases-loop
 loop-again c =
-    let at-loop = c.before.before.before in
-    let s = at-loop.args.s.now in
-    omega (arith, at-loop.loop-i.invariant, marks-on s at-loop.loop-i.i (sym c.is_mark.ensures ∙ c.if-is_mark.true))
+    let at_loop = c.before.before.before in
+    let s = at_loop.args.s.now in
+    omega (arith, at_loop.loop-i.invariant, marks_on s at_loop.loop-i.i (sym c.is_mark.ensures ∙ c.if-is_mark.true))
 
 add-i : tie.Need-overflow_add-i invariant-loop decreases-loop
 add-i c =
-    let at-loop = c.before.before.before in
-    let s = at-loop.args.s.now in
-    omega (arith, mark-there s at-loop.loop-i.i (sym c.is_mark.ensures ∙ c.if-is_mark.true))
+    let at_loop = c.before.before.before in
+    let s = at_loop.args.s.now in
+    omega (arith, mark_there s at_loop.loop-i.i (sym c.is_mark.ensures ∙ c.if-is_mark.true))
 
 loop-less : tie.Need-loop-i-smaller invariant-loop decreases-loop
 loop-less c = omega arith
@@ -34,16 +34,16 @@ loop-less c = omega arith
 -- no mark
 returns : tie.Need-returns-else-is_mark invariant-loop decreases-loop
 returns c =
-    let at-loop = c.before.before.before in
-    let s = at-loop.args.s.now in
-    omega (arith, at-loop.loop-i.invariant, marks-stop s at-loop.loop-i.i (sym c.is_mark.ensures ∙ c.if-is_mark.false))
+    let at_loop = c.before.before.before in
+    let s = at_loop.args.s.now in
+    omega (arith, at_loop.loop-i.invariant, marks_stop s at_loop.loop-i.i (sym c.is_mark.ensures ∙ c.if-is_mark.false))
 
 -- the end of the text
 returns-2 : tie.Need-returns invariant-loop decreases-loop
 returns-2 c =
-    let at-loop = c.before in
-    let s = at-loop.args.s.now in
-    omega (arith, at-loop.loop-i.invariant, marks-end s at-loop.loop-i.i (omega arith))
+    let at_loop = c.before in
+    let s = at_loop.args.s.now in
+    omega (arith, at_loop.loop-i.invariant, marks_end s at_loop.loop-i.i (omega arith))
 
 pub past_marks_spec : {M : Type 1} → statement M
 past_marks_spec =

@@ -10,16 +10,16 @@ use Rattle.base_accents.proofs.whole.Tie as tie
 returns : tie.Need-returns-then-is_letter_at
 unfolding measure_of
 returns c =
-    let at-letter = c.before.before in
+    let at_letter = c.before.before in
     counted _ _ _ _
-    (rw (← at-letter.is_letter_at.ensures, c.if-is_letter_at.true, ← at-letter.pg_mblen-n.ensures.is) (omega (arith, c.past_marks.ensures)))
+    (rw (← at_letter.is_letter_at.ensures, c.if-is_letter_at.true, ← at_letter.pg_mblen-n.ensures.is) (omega (arith, c.past_marks.ensures)))
 
 -- anything else
 returns-2 : tie.Need-returns
 unfolding measure_of
 returns-2 c =
-    let at-letter = c.before in
-    counted _ _ _ _ (rw (← at-letter.is_letter_at.ensures, c.if-is_letter_at.false) at-letter.pg_mblen-n.ensures.is)
+    let at_letter = c.before in
+    counted _ _ _ _ (rw (← at_letter.is_letter_at.ensures, c.if-is_letter_at.false) at_letter.pg_mblen-n.ensures.is)
 
 pub whole_spec : {M : Type 1} → statement M
 whole_spec =

@@ -7,7 +7,7 @@ use borrow.Author.Rules.{rules}
 use lib.Count.{trailing_of_zero}
 use lib.ListN.{length}
 use Rattle.base_chars.specs.Utf8.{Passed}
-use Rattle.base_chars.proofs.HighBits.{word-passed, onward}
+use Rattle.base_chars.proofs.HighBits.{word_passed, onward}
 use Rattle.base_chars.proofs.after_ascii.Statement.{statement}
 use Rattle.base_chars.proofs.after_ascii.Tie as tie
 
@@ -20,17 +20,17 @@ decreases-loop s at i₀ i = length s - i
 -- the bytes below the lowest high bit
 returns-2 : tie.Need-returns-then-high-ne0 invariant-loop decreases-loop
 returns-2 c =
-    let at-loop = c.before.before.before.before in
-    let s = at-loop.args.s.now in
-    onward at-loop.loop-i.invariant.1 (word-passed s at-loop.loop-i.i _ _ c.high_bits-high.ensures c.zero_bytes.ensures.0)
+    let at_loop = c.before.before.before.before in
+    let s = at_loop.args.s.now in
+    onward at_loop.loop-i.invariant.1 (word_passed s at_loop.loop-i.i _ _ c.high_bits-high.ensures c.zero_bytes.ensures.0)
 
 -- eight bytes of ASCII
 loop-again : tie.Need-loop-i-preserved invariant-loop decreases-loop
 loop-again c =
-    let at-loop = c.before.before.before in
-    let s = at-loop.args.s.now in
+    let at_loop = c.before.before.before in
+    let s = at_loop.args.s.now in
     let none = sym c.if-high-ne0.false ∙ c.high_bits-high.ensures in
-    (omega arith, onward at-loop.loop-i.invariant.1 (word-passed s at-loop.loop-i.i 0 8 none (rw trailing_of_zero)))
+    (omega arith, onward at_loop.loop-i.invariant.1 (word_passed s at_loop.loop-i.i 0 8 none (rw trailing_of_zero)))
 
 pub after_ascii_spec : {M : Type 1} → statement M
 after_ascii_spec =

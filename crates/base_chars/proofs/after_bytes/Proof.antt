@@ -8,7 +8,7 @@ use lib.Dec.{lit<}
 use lib.ListN.{length}
 use Rattle.base_chars.specs.Utf8.{Passed}
 use Rattle.base_chars.proofs.Sequences.{at_row}
-use Rattle.base_chars.proofs.WellFormed.{past-sequence-at}
+use Rattle.base_chars.proofs.WellFormed.{past_sequence_at}
 use Rattle.base_chars.proofs.after_bytes.Statement.{statement}
 use Rattle.base_chars.proofs.after_bytes.Tie as tie
 
@@ -21,11 +21,11 @@ decreases-loop s at i₀ i = length s - i
 -- a byte of ASCII is passed
 loop-again : tie.Need-loop-i-preserved invariant-loop decreases-loop
 loop-again c =
-    let at-loop = c.before.before.before in
-    let s = at-loop.args.s.now in
-    let i = at-loop.loop-i.i in
+    let at_loop = c.before.before.before in
+    let s = at_loop.args.s.now in
+    let i = at_loop.loop-i.i in
     let one_byte = at_row s i (search rules) 0 (lit< tt) (omega arith) (omega arith) in
-    record { forward = omega arith; same = past-sequence-at s i 1 one_byte ∙ at-loop.loop-i.invariant.same }
+    record { forward = omega arith; same = past_sequence_at s i 1 one_byte ∙ at_loop.loop-i.invariant.same }
 
 pub after_bytes_spec : {M : Type 1} → statement M
 after_bytes_spec =

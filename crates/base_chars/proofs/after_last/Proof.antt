@@ -2,7 +2,7 @@
 -- The last eight bytes are tested together, or each byte of a short text.
 use native.Mathlib.Omega.{arith}
 use borrow.Author.Rules.{rules}
-use Rattle.base_chars.proofs.HighBits.{last-high, word-passed}
+use Rattle.base_chars.proofs.HighBits.{last_high, word_passed}
 use Rattle.base_chars.proofs.after_last.Statement.{statement}
 use Rattle.base_chars.proofs.after_last.Tie as tie
 
@@ -14,8 +14,8 @@ add-result c = let start = c.before.before.before.before.before in omega (arith,
 returns-3 : tie.Need-returns
 returns-3 c =
     let args = c.args in
-    let same = last-high args.s.now args.at (search rules) (omega arith) (omega arith) in
-    word-passed args.s.now args.at _ _ (rw c.high_bits.ensures same) c.zero_bytes.ensures.0
+    let same = last_high args.s.now args.at (search rules) (omega arith) (omega arith) in
+    word_passed args.s.now args.at _ _ (rw c.high_bits.ensures same) c.zero_bytes.ensures.0
 
 pub after_last_spec : {M : Type 1} → statement M
 after_last_spec =

@@ -1,7 +1,7 @@
 -- `base_chars::high_bits` meets its contract: the mask leaves the high bit of each byte. Assumes nothing.
 use native.Mathlib.Omega.{arith}
 use borrow.Author.Rules.{rules}
-use Rattle.base_chars.proofs.HighBits.{eight-high}
+use Rattle.base_chars.proofs.HighBits.{eight_high}
 use Rattle.base_chars.proofs.high_bits.Statement.{statement}
 use Rattle.base_chars.proofs.high_bits.Tie as tie
 
@@ -16,7 +16,7 @@ returns c =
     let one = two.before.before in
     let entry = one.before.before in
     let args = entry.args in
-    eight-high
+    eight_high
     args.s.now
     args.at
     (search rules)

@@ -2,30 +2,30 @@
 use native.Mathlib.Omega.{arith}
 use borrow.Author.Rules.{rules}
 use Rattle.base_chars.specs.Range.{◌‥◌}
-use Rattle.base_chars.proofs.Classes.{separator-test}
+use Rattle.base_chars.proofs.Classes.{separator_test}
 use Rattle.base_chars.proofs.Ranges.{inside, below, above}
 use Rattle.base_chars.proofs.is_separator_char.Statement.{statement}
 use Rattle.base_chars.proofs.is_separator_char.Tie as tie
 
 -- a blank, or below it
 returns : tie.Need-returns-then-b-le32
-returns c = rw (separator-test, below (33 ‥ 126) c.args.b (omega arith))
+returns c = rw (separator_test, below (33 ‥ 126) c.args.b (omega arith))
 
 -- from 0x7f on
 returns-2 : tie.Need-returns-then-b-ge127
-returns-2 c = rw (separator-test, above (33 ‥ 126) c.args.b (omega arith))
+returns-2 c = rw (separator_test, above (33 ‥ 126) c.args.b (omega arith))
 
 -- printable, and no letter
 returns-3 : tie.Need-returns-then-not-is_alpha_c
 returns-3 c =
     let b = c.args.b in
-    let no-letter = c.before in
+    let no_letter_lem = c.before in
     rw (
-      separator-test,
+      separator_test,
       inside (33 ‥ 126) b (omega arith) (omega arith),
-      ← no-letter.is_alpha_c.ensures,
+      ← no_letter_lem.is_alpha_c.ensures,
       ← c.is_digit_c.ensures,
-      no-letter.if-not-is_alpha_c.true,
+      no_letter_lem.if-not-is_alpha_c.true,
     )
 
 -- a letter
@@ -33,7 +33,7 @@ returns-4 : tie.Need-returns-else-not-is_alpha_c
 returns-4 c =
     let b = c.args.b in
     rw (
-      separator-test,
+      separator_test,
       inside (33 ‥ 126) b (omega arith) (omega arith),
       ← c.is_alpha_c.ensures,
       c.if-not-is_alpha_c.false,

@@ -8,8 +8,8 @@ use borrow.Author.Rules.{rules}
 use lib.ListN.{length, drop, length-drop}
 use Rattle.base_chars.specs.Utf8.{Passed}
 use Rattle.base_chars.proofs.HighBits.{onward}
-use Rattle.base_chars.proofs.Sequences.{sequence-within}
-use Rattle.base_chars.proofs.WellFormed.{past-sequence-at, no-sequence-at, end-of-text}
+use Rattle.base_chars.proofs.Sequences.{sequence_within}
+use Rattle.base_chars.proofs.WellFormed.{past_sequence_at, no_sequence_at, end_of_text}
 use Rattle.base_chars.proofs.is_utf8.Statement.{statement}
 use Rattle.base_chars.proofs.is_utf8.Tie as tie
 
@@ -28,14 +28,14 @@ whole c = onward c.loop-i.invariant.1 c.after_ascii-next.ensures
 
 -- the end of the text
 returns : tie.Need-returns-then-s-next invariant-loop decreases-loop
-returns c = sym (end-of-text (text c.before) c.after_ascii-next.result (search rules)) ∙ (whole c.before).same
+returns c = sym (end_of_text (text c.before) c.after_ascii-next.result (search rules)) ∙ (whole c.before).same
 
 -- no sequence begins here
 returns-2 : tie.Need-returns-then-n-eq0 invariant-loop decreases-loop
 returns-2 c =
     let passed = c.before.before.before in
     let none = sym c.if-n-eq0.true ∙ c.sequence_at-n.ensures in
-    sym (no-sequence-at (text passed) passed.after_ascii-next.result (search rules) none) ∙ (whole passed).same
+    sym (no_sequence_at (text passed) passed.after_ascii-next.result (search rules) none) ∙ (whole passed).same
 
 -- a sequence lies within what is left
 room : (c : tie.Else-n-eq0 invariant-loop decreases-loop)
@@ -44,13 +44,13 @@ room : (c : tie.Else-n-eq0 invariant-loop decreases-loop)
 room c =
     let passed = c.before.before.before in
     let next = passed.after_ascii-next.result in
-    omega (arith, sequence-within (drop next (text passed)), length-drop next (text passed), c.sequence_at-n.ensures)
+    omega (arith, sequence_within (drop next (text passed)), length-drop next (text passed), c.sequence_at-n.ensures)
 
 -- a sequence is passed
 loop-again : tie.Need-loop-i-preserved invariant-loop decreases-loop
 loop-again c =
     let passed = c.before.before.before in
-    let after = past-sequence-at (text passed) passed.after_ascii-next.result _ c.sequence_at-n.ensures in
+    let after = past_sequence_at (text passed) passed.after_ascii-next.result _ c.sequence_at-n.ensures in
     (omega (arith, room c), record { forward = omega arith; same = after ∙ (whole passed).same })
 
 pub is_utf8_spec : {M : Type 1} → statement M

@@ -2,7 +2,7 @@
 use native.Mathlib.Omega.{arith}
 use borrow.Author.Rules.{rules}
 use Rattle.base_chars.specs.Character.{char_length}
-use Rattle.base_chars.proofs.Characters.{lead-one, measured}
+use Rattle.base_chars.proofs.Characters.{lead_one, measured}
 use Rattle.base_chars.proofs.pg_mblen.Statement.{statement}
 use Rattle.base_chars.proofs.pg_mblen.Tie as tie
 
@@ -14,7 +14,7 @@ returns c = measured _ _ _ (omega arith)
 -- one byte
 returns-2 : tie.Need-returns-then-b-lt192
 unfolding char_length
-returns-2 c = measured _ _ _ (omega (arith, lead-one _ c.if-b-lt192.true, c.if-s-i.false))
+returns-2 c = measured _ _ _ (omega (arith, lead_one _ c.if-b-lt192.true, c.if-s-i.false))
 
 -- the character is within the text
 returns-3 : tie.Need-returns-then-n-left

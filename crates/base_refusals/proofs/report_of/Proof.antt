@@ -8,17 +8,17 @@ use Rattle.base_refusals.proofs.report_of.Statement.{statement}
 use Rattle.base_refusals.proofs.report_of.Tie as tie
 
 -- the hour is an i32
-hour-is : (c : tie.In-HourOfTwelve) → SFits w32 c.in-HourOfTwelve.hour
-hour-is c = search rules
+hour_is : (c : tie.In-HourOfTwelve) → SFits w32 c.in-HourOfTwelve.hour
+hour_is c = search rules
 
 -- so it is also an i64
-hour-fits : tie.Need-overflow_cast-result
-hour-fits c = simp (to_z-of_z (hour-is c)) (sfits_widen tt (hour-is c))
+hour_fits : tie.Need-overflow_cast-result
+hour_fits c = simp (to_z-of_z (hour_is c)) (sfits_widen tt (hour_is c))
 
 -- an hour outside 1 to 12: the figure is the hour
 hour : tie.Need-returns-in-HourOfTwelve
 unfolding report_of
-hour c = simp (to_z-of_z (hour-is c), to_z-of_z (sfits_widen {w = w32} {w' = w64} tt (hour-is c))) (rw c.in-HourOfTwelve.is)
+hour c = simp (to_z-of_z (hour_is c), to_z-of_z (sfits_widen {w = w32} {w' = w64} tt (hour_is c))) (rw c.in-HourOfTwelve.is)
 
 pub report_of_spec : {M : Type 1} → statement M
 unfolding report_of
@@ -51,7 +51,7 @@ report_of_spec =
     (λ c. search rules)
     (λ c κs. search rules)
     (λ c. search rules)
-    hour-fits
+    hour_fits
     (λ c. search rules)
     (λ c κs. search rules)
     (λ c. search rules)

@@ -9,20 +9,20 @@ use Rattle.base_strtol.proofs.c_strtol.Tie as tie
 
 -- what the four calls have read
 pieces : (c : tie.After-digits_at-run)
-    → let after-sign = c.before in
-    let after_minus = after-sign.before in
-    let after-spaces = after_minus.before in
-    let args = after-spaces.args in
-    Pieces args.s.now args.start after-spaces.past_spaces-at.result after_minus.minus_at-neg.result
-    after-sign.past_sign-first.result c.digits_at-run.result
+    → let after_sign = c.before in
+    let after_minus = after_sign.before in
+    let after_spaces = after_minus.before in
+    let args = after_spaces.args in
+    Pieces args.s.now args.start after_spaces.past_spaces-at.result after_minus.minus_at-neg.result
+    after_sign.past_sign-first.result c.digits_at-run.result
 pieces c =
-    let after-sign = c.before in
-    let after_minus = after-sign.before in
-    let after-spaces = after_minus.before in
+    let after_sign = c.before in
+    let after_minus = after_sign.before in
+    let after_spaces = after_minus.before in
     record {
-      blank = after-spaces.past_spaces-at.ensures;
+      blank = after_spaces.past_spaces-at.ensures;
       sign = after_minus.minus_at-neg.ensures;
-      past = after-sign.past_sign-first.ensures;
+      past = after_sign.past_sign-first.ensures;
       read = c.digits_at-run.ensures;
     }
 

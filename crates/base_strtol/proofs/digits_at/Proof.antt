@@ -10,7 +10,7 @@ use borrow.Author.Tests.{not-true, not-false}
 use lib.ListN.{length}
 use Rattle.base_notation.specs.Text.{byte_at}
 use Rattle.base_chars.specs.Class.{is_digit}
-use Rattle.base_chars.proofs.Classes.{digit-bounds}
+use Rattle.base_chars.proofs.Classes.{digit_bounds}
 use Rattle.base_strtol.proofs.Digits.{Reading, begun, stopped, ended, full, more, limits}
 use Rattle.base_strtol.proofs.digits_at.Statement.{statement}
 use Rattle.base_strtol.proofs.digits_at.Tie as tie
@@ -36,10 +36,10 @@ module _ (here : tie.At-loop-i invariant-loop decreases-loop) where
 
 -- the byte is a digit
 module _ (c : tie.Else-not-is_digit_c invariant-loop decreases-loop) where
-  abbrev at-loop : tie.At-loop-i invariant-loop decreases-loop
-  at-loop = c.before.before.before.before
+  abbrev at_loop : tie.At-loop-i invariant-loop decreases-loop
+  at_loop = c.before.before.before.before
 
-  digit : is_digit (byte at-loop) ≡ true
+  digit : is_digit (byte at_loop) ≡ true
   digit = sym c.is_digit_c.ensures ∙ c.if-not-is_digit_c.false
 
 -- the byte is no digit
@@ -52,14 +52,14 @@ returns c =
 -- the digit takes the number beyond the limit, or further beyond it
 loop-again : tie.Need-loop-i-preserved-then-most-d invariant-loop decreases-loop
 loop-again c =
-    let here = at-loop c.before in
+    let here = at_loop c.before in
     full (most here) (text here) _ _ _ _ here.loop-i.invariant (omega arith)
     (digit c.before) (omega (arith, bounded here)) (omega arith)
 
 -- the digit leaves the number within the limit
 loop-again-2 : tie.Need-loop-i-preserved invariant-loop decreases-loop
 loop-again-2 c =
-    let here = at-loop c.before in
+    let here = at_loop c.before in
     more (most here) (text here) _ _ _ _ here.loop-i.invariant (omega arith)
     (digit c.before) (omega (arith, bounded here)) (omega arith)
 
@@ -80,14 +80,14 @@ digits_at_spec =
     (λ c. omega arith)
     (λ c κs. search rules)
     returns
-    (λ c. omega (arith, digit-bounds (byte (at-loop c)) (digit c)))
-    (λ c. omega (arith, digit-bounds (byte (at-loop c)) (digit c)))
+    (λ c. omega (arith, digit_bounds (byte (at_loop c)) (digit c)))
+    (λ c. omega (arith, digit_bounds (byte (at_loop c)) (digit c)))
     (λ c. omega arith)
-    (λ c. omega (arith, digit-bounds (byte (at-loop c)) (digit c), bounded (at-loop c)))
+    (λ c. omega (arith, digit_bounds (byte (at_loop c)) (digit c), bounded (at_loop c)))
     (λ c. omega arith)
     loop-again
-    (λ c. omega (arith, digit-bounds (byte (at-loop c.before)) (digit c.before), bounded (at-loop c.before)))
-    (λ c. omega (arith, digit-bounds (byte (at-loop c.before)) (digit c.before), bounded (at-loop c.before)))
+    (λ c. omega (arith, digit_bounds (byte (at_loop c.before)) (digit c.before), bounded (at_loop c.before)))
+    (λ c. omega (arith, digit_bounds (byte (at_loop c.before)) (digit c.before), bounded (at_loop c.before)))
     (λ c. omega arith)
     loop-again-2
     returns-2)

@@ -10,10 +10,10 @@ use borrow.Author.Tests.{not-true, not-false}
 use lib.ListN.{length}
 use Rattle.base_notation.specs.Text.{byte_at}
 use Rattle.base_chars.specs.Class.{is_digit}
-use Rattle.base_chars.proofs.Classes.{digit-bounds}
+use Rattle.base_chars.proofs.Classes.{digit_bounds}
 use Rattle.base_strtol.specs.Strtol.{limit}
 use Rattle.base_strtol.proofs.Digits.{Reading, begun, stopped, ended, more}
-use Rattle.base_strtol.proofs.FewDigits.{short-not, short-read}
+use Rattle.base_strtol.proofs.FewDigits.{short_not, short_read}
 use Rattle.base_strtol.proofs.few_digits.Statement.{statement}
 use Rattle.base_strtol.proofs.few_digits.Tie as tie
 
@@ -25,13 +25,13 @@ decreases-loop s at value₀ i₀ value i = length s - i
 
 -- the byte is a digit
 module _ (c : tie.Else-not-is_digit_c invariant-loop decreases-loop) where
-  abbrev at-loop : tie.At-loop-i invariant-loop decreases-loop
-  at-loop = c.before.before.before.before
+  abbrev at_loop : tie.At-loop-i invariant-loop decreases-loop
+  at_loop = c.before.before.before.before
 
   abbrev text : List ℕ
-  text = at-loop.before.before.args.s.now
+  text = at_loop.before.before.args.s.now
 
-  digit : is_digit (byte_at text at-loop.loop-i.i) ≡ true
+  digit : is_digit (byte_at text at_loop.loop-i.i) ≡ true
   digit = sym c.is_digit_c.ensures ∙ c.if-not-is_digit_c.false
 
 -- the byte is no digit
@@ -39,22 +39,22 @@ returns : tie.Need-returns-then-not-is_digit_c invariant-loop decreases-loop
 returns c =
     let here = c.before.before.before.before in
     let no_digit = sym c.is_digit_c.ensures ∙ c.if-not-is_digit_c.true in
-    short-read _ _ (stopped (limit false) _ _ _ _ _ here.loop-i.invariant.1 _ refl (omega arith) no_digit) here.loop-i.invariant.0
+    short_read _ _ (stopped (limit false) _ _ _ _ _ here.loop-i.invariant.1 _ refl (omega arith) no_digit) here.loop-i.invariant.0
 
 -- the digit is added
 loop-again : tie.Need-loop-i-preserved invariant-loop decreases-loop
 loop-again c =
-    let at-digit = c.before in
-    let here = at-loop at-digit in
-    let in_bounds = digit-bounds _ (digit at-digit) in
-    let reading = more (limit false) (text at-digit) _ _ _ _ here.loop-i.invariant.1 (omega arith) (digit at-digit) (omega arith) in
+    let at_digit = c.before in
+    let here = at_loop at_digit in
+    let in_bounds = digit_bounds _ (digit at_digit) in
+    let reading = more (limit false) (text at_digit) _ _ _ _ here.loop-i.invariant.1 (omega arith) (digit at_digit) (omega arith) in
     (omega (arith, in_bounds), reading (omega (arith, in_bounds)))
 
 -- the end of the text
 returns-3 : tie.Need-returns invariant-loop decreases-loop
 returns-3 c =
     let here = c.before in
-    short-read _ _ (ended (limit false) _ _ _ _ _ here.loop-i.invariant.1 _ refl (omega arith)) here.loop-i.invariant.0
+    short_read _ _ (ended (limit false) _ _ _ _ _ here.loop-i.invariant.1 _ refl (omega arith)) here.loop-i.invariant.0
 
 pub few_digits_spec : {M : Type 1} → statement M
 few_digits_spec =
@@ -67,12 +67,12 @@ few_digits_spec =
     (λ c κs. search rules)
     returns
     -- with this digit the number is too large
-    (λ c. short-not _ _ (at-loop c.before).loop-i.invariant.1 (omega arith) (omega arith) (digit c.before))
+    (λ c. short_not _ _ (at_loop c.before).loop-i.invariant.1 (omega arith) (omega arith) (digit c.before))
     (λ c. omega arith)
     (λ c. omega arith)
-    (λ c. omega (arith, digit-bounds _ (digit c.before)))
-    (λ c. omega (arith, digit-bounds _ (digit c.before)))
-    (λ c. omega (arith, digit-bounds _ (digit c.before)))
+    (λ c. omega (arith, digit_bounds _ (digit c.before)))
+    (λ c. omega (arith, digit_bounds _ (digit c.before)))
+    (λ c. omega (arith, digit_bounds _ (digit c.before)))
     (λ c. omega arith)
     loop-again
     returns-3)

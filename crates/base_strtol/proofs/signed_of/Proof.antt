@@ -19,7 +19,7 @@ cast-result c = record { sfits = omega (arith, rw c.if-neg.true at c.requires) }
 -- a minus sign, and not 0
 module _ (c : tie.Else-n-eq0) where
   some : 0 < c.args.n
-  some = let not-0 = c.if-n-eq0.false in omega arith
+  some = let not_0 = c.if-n-eq0.false in omega arith
 
   room : c.args.n ≤ 2 ^ 63
   room = rw c.if-neg.true at c.requires

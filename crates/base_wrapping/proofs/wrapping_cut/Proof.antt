@@ -7,10 +7,10 @@ use Rattle.base_wrapping.proofs.wrapping_cut.Tie as tie
 
 returns : tie.Need-returns
 returns c =
-    let after-bits = c.before in
-    let at-start = after-bits.before in
+    let after_bits = c.before in
+    let at_start = after_bits.before in
     wrapped _ (sfits_of c.signed.type_inv) c.signed.ensures
-    (simp (to_z-of_z at-start.ranges.x) at after-bits.low_bits.ensures)
+    (simp (to_z-of_z at_start.ranges.x) at after_bits.low_bits.ensures)
 
 pub wrapping_cut_spec : {M : Type 1} → statement M
 wrapping_cut_spec = tie.close (tie.spec (λ c κs. search rules) (λ c κs. search rules) returns)

@@ -7,7 +7,7 @@ use mir.Facts.{to_z-of_z}
 use mir.Syntax.{w32, w64}
 use mir.Val.{SFits, to_z, of_z}
 use Rattle.calendar_gregorian.specs.Civil.{day_of_year_ℤ}
-use Rattle.calendar_gregorian.proofs.DaysFrom.{day-of-year-fits}
+use Rattle.calendar_gregorian.proofs.DaysFrom.{day_of_year_fits}
 use Rattle.calendar_gregorian.proofs.Signed.{wide, wide_fits}
 use Rattle.calendar_gregorian.proofs.day_of_year.Statement.{statement}
 use Rattle.calendar_gregorian.proofs.day_of_year.Tie as tie
@@ -30,7 +30,7 @@ sum c =
 
 -- and it fits 64 bits
 fits : (c : tie.After-days_before) → SFits w64 (day_of_year_ℤ c.args.year c.args.month c.args.day)
-fits c = let at-start = c.before.before in day-of-year-fits at-start.args.year at-start.args.month at-start.ranges.day
+fits c = let at_start = c.before.before in day_of_year_fits at_start.args.year at_start.args.month at_start.ranges.day
 
 returns : tie.Need-returns
 returns c = ap (λ (z : ℤ). to_z w64 (of_z w64 z)) (sum c) ∙ to_z-of_z (fits c)

@@ -5,7 +5,7 @@ use Prim.Native.Nat.{◌-◌, ◌≤◌}
 use native.Mathlib.Omega.{arith}
 use borrow.Author.Rules.{rules}
 use mir.Facts.{to_z-of_z}
-use Rattle.calendar_gregorian.proofs.Lengths.{Passed, add_read, days-passed, row_lt}
+use Rattle.calendar_gregorian.proofs.Lengths.{Passed, add_read, days_passed, row_lt}
 use Rattle.calendar_gregorian.proofs.days_before.Statement.{statement}
 use Rattle.calendar_gregorian.proofs.days_before.Tie as tie
 
@@ -26,9 +26,9 @@ loop-again c = (search rules, (add_read _ _ refl c.loop-i.invariant.1 (search ru
 
 returns : tie.Need-returns invariant-loop decreases-loop
 returns c =
-    let at-start = c.before.before.before.before in
-    let months = simp (to_z-of_z at-start.ranges.month) at c.months_before-n.ensures in
-    days-passed at-start.args.month c.loop-i.invariant.1 (omega arith)
+    let at_start = c.before.before.before.before in
+    let months = simp (to_z-of_z at_start.ranges.month) at c.months_before-n.ensures in
+    days_passed at_start.args.month c.loop-i.invariant.1 (omega arith)
 
 pub days_before_spec : {M : Type 1} → statement M
 days_before_spec =

@@ -9,7 +9,7 @@ use mir.Facts.{to_z-of_z}
 use mir.Syntax.{w64}
 use mir.Val.{SFits, to_z, of_z}
 use Rattle.calendar_gregorian.specs.Civil.{days_from_civil}
-use Rattle.calendar_gregorian.proofs.DaysFrom.{since_start, to1970, since-start-le, start_back, less-fits, from_start, days-from-mag}
+use Rattle.calendar_gregorian.proofs.DaysFrom.{since_start, to1970, since_start_le, start_back, less_fits, from_start, days_from_mag}
 use Rattle.calendar_gregorian.proofs.days_from_civil.Statement.{statement}
 use Rattle.calendar_gregorian.proofs.days_from_civil.Tie as tie
 
@@ -27,21 +27,21 @@ days : (c : tie.After-day_of_year) {n : ℕ} → n ≡ to1970
     → to_z w64 (of_z w64 (to_z w64 c.days_before_year.result -ℤ pos n)) +ℤ to_z w64 (of_z w64 c.day_of_year.result)
     ≡ days_from_civil c.args.year c.args.month c.args.day
 days c e =
-    let at-start = c.before.before in
+    let at_start = c.before.before in
     rw (
       less c.before e,
-      to_z-of_z (less-fits at-start.ranges.year),
+      to_z-of_z (less_fits at_start.ranges.year),
       to_z-of_z {z = c.day_of_year.result} (sfits_of c.day_of_year.type_inv),
       c.day_of_year.ensures,
-      to_z-of_z at-start.ranges.year,
-      to_z-of_z at-start.ranges.month,
-      to_z-of_z at-start.ranges.day,
+      to_z-of_z at_start.ranges.year,
+      to_z-of_z at_start.ranges.month,
+      to_z-of_z at_start.ranges.day,
     )
-    (from_start at-start.args.year at-start.args.month at-start.args.day at-start.ranges.year)
+    (from_start at_start.args.year at_start.args.month at_start.args.day at_start.ranges.year)
 
 -- and it fits 64 bits
 fits : (c : tie.After-day_of_year) → SFits w64 (days_from_civil c.args.year c.args.month c.args.day)
-fits c = let at-start = c.before.before in omega (arith, days-from-mag at-start.ranges.year at-start.args.month at-start.ranges.day)
+fits c = let at_start = c.before.before in omega (arith, days_from_mag at_start.ranges.year at_start.args.month at_start.ranges.day)
 
 returns : tie.Need-returns
 returns c = ap (λ (z : ℤ). to_z w64 (of_z w64 z)) (days c refl) ∙ to_z-of_z (fits c)
@@ -51,8 +51,8 @@ days_from_civil_spec =
     tie.close
     (tie.spec
     (λ c κs. search rules)
-    (λ c. omega (arith, start c, since-start-le c.ranges.year))
-    (λ c. subst⁻¹ (SFits w64) (less c refl) (less-fits c.ranges.year))
+    (λ c. omega (arith, start c, since_start_le c.ranges.year))
+    (λ c. subst⁻¹ (SFits w64) (less c refl) (less_fits c.ranges.year))
     (λ c κs. search rules)
     (λ c. subst⁻¹ (SFits w64) (days c refl) (fits c))
     returns)

@@ -32,30 +32,30 @@ add-end c = (add_read _ _ refl c.loop-i.invariant.1 (search rules)).fits
 -- the day is not past the end of month i + 1
 returns : tie.Need-returns-then-day-end invariant-loop decreases-loop
 returns c =
-    let at-loop = c.loop-i in
-    let at-start = c.before.before.before.before.before in
-    let leap = at-start.args.leap in
-    let passed = stops leap _ at-loop.i (search rules) (add_read _ _ refl at-loop.invariant.1 (search rules)).is c.if-day-end.true in
-    to_z_pos w32 {n = at-loop.i + 1} (omega arith)
-    ∙ ap pos (add-one at-loop.i ∙ ap suc (sym passed) ∙ at-loop.invariant.2)
-    ∙ rw (to_z-of_z at-start.ranges.day)
+    let at_loop = c.loop-i in
+    let at_start = c.before.before.before.before.before in
+    let leap = at_start.args.leap in
+    let passed = stops leap _ at_loop.i (search rules) (add_read _ _ refl at_loop.invariant.1 (search rules)).is c.if-day-end.true in
+    to_z_pos w32 {n = at_loop.i + 1} (omega arith)
+    ∙ ap pos (add-one at_loop.i ∙ ap suc (sym passed) ∙ at_loop.invariant.2)
+    ∙ rw (to_z-of_z at_start.ranges.day)
 
 loop-again : tie.Need-loop-i-preserved invariant-loop decreases-loop
 loop-again c =
-    let at-loop = c.loop-i in
+    let at_loop = c.loop-i in
     let leap = c.args.leap in (
       search rules,
-      (add_read _ _ refl at-loop.invariant.1 (search rules)).passed,
-      ap suc (goes_on leap _ at-loop.i (search rules) (add_read _ _ refl at-loop.invariant.1 (search rules)).is c.if-day-end.false) ∙ at-loop.invariant.2,
+      (add_read _ _ refl at_loop.invariant.1 (search rules)).passed,
+      ap suc (goes_on leap _ at_loop.i (search rules) (add_read _ _ refl at_loop.invariant.1 (search rules)).is c.if-day-end.false) ∙ at_loop.invariant.2,
     )
 
 -- the day is past the end of all twelve
 returns-2 : tie.Need-returns invariant-loop decreases-loop
 returns-2 c =
-    let at-loop = c.loop-i in
-    let at-start = c.before.before.before in
-    let all-passed : at-loop.i ≡ 12 = omega arith in
-    ap pos (rw (all-passed, ends at-start.args.leap, to_z-of_z at-start.ranges.day) at at-loop.invariant.2)
+    let at_loop = c.loop-i in
+    let at_start = c.before.before.before in
+    let all_passed : at_loop.i ≡ 12 = omega arith in
+    ap pos (rw (all_passed, ends at_start.args.leap, to_z-of_z at_start.ranges.day) at at_loop.invariant.2)
 
 pub month_of_day_spec : {M : Type 1} → statement M
 month_of_day_spec =

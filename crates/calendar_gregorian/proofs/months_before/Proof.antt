@@ -1,7 +1,7 @@
 -- `calendar_gregorian::months_before` meets its contract: each test of the code decides the minimum of the definition.
 -- Assumes nothing.
 use native.Mathlib.Omega.{arith}
-use Rattle.calendar_gregorian.proofs.Months.{below, above, not-above, from, unsigned}
+use Rattle.calendar_gregorian.proofs.Months.{below, above, not_above, from, unsigned}
 use Rattle.calendar_gregorian.proofs.months_before.Statement.{statement}
 use Rattle.calendar_gregorian.proofs.months_before.Tie as tie
 
@@ -23,8 +23,8 @@ sub-result c = (from c.ranges.month c.if-month-lt1.false).from
 -- one of the twelve: one less than its number
 returns-3 : tie.Need-returns
 returns-3 c =
-    let month-fits = c.ranges.month in
-    omega (arith, from month-fits c.if-month-lt1.false, not-above month-fits c.if-month-gt12.false)
+    let month_fits = c.ranges.month in
+    omega (arith, from month_fits c.if-month-lt1.false, not_above month_fits c.if-month-gt12.false)
 
 pub months_before_spec : {M : Type 1} → statement M
 months_before_spec = tie.close (tie.spec returns returns-2 cast-result sub-result returns-3)

@@ -19,25 +19,25 @@ rem-result c = divides c.ranges.y _ (lit< tt)
 -- a multiple of 4 and not of 100
 returns : tie.Need-returns-then-y-ne0
 returns c =
-    let year-fits = c.ranges.y in
-    let by-four = sym (remainder year-fits _) ∙ eq-eqb _ _ c.if-y-eq0.true in
-    let not-by-hundred = sym (remainder year-fits _) ∙ ne_eqb _ _ c.if-y-ne0.true in
-    rw (remainder year-fits, by-four, not-by-hundred)
+    let year_fits = c.ranges.y in
+    let by_four = sym (remainder year_fits _) ∙ eq-eqb _ _ c.if-y-eq0.true in
+    let not_by_hundred = sym (remainder year_fits _) ∙ ne_eqb _ _ c.if-y-ne0.true in
+    rw (remainder year_fits, by_four, not_by_hundred)
 
 -- a multiple of 4 and of 100: the test for 400 decides
 returns-2 : tie.Need-returns-else-y-ne0
 returns-2 c =
-    let year-fits = c.ranges.y in
-    let by-four = sym (remainder year-fits _) ∙ eq-eqb _ _ c.if-y-eq0.true in
-    let by-hundred = sym (remainder year-fits _) ∙ eq-eqb _ _ c.if-y-ne0.false in
-    rw (remainder year-fits, by-four, by-hundred)
+    let year_fits = c.ranges.y in
+    let by_four = sym (remainder year_fits _) ∙ eq-eqb _ _ c.if-y-eq0.true in
+    let by_hundred = sym (remainder year_fits _) ∙ eq-eqb _ _ c.if-y-ne0.false in
+    rw (remainder year_fits, by_four, by_hundred)
 
 -- no multiple of 4
 returns-3 : tie.Need-returns-else-y-eq0
 returns-3 c =
-    let year-fits = c.ranges.y in
-    let not-by-four = sym (remainder year-fits _) ∙ ne_eqb _ _ c.if-y-eq0.false in
-    rw (remainder year-fits, not-by-four)
+    let year_fits = c.ranges.y in
+    let not_by_four = sym (remainder year_fits _) ∙ ne_eqb _ _ c.if-y-eq0.false in
+    rw (remainder year_fits, not_by_four)
 
 pub pg_is_leap_spec : {M : Type 1} → statement M
 pg_is_leap_spec = tie.close (tie.spec rem-if1 rem-if2 rem-result returns returns-2 returns-3)

@@ -1,6 +1,6 @@
 -- `calendar_julian::counted_from` meets its contract: the code's test is the definition's. Assumes nothing.
 use Rattle.std.proofs.Common.{to_z-of_z, rules}
-use Rattle.base_wrapping.proofs.Fits.{wrap-back, returned}
+use Rattle.base_wrapping.proofs.Fits.{wrap_back, returned}
 use Rattle.calendar_julian.specs.Week.{counted_from}
 use Rattle.calendar_julian.proofs.counted_from.Statement.{statement}
 use Rattle.calendar_julian.proofs.counted_from.Tie as tie
@@ -9,13 +9,13 @@ use Rattle.calendar_julian.proofs.counted_from.Tie as tie
 returns : tie.Need-returns-then-day-week_one
 unfolding counted_from
 returns c =
-    let after-week-one = c.before.before in
-    let args_fit = after-week-one.ranges in
-    let monday = returned after-week-one.week_one.type_inv after-week-one.week_one.ensures in
+    let after_week_one = c.before.before in
+    let args_fit = after_week_one.ranges in
+    let monday = returned after_week_one.week_one.type_inv after_week_one.week_one.ensures in
     simp (
       simp (to_z-of_z args_fit.day, monday, to_z-of_z args_fit.year) at c.if-day-week_one.true,
       c.wrapping_sub.ensures,
-      wrap-back,
+      wrap_back,
       to_z-of_z args_fit.year,
     )
 
@@ -23,9 +23,9 @@ returns c =
 returns-2 : tie.Need-returns-else-day-week_one
 unfolding counted_from
 returns-2 c =
-    let after-week-one = c.before in
-    let args_fit = after-week-one.ranges in
-    let monday = returned after-week-one.week_one.type_inv after-week-one.week_one.ensures in
+    let after_week_one = c.before in
+    let args_fit = after_week_one.ranges in
+    let monday = returned after_week_one.week_one.type_inv after_week_one.week_one.ensures in
     simp (simp (to_z-of_z args_fit.day, monday, to_z-of_z args_fit.year) at c.if-day-week_one.false, to_z-of_z args_fit.year)
 
 pub counted_from_spec : {M : Type 1} → statement M

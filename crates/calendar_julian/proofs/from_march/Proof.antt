@@ -1,7 +1,7 @@
 -- `calendar_julian::from_march` meets its contract: each sum of the code is the definition's and wraps as it does, and
 -- a quotient fits as its dividend does. Assumes nothing.
 use Rattle.std.proofs.Common.{lit<, to_z-of_z, rules}
-use Rattle.base_wrapping.proofs.Fits.{quot_fits, wrap-fits, wrap-back, quot-back}
+use Rattle.base_wrapping.proofs.Fits.{quot_fits, wrap_fits, wrap_back, quot_back}
 use Rattle.calendar_julian.specs.ToDay.{from_march}
 use Rattle.calendar_julian.proofs.from_march.Statement.{statement}
 use Rattle.calendar_julian.proofs.from_march.Tie as tie
@@ -13,49 +13,49 @@ div-century c = (lit< tt, rw (to_z-of_z c.ranges.year) (quot_fits _ 100 c.ranges
 -- a fourth of the years fits
 div-wrapping-add : tie.Need-nonzero_div-year
 div-wrapping-add c =
-    let year-fits = c.ranges.year in
-    (lit< tt, rw (to_z-of_z year-fits) (quot_fits _ 4 year-fits))
+    let year_fits = c.ranges.year in
+    (lit< tt, rw (to_z-of_z year_fits) (quot_fits _ 4 year_fits))
 
 -- a fourth of the centuries fits
 div-wrapping-add-2 : tie.Need-nonzero_div-century-2
 div-wrapping-add-2 c =
-    let year-fits = c.ranges.year in
-    let century-fits = quot_fits _ 100 year-fits in
-    (lit< tt, simp (to_z-of_z year-fits, to_z-of_z century-fits) (quot_fits _ 4 century-fits))
+    let year_fits = c.ranges.year in
+    let century_fits = quot_fits _ 100 year_fits in
+    (lit< tt, simp (to_z-of_z year_fits, to_z-of_z century_fits) (quot_fits _ 4 century_fits))
 
 -- the days of the months fit
 div-wrapping-add-3 : tie.Need-nonzero_div-wrapping_mul
-div-wrapping-add-3 c = (lit< tt, simp (c.wrapping_mul-2.ensures, wrap-back) (quot_fits _ 256 (wrap-fits _)))
+div-wrapping-add-3 c = (lit< tt, simp (c.wrapping_mul-2.ensures, wrap_back) (quot_fits _ 256 (wrap_fits _)))
 
 returns : tie.Need-returns
 unfolding from_march
 returns c =
-    let after-months = c.before in
-    let after-month-mul = after-months.before in
-    let after-fourth-centuries = after-month-mul.before in
-    let after-centuries = after-fourth-centuries.before in
-    let after-fourths = after-centuries.before in
-    let after-sub = after-fourths.before in
-    let after-year-mul = after-sub.before in
-    let args_fit = after-year-mul.ranges in
-    let century-fits = quot_fits _ 100 args_fit.year in
+    let after_months = c.before in
+    let after_month_mul = after_months.before in
+    let after_fourth_centuries = after_month_mul.before in
+    let after_centuries = after_fourth_centuries.before in
+    let after_fourths = after_centuries.before in
+    let after_sub = after_fourths.before in
+    let after_year_mul = after_sub.before in
+    let args_fit = after_year_mul.ranges in
+    let century_fits = quot_fits _ 100 args_fit.year in
     simp (
       c.wrapping_add-3.ensures,
-      after-months.wrapping_add-2.ensures,
-      after-month-mul.wrapping_mul-2.ensures,
-      after-fourth-centuries.wrapping_add-leap_days.ensures,
-      after-centuries.wrapping_sub.ensures,
-      after-fourths.wrapping_add.ensures,
-      after-sub.wrapping_sub-days.ensures,
-      after-year-mul.wrapping_mul.ensures,
-      wrap-back,
-      quot-back,
+      after_months.wrapping_add-2.ensures,
+      after_month_mul.wrapping_mul-2.ensures,
+      after_fourth_centuries.wrapping_add-leap_days.ensures,
+      after_centuries.wrapping_sub.ensures,
+      after_fourths.wrapping_add.ensures,
+      after_sub.wrapping_sub-days.ensures,
+      after_year_mul.wrapping_mul.ensures,
+      wrap_back,
+      quot_back,
       to_z-of_z args_fit.year,
       to_z-of_z args_fit.month,
       to_z-of_z args_fit.day,
-      to_z-of_z century-fits,
+      to_z-of_z century_fits,
       to_z-of_z (quot_fits _ 4 args_fit.year),
-      to_z-of_z (quot_fits _ 4 century-fits),
+      to_z-of_z (quot_fits _ 4 century_fits),
     )
 
 pub from_march_spec : {M : Type 1} → statement M

@@ -1,7 +1,7 @@
 -- `calendar_julian::pg_date2isoweek` meets its contract: each call's result is read as its contract gives it.
 -- Assumes nothing.
 use Rattle.std.proofs.Common.{to_z-of_z, rules}
-use Rattle.base_wrapping.proofs.Fits.{wrap-back, returned}
+use Rattle.base_wrapping.proofs.Fits.{wrap_back, returned}
 use Rattle.calendar_julian.specs.Week.{date2isoweek}
 use Rattle.calendar_julian.proofs.pg_date2isoweek.Statement.{statement}
 use Rattle.calendar_julian.proofs.pg_date2isoweek.Tie as tie
@@ -9,18 +9,18 @@ use Rattle.calendar_julian.proofs.pg_date2isoweek.Tie as tie
 returns : tie.Need-returns
 unfolding date2isoweek
 returns c =
-    let after-week-year = c.before in
-    let after-add = after-week-year.before in
-    let after-counted = after-add.before in
-    let after-date2j = after-counted.before in
-    let args_fit = after-date2j.ranges in
+    let after_week_year = c.before in
+    let after_add = after_week_year.before in
+    let after_counted = after_add.before in
+    let after_date2j = after_counted.before in
+    let args_fit = after_date2j.ranges in
     simp (
       returned c.week_of.type_inv c.week_of.ensures,
-      returned after-week-year.week_year.type_inv after-week-year.week_year.ensures,
-      after-add.wrapping_add.ensures,
-      wrap-back,
-      returned after-counted.counted_from-from.type_inv after-counted.counted_from-from.ensures,
-      returned after-date2j.pg_date2j-dayn.type_inv after-date2j.pg_date2j-dayn.ensures,
+      returned after_week_year.week_year.type_inv after_week_year.week_year.ensures,
+      after_add.wrapping_add.ensures,
+      wrap_back,
+      returned after_counted.counted_from-from.type_inv after_counted.counted_from-from.ensures,
+      returned after_date2j.pg_date2j-dayn.type_inv after_date2j.pg_date2j-dayn.ensures,
       to_z-of_z args_fit.year,
       to_z-of_z args_fit.mon,
       to_z-of_z args_fit.mday,

@@ -2,33 +2,33 @@
 -- the year is below 2 ^ 24 and the day from March, plus 123, below 489. Assumes nothing.
 use Rattle.std.proofs.Common.{◌<◌, ◌∙◌, arith, to_z-of_z, rules}
 use Rattle.calendar_julian.specs.ToDate.{shifted, day_of_four, j2date}
-use Rattle.calendar_julian.proofs.Fields.{march-lt, year-is, year-fits, fields}
+use Rattle.calendar_julian.proofs.Fields.{march_lt, year_is, year_fits, fields}
 use Rattle.calendar_julian.proofs.pg_j2date.Statement.{statement}
 use Rattle.calendar_julian.proofs.pg_j2date.Tie as tie
 
 -- the day from March 1, plus 123
-day-lt : (c : tie.After-day_from_march-day) → c.day_from_march-day.result < 489
-day-lt c = rw c.day_from_march-day.ensures (march-lt (day_of_four c.with_skipped-days.result))
+day_lt : (c : tie.After-day_from_march-day) → c.day_from_march-day.result < 489
+day_lt c = rw c.day_from_march-day.ensures (march_lt (day_of_four c.with_skipped-days.result))
 
 -- the year less 4800 fits
 sub-t12 : tie.Need-overflow_sub-result
 sub-t12 c =
     let n = c.with_skipped-days.result in
-    rw (year-is n (omega arith)) (year-fits n (omega arith))
+    rw (year_is n (omega arith)) (year_fits n (omega arith))
 
 returns : tie.Need-returns
 unfolding j2date shifted
 returns c =
-    let after-skipped = c.before in
-    let after-shift = after-skipped.before in
-    let after-bits = after-shift.before in
-    fields after-skipped.with_skipped-days.result (omega arith) c.day_from_march-day.result (day-lt c)
+    let after_skipped = c.before in
+    let after_shift = after_skipped.before in
+    let after_bits = after_shift.before in
+    fields after_skipped.with_skipped-days.result (omega arith) c.day_from_march-day.result (day_lt c)
     ∙ simp (
       c.day_from_march-day.ensures,
-      after-skipped.with_skipped-days.ensures,
-      after-shift.wrapping_add_u32.ensures,
-      after-bits.bits.ensures,
-      to_z-of_z after-bits.ranges.jd,
+      after_skipped.with_skipped-days.ensures,
+      after_shift.wrapping_add_u32.ensures,
+      after_bits.bits.ensures,
+      to_z-of_z after_bits.ranges.jd,
     )
 
 pub pg_j2date_spec : {M : Type 1} → statement M
@@ -44,13 +44,13 @@ pg_j2date_spec =
     (λ c. search rules)
     (λ c. search rules)
     (λ c κs. search rules)
-    (λ c. omega (arith, day-lt c))
+    (λ c. omega (arith, day_lt c))
     (λ c. search rules)
     sub-t12
     (λ c. search rules)
     (λ c. search rules)
     (λ c. search rules)
-    (λ c. omega (arith, day-lt c))
+    (λ c. omega (arith, day_lt c))
     (λ c. search rules)
     (λ c. search rules)
     returns)

@@ -8,28 +8,28 @@ use Rattle.line_answers.proofs.answer_pair.Tie as tie
 returns : tie.Need-returns-in-Parts
 unfolding pair_answer
 returns c =
-    let after-answer = c.before.before in
-    rw after-answer.in-Parts.is after-answer.parts.ensures
+    let after_answer = c.before.before in
+    rw after_answer.in-Parts.is after_answer.parts.ensures
 
 -- the instant
 returns-2 : tie.Need-returns-in-Instant
 unfolding pair_answer
 returns-2 c =
-    let after-answer = c.before.before in
-    rw after-answer.in-Instant.is after-answer.instant.ensures
+    let after_answer = c.before.before in
+    rw after_answer.in-Instant.is after_answer.instant.ensures
 
 -- the day
 returns-3 : tie.Need-returns-in-Date
 unfolding pair_answer
 returns-3 c =
-    let after-answer = c.before.before in
-    rw after-answer.in-Date.is after-answer.day.ensures
+    let after_answer = c.before.before in
+    rw after_answer.in-Date.is after_answer.day.ensures
 
 -- the text
 returns-4 : tie.Need-returns-in-Write
 returns-4 c =
-    let after-answer = c.before.before in
-    rw after-answer.in-Write.is after-answer.text.ensures
+    let after_answer = c.before.before in
+    rw after_answer.in-Write.is after_answer.text.ensures
 
 pub answer_pair_spec : {M : Type 1} → statement M
 answer_pair_spec =

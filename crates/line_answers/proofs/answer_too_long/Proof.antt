@@ -8,8 +8,8 @@ use Rattle.line_answers.proofs.answer_too_long.Tie as tie
 returns : tie.Need-returns
 unfolding too_long_answer
 returns c =
-    let after-put = c.before.before in
-    rw after-put.report_of.ensures at after-put.put_report.ensures
+    let after_put = c.before.before in
+    rw after_put.report_of.ensures at after_put.put_report.ensures
 
 pub answer_too_long_spec : {M : Type 1} → statement M
 answer_too_long_spec =

@@ -8,24 +8,24 @@ use Rattle.line_answers.proofs.answer_whole.Tie as tie
 -- too long
 returns : tie.Need-returns-then-len-gt-LINE
 returns c =
-    let after-answer = c.before.before in
-    rw (too_long _ _ after-answer.if-len-gt-LINE.true) after-answer.answer_too_long.ensures
+    let after_answer = c.before.before in
+    rw (too_long _ _ after_answer.if-len-gt-LINE.true) after_answer.answer_too_long.ensures
 
 -- a TAB
 returns-2 : tie.Need-returns-then-cut-len
 returns-2 c =
-    let after-answer = c.before.before in
-    let at-tab = after-answer.before.before.before.before in
-    let after-find = at-tab.before in
-    rw (cut_at _ _ _ after-find.if-len-gt-LINE.false after-find.find-cut.ensures at-tab.if-cut-len.true) after-answer.answer_pair.ensures
+    let after_answer = c.before.before in
+    let at_tab = after_answer.before.before.before.before in
+    let after_find = at_tab.before in
+    rw (cut_at _ _ _ after_find.if-len-gt-LINE.false after_find.find-cut.ensures at_tab.if-cut-len.true) after_answer.answer_pair.ensures
 
 -- none
 returns-3 : tie.Need-returns
 returns-3 c =
-    let after-answer = c.before.before in
-    let at-end = after-answer.before.before.before in
-    let after-find = at-end.before in
-    rw (uncut _ _ _ after-find.if-len-gt-LINE.false after-find.find-cut.ensures at-end.if-cut-len.false) after-answer.answer_pair-2.ensures
+    let after_answer = c.before.before in
+    let at_end = after_answer.before.before.before in
+    let after_find = at_end.before in
+    rw (uncut _ _ _ after_find.if-len-gt-LINE.false after_find.find-cut.ensures at_end.if-cut-len.false) after_answer.answer_pair-2.ensures
 
 pub answer_whole_spec : {M : Type 1} → statement M
 answer_whole_spec =

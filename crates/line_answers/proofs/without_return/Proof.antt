@@ -20,9 +20,9 @@ empty (b ∷ line) h = absurd (omega arith)
 returns : tie.Need-returns-then-len-eq0
 returns c = empty c.args.line.now c.if-len-eq0.true
 
-left-off : (line : List ℕ) → byte_at line (length line - 1) ≡ 13 → length line - 1 ≡ without_return line
+left_off : (line : List ℕ) → byte_at line (length line - 1) ≡ 13 → length line - 1 ≡ without_return line
 unfolding without_return
-left-off line e = rw (eq-eqb _ _ e)
+left_off line e = rw (eq-eqb _ _ e)
 
 kept : (line : List ℕ) → (byte_at line (length line - 1) ≡ 13 → ⊥) → length line ≡ without_return line
 unfolding without_return
@@ -37,6 +37,6 @@ without_return_spec =
     (λ c. search rules)
     (λ c. search rules)
     -- a carriage return at the end
-    (λ c. left-off c.args.line.now (omega arith))
+    (λ c. left_off c.args.line.now (omega arith))
     -- another byte
     (λ c. kept c.args.line.now (omega arith)))

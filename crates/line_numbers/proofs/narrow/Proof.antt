@@ -9,7 +9,7 @@ use mir.Facts.{to_z-of_z}
 use mir.Syntax.{w32, w64}
 use mir.Val.{SFits, to_z, of_z}
 use Rattle.line_numbers.specs.Numbers.{narrowed}
-use Rattle.line_numbers.proofs.Narrowing.{narrow-fits}
+use Rattle.line_numbers.proofs.Narrowing.{narrow_fits}
 use Rattle.line_numbers.proofs.narrow.Statement.{statement}
 use Rattle.line_numbers.proofs.narrow.Tie as tie
 
@@ -32,7 +32,7 @@ module _ (c : tie.Else-n-ltminus2147483648) where
 
   -- between the two the number fits 32 bits
   fits : lt_z (pos 2147483647) n ≡ false → SFits w32 n
-  fits = narrow-fits n low
+  fits = narrow_fits n low
 
 pub narrow_spec : {M : Type 1} → statement M
 unfolding narrowed
@@ -42,12 +42,12 @@ narrow_spec =
     returns
     -- above them
     (λ c.
-    let not-below = c.before in
-    let above : lt_z (pos 2147483647) (n not-below) ≡ true = rw (← same not-below) (search rules) in
-    rw (low not-below, above))
-    (λ c. let not-below = c.before in rw (same not-below) (fits not-below (rw (← same not-below) (search rules))))
+    let not_below = c.before in
+    let above : lt_z (pos 2147483647) (n not_below) ≡ true = rw (← same not_below) (search rules) in
+    rw (low not_below, above))
+    (λ c. let not_below = c.before in rw (same not_below) (fits not_below (rw (← same not_below) (search rules))))
     -- one of them
     (λ c.
-    let not-below = c.before in
-    let high : lt_z (pos 2147483647) (n not-below) ≡ false = rw (← same not-below) (search rules) in
-    rw (same not-below, to_z-of_z (fits not-below high), low not-below, high)))
+    let not_below = c.before in
+    let high : lt_z (pos 2147483647) (n not_below) ≡ false = rw (← same not_below) (search rules) in
+    rw (same not_below, to_z-of_z (fits not_below high), low not_below, high)))

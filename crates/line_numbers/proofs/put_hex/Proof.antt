@@ -4,8 +4,8 @@ use Prim.Native.Nat.{◌-◌}
 use native.Mathlib.Omega.{arith}
 use borrow.Author.Rules.{rules}
 use lib.ListN.{length}
-use Rattle.line_numbers.proofs.Hex.{Decoded, begun, more, no-high, no-low, ended}
-use Rattle.line_buffers.proofs.Puts.{put-size}
+use Rattle.line_numbers.proofs.Hex.{Decoded, begun, more, no_high, no_low, ended}
+use Rattle.line_buffers.proofs.Puts.{put_size}
 use Rattle.line_numbers.proofs.put_hex.Statement.{statement}
 use Rattle.line_numbers.proofs.put_hex.Tie as tie
 
@@ -18,26 +18,26 @@ decreases-loop text out₀ at next₀ i₀ out next i = length text - i
 -- the first byte of a pair is no digit
 returns : tie.Need-returns-then-high-gt15 invariant-loop decreases-loop
 returns c =
-    let after-high = c.before.before.before in
-    let at-loop = after-high.before.before.before in
-    no-high _ _ _ _ _ _ at-loop.loop-i.invariant (omega arith) (omega (arith, after-high.hex_digit-high.ensures))
+    let after_high = c.before.before.before in
+    let at_loop = after_high.before.before.before in
+    no_high _ _ _ _ _ _ at_loop.loop-i.invariant (omega arith) (omega (arith, after_high.hex_digit-high.ensures))
 
 -- the second is none
 returns-2 : tie.Need-returns-then-low-gt15 invariant-loop decreases-loop
 returns-2 c =
-    let after-low = c.before.before in
-    let at-loop = after-low.before.before.before.before.before in
-    no-low _ _ _ _ _ _ at-loop.loop-i.invariant (omega arith) (omega (arith, after-low.hex_digit-low.ensures))
+    let after_low = c.before.before in
+    let at_loop = after_low.before.before.before.before.before in
+    no_low _ _ _ _ _ _ at_loop.loop-i.invariant (omega arith) (omega (arith, after_low.hex_digit-low.ensures))
 
 loop-again : tie.Need-loop-i-preserved invariant-loop decreases-loop
 loop-again c =
-    let after-put = c.before.before in
-    let after-low = after-put.before.before.before.before in
-    let after-high = after-low.before.before in
-    let at-loop = after-high.before.before.before in
-    let high = after-high.hex_digit-high in
-    let low = after-low.hex_digit-low in
-    more _ _ _ _ _ _ at-loop.loop-i.invariant high.result low.result (omega arith) high.ensures low.ensures (omega arith) (omega arith) _ _ after-put.put_byte-next.ensures
+    let after_put = c.before.before in
+    let after_low = after_put.before.before.before.before in
+    let after_high = after_low.before.before in
+    let at_loop = after_high.before.before.before in
+    let high = after_high.hex_digit-high in
+    let low = after_low.hex_digit-low in
+    more _ _ _ _ _ _ at_loop.loop-i.invariant high.result low.result (omega arith) high.ensures low.ensures (omega arith) (omega arith) _ _ after_put.put_byte-next.ensures
 
 -- no pair is left
 returns-3 : tie.Need-returns invariant-loop decreases-loop
@@ -56,9 +56,9 @@ put_hex_spec =
     (λ c. omega arith)
     (λ c. omega arith)
     (λ c κs. search rules)
-    (λ c. put-size _ _ c.loop-i.invariant.put)
+    (λ c. put_size _ _ c.loop-i.invariant.put)
     returns
-    (λ c. put-size _ _ c.loop-i.invariant.put)
+    (λ c. put_size _ _ c.loop-i.invariant.put)
     returns-2
     (λ c. omega arith)
     (λ c. omega arith)
@@ -66,5 +66,5 @@ put_hex_spec =
     (λ c. omega arith)
     (λ c. omega arith)
     loop-again
-    (λ c. put-size _ _ c.loop-i.invariant.put)
+    (λ c. put_size _ _ c.loop-i.invariant.put)
     returns-3)

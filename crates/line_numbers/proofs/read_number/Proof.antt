@@ -17,8 +17,8 @@ returns c = rw (← c.c_strtol-n.ensures, c.if-n.true)
 returns-2 : tie.Need-returns-then-n-eq0
 unfolding number_of
 returns-2 c =
-    let in-range = c.before.before in
-    rw (← in-range.c_strtol-n.ensures, in-range.if-n.false, c.if-n-eq0.true)
+    let in_range = c.before.before in
+    rw (← in_range.c_strtol-n.ensures, in_range.if-n.false, c.if-n-eq0.true)
 
 -- a number to the item's end
 returns-3 : tie.Need-returns-then-n-text
@@ -26,16 +26,16 @@ unfolding number_of
 returns-3 c =
     let all_read = c.before in
     let some_read = all_read.before.before in
-    let in-range = some_read.before.before in
-    rw (← in-range.c_strtol-n.ensures, in-range.if-n.false, ne_eqb _ _ some_read.if-n-eq0.false, eq-eqb _ _ all_read.if-n-text.true) (search rules)
+    let in_range = some_read.before.before in
+    rw (← in_range.c_strtol-n.ensures, in_range.if-n.false, ne_eqb _ _ some_read.if-n-eq0.false, eq-eqb _ _ all_read.if-n-text.true) (search rules)
 
 -- a number, and bytes after it
 returns-4 : tie.Need-returns
 unfolding number_of
 returns-4 c =
     let some_read = c.before.before in
-    let in-range = some_read.before.before in
-    rw (← in-range.c_strtol-n.ensures, in-range.if-n.false, ne_eqb _ _ some_read.if-n-eq0.false, ne_eqb _ _ c.if-n-text.false)
+    let in_range = some_read.before.before in
+    rw (← in_range.c_strtol-n.ensures, in_range.if-n.false, ne_eqb _ _ some_read.if-n-eq0.false, ne_eqb _ _ c.if-n-text.false)
 
 pub read_number_spec : {M : Type 1} → statement M
 read_number_spec = tie.close (tie.spec (λ c κs. search rules) returns returns-2 returns-3 returns-4)

@@ -7,7 +7,7 @@ use lib.Signed.{lt_z}
 use mir.Facts.{to_z-of_z}
 use mir.Syntax.{w64}
 use mir.Val.{to_z, of_z}
-use Rattle.line_questions.proofs.Places.{placed, below-0}
+use Rattle.line_questions.proofs.Places.{placed, below_0}
 use Rattle.line_questions.proofs.place_of.Statement.{statement}
 use Rattle.line_questions.proofs.place_of.Tie as tie
 
@@ -15,15 +15,15 @@ use Rattle.line_questions.proofs.place_of.Tie as tie
 cast-t5 : tie.Need-overflow_cast-result
 cast-t5 c =
     let fits = c.ranges.n in
-    let n-is = to_z-of_z fits in
-    simp n-is (placed 0 0 c.args.n fits (rw (← n-is) (search rules))).0
+    let n_is = to_z-of_z fits in
+    simp n_is (placed 0 0 c.args.n fits (rw (← n_is) (search rules))).0
 
 -- a place
 returns-2 : tie.Need-returns
 returns-2 c =
     let fits = c.ranges.n in
-    let n-is = to_z-of_z fits in
-    simp n-is (sym (placed _ _ c.args.n fits (rw (← n-is) (search rules))).1)
+    let n_is = to_z-of_z fits in
+    simp n_is (sym (placed _ _ c.args.n fits (rw (← n_is) (search rules))).1)
 
 pub place_of_spec : {M : Type 1} → statement M
 place_of_spec =
@@ -33,8 +33,8 @@ place_of_spec =
     -- below 0
     (λ c.
     let at_test = c.before in
-    let n-is = to_z-of_z at_test.ranges.n in
+    let n_is = to_z-of_z at_test.ranges.n in
     let below : lt_z (to_z w64 (of_z w64 at_test.args.n)) (pos 0) ≡ true = search rules in
-    c.no_place.ensures ∙ sym (below-0 _ _ _ (simp n-is at below)))
+    c.no_place.ensures ∙ sym (below_0 _ _ _ (simp n_is at below)))
     cast-t5
     returns-2)

@@ -2,7 +2,7 @@
 use native.Mathlib.Omega.{arith}
 use borrow.Author.Rules.{rules}
 use Rattle.line_questions.proofs.Same.{same_by}
-use Rattle.line_questions.proofs.Texts.{no_item, no_bytes, no_text, whole-text}
+use Rattle.line_questions.proofs.Texts.{no_item, no_bytes, no_text, whole_text}
 use Rattle.line_questions.proofs.read_bytes.Statement.{statement}
 use Rattle.line_questions.proofs.read_bytes.Tie as tie
 
@@ -14,15 +14,15 @@ returns c = no_item _ _ _ c.if-line-from.true
 returns-2 : tie.Need-returns-then-same
 returns-2 c =
     let after_same = c.before in
-    let after-put = after_same.before.before.before.before in
-    no_bytes _ _ _ _ _ (omega arith) after-put.put_hex-count.ensures (after_same.same.ensures.0 c.if-same.true)
+    let after_put = after_same.before.before.before.before in
+    no_bytes _ _ _ _ _ (omega arith) after_put.put_hex-count.ensures (after_same.same.ensures.0 c.if-same.true)
 
 -- half a byte
 returns-3 : tie.Need-returns-then-item-eq1
 returns-3 c =
     let after_same = c.before.before in
-    let after-put = after_same.before.before.before.before in
-    no_text _ _ _ _ _ (omega arith) after-put.put_hex-count.ensures
+    let after_put = after_same.before.before.before.before in
+    no_text _ _ _ _ _ (omega arith) after_put.put_hex-count.ensures
     (same_by after_same.same.ensures c.if-same.false)
     (λ e. omega arith)
 
@@ -30,8 +30,8 @@ returns-3 c =
 returns-4 : tie.Need-returns-then-count-item
 returns-4 c =
     let after_same = c.before.before.before in
-    let after-put = after_same.before.before.before.before in
-    no_text _ _ _ _ _ (omega arith) after-put.put_hex-count.ensures
+    let after_put = after_same.before.before.before.before in
+    no_text _ _ _ _ _ (omega arith) after_put.put_hex-count.ensures
     (same_by after_same.same.ensures c.if-same.false)
     (λ e. omega arith)
 
@@ -39,8 +39,8 @@ returns-4 c =
 returns-5 : tie.Need-returns
 returns-5 c =
     let after_same = c.before.before.before in
-    let after-put = after_same.before.before.before.before in
-    whole-text _ _ _ _ _ (omega arith) after-put.put_hex-count.ensures
+    let after_put = after_same.before.before.before.before in
+    whole_text _ _ _ _ _ (omega arith) after_put.put_hex-count.ensures
     (same_by after_same.same.ensures c.if-same.false)
     (omega arith)
 

@@ -18,20 +18,20 @@ returns c = c.no_place.ensures ∙ sym (no_place_lem _ _ c.if-line-from.true)
 returns-2 : tie.Need-returns-in-Value
 returns-2 c =
     let at_value = c.before in
-    let after-number = at_value.before in
-    let after-find = after-number.before.before in
-    let number_is = sym after-number.read_number.ensures ∙ at_value.in-Value.is in
+    let after_number = at_value.before in
+    let after_find = after_number.before.before in
+    let number_is = sym after_number.read_number.ensures ∙ at_value.in-Value.is in
     let fits : SFits w64 at_value.in-Value.n = search rules in
-    simp (to_z-of_z fits) at c.place_of.ensures ∙ sym (next_place _ _ _ (omega arith) after-find.find-end.ensures ∙ rw number_is)
+    simp (to_z-of_z fits) at c.place_of.ensures ∙ sym (next_place _ _ _ (omega arith) after_find.find-end.ensures ∙ rw number_is)
 
 -- no number
 returns-3 : tie.Need-returns-in-Malformed
 unfolding place_of
 returns-3 c =
-    let after-number = c.before.before in
-    let after-find = after-number.before.before in
-    let number_is = sym after-number.read_number.ensures ∙ c.in-Malformed.is in
-    c.no_place-in-Malformed.ensures ∙ sym (next_place _ _ _ (omega arith) after-find.find-end.ensures ∙ rw number_is)
+    let after_number = c.before.before in
+    let after_find = after_number.before.before in
+    let number_is = sym after_number.read_number.ensures ∙ c.in-Malformed.is in
+    c.no_place-in-Malformed.ensures ∙ sym (next_place _ _ _ (omega arith) after_find.find-end.ensures ∙ rw number_is)
 
 pub read_place_spec : {M : Type 1} → statement M
 read_place_spec =

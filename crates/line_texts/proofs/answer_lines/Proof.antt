@@ -20,11 +20,11 @@ loop-holds c = begun _ _ _ _ c.find-end.ensures
 
 loop-again : tie.Need-loop-end-preserved invariant-loop decreases-loop
 loop-again c =
-    let after-answer = c.before.before.before in
-    let at-loop = after-answer.before.before.before.before.before.before in
-    let a = at-loop.loop-end.invariant in
+    let after_answer = c.before.before.before in
+    let at_loop = after_answer.before.before.before.before.before.before in
+    let a = at_loop.loop-end.invariant in
     let size_is = size _ _ _ _ a in
-    more _ _ _ _ a (omega arith) (omega arith) after-answer.answer_line-next.ensures c.find-end-in-loop-end.ensures
+    more _ _ _ _ a (omega arith) (omega arith) after_answer.answer_line-next.ensures c.find-end-in-loop-end.ensures
 
 -- no line is left
 returns-2 : tie.Need-returns invariant-loop decreases-loop

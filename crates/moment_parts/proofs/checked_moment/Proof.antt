@@ -19,17 +19,17 @@ dated c = c.before.before.before
 
 -- the test of the time, as the definition has it
 time : (c : tie.After-time_in_range) {b : Bool} → c.time_in_range.result ≡ b
-    → let at-start = (dated c.before.before).before.before.before.before.before in
-    time_in_range at-start.args.hour (minute_of at-start.args.f) (second_of at-start.args.f) at-start.args.micros ≡ b
+    → let at_start = (dated c.before.before).before.before.before.before.before in
+    time_in_range at_start.args.hour (minute_of at_start.args.f) (second_of at_start.args.f) at_start.args.micros ≡ b
 time c e =
-    let after-second = (dated c.before.before).before.before in
-    let after-minute = after-second.before in
-    let at-start = after-minute.before.before in
+    let after_second = (dated c.before.before).before.before in
+    let after_minute = after_second.before in
+    let at_start = after_minute.before.before in
     sym (simp (
-      returned after-second.second_of-second.type_inv after-second.second_of-second.ensures,
-      returned after-minute.minute_of-minute.type_inv after-minute.minute_of-minute.ensures,
-      to_z-of_z at-start.ranges.hour,
-      to_z-of_z at-start.ranges.micros,
+      returned after_second.second_of-second.type_inv after_second.second_of-second.ensures,
+      returned after_minute.minute_of-minute.type_inv after_minute.minute_of-minute.ensures,
+      to_z-of_z at_start.ranges.hour,
+      to_z-of_z at_start.ranges.micros,
     ) at c.time_in_range.ensures)
     ∙ e
 
@@ -41,9 +41,9 @@ date c = sym c.date_in_range.ensures ∙ c.if-not-date_in_range.false
 never : (c : tie.After-no_such_day) {b : Bool} → c.no_such_day.result ≡ b
     → let args = (dated c).args in (args.strict && no_such_day args.r.set args.r.month args.r.day) ≡ b
 never c e =
-    let at-start = (dated c).before.before.before.before.before in
-    let date-fits = fitting at-start.args.r _ at-start.well_formed.1.1.0 in
-    sym (simp (to_z-of_z date-fits.month, to_z-of_z date-fits.day) at c.no_such_day.ensures) ∙ e
+    let at_start = (dated c).before.before.before.before.before in
+    let date_fits = fitting at_start.args.r _ at_start.well_formed.1.1.0 in
+    sym (simp (to_z-of_z date_fits.month, to_z-of_z date_fits.day) at c.no_such_day.ensures) ∙ e
 
 -- the date is out of range
 returns : tie.Need-returns-then-not-date_in_range
@@ -59,10 +59,10 @@ returns-2 c = simp (date (dated c.before), never c.before c.if-no_such_day.true)
 returns-3 : tie.Need-returns-then-not-time_in_range
 unfolding checked_moment
 returns-3 c =
-    let after-strict-test = c.before.before in
+    let after_strict_test = c.before.before in
     simp (
-      date (dated after-strict-test.before),
-      never after-strict-test.before after-strict-test.if-no_such_day.false,
+      date (dated after_strict_test.before),
+      never after_strict_test.before after_strict_test.if-no_such_day.false,
       time c.before c.if-not-time_in_range.true,
     )
 
@@ -71,42 +71,42 @@ returns-4 : tie.Need-returns-in-At
 unfolding checked_moment
 returns-4 c =
     let at_offset = c.before in
-    let after-offset-of = at_offset.before in
-    let after-time-test = after-offset-of.before in
-    let after-strict-test = after-time-test.before.before in
-    let after-date-test = dated after-strict-test.before in
-    let after-second = after-date-test.before.before in
-    let after-minute = after-second.before in
-    let at-start = after-minute.before.before in
-    let date-fits = fitting at-start.args.r _ at-start.well_formed.1.1.0 in
+    let after_offset_of = at_offset.before in
+    let after_time_test = after_offset_of.before in
+    let after_strict_test = after_time_test.before.before in
+    let after_date_test = dated after_strict_test.before in
+    let after_second = after_date_test.before.before in
+    let after_minute = after_second.before in
+    let at_start = after_minute.before.before in
+    let date_fits = fitting at_start.args.r _ at_start.well_formed.1.1.0 in
     simp (
-      date after-date-test,
-      never after-strict-test.before after-strict-test.if-no_such_day.false,
-      time after-time-test.before after-time-test.if-not-time_in_range.false,
-      sym after-offset-of.offset_of.ensures ∙ at_offset.in-At.is,
-      returned after-second.second_of-second.type_inv after-second.second_of-second.ensures,
-      returned after-minute.minute_of-minute.type_inv after-minute.minute_of-minute.ensures,
-      (known at-start.args.f _ at-start.well_formed.1.0).back,
-      to_z-of_z at-start.ranges.hour,
-      to_z-of_z at-start.ranges.micros,
-      to_z-of_z date-fits.year,
-      to_z-of_z date-fits.month,
-      to_z-of_z date-fits.day,
+      date after_date_test,
+      never after_strict_test.before after_strict_test.if-no_such_day.false,
+      time after_time_test.before after_time_test.if-not-time_in_range.false,
+      sym after_offset_of.offset_of.ensures ∙ at_offset.in-At.is,
+      returned after_second.second_of-second.type_inv after_second.second_of-second.ensures,
+      returned after_minute.minute_of-minute.type_inv after_minute.minute_of-minute.ensures,
+      (known at_start.args.f _ at_start.well_formed.1.0).back,
+      to_z-of_z at_start.ranges.hour,
+      to_z-of_z at_start.ranges.micros,
+      to_z-of_z date_fits.year,
+      to_z-of_z date_fits.month,
+      to_z-of_z date_fits.day,
     )
 
 -- the offset is out of range
 returns-5 : tie.Need-returns-in-Refused
 unfolding checked_moment
 returns-5 c =
-    let at-refusal = c in
-    let after-offset-of = at-refusal.before in
-    let after-time-test = after-offset-of.before in
-    let after-strict-test = after-time-test.before.before in
+    let at_refusal = c in
+    let after_offset_of = at_refusal.before in
+    let after_time_test = after_offset_of.before in
+    let after_strict_test = after_time_test.before.before in
     simp (
-      date (dated after-strict-test.before),
-      never after-strict-test.before after-strict-test.if-no_such_day.false,
-      time after-time-test.before after-time-test.if-not-time_in_range.false,
-      sym after-offset-of.offset_of.ensures ∙ at-refusal.in-Refused.is,
+      date (dated after_strict_test.before),
+      never after_strict_test.before after_strict_test.if-no_such_day.false,
+      time after_time_test.before after_time_test.if-not-time_in_range.false,
+      sym after_offset_of.offset_of.ensures ∙ at_refusal.in-Refused.is,
     )
 
 pub checked_moment_spec : {M : Type 1} → statement M

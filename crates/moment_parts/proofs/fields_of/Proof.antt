@@ -8,12 +8,12 @@ use borrow.Author.Rules.{rules}
 use lib.ListN.{length}
 use lib.Seq.{length-take-le}
 use Rattle.base_settings.specs.Limits.{template_limit, input_limit}
-use Rattle.base_settings.proofs.Most.{template-most, input-most}
+use Rattle.base_settings.proofs.Most.{template_most, input_most}
 use Rattle.template_nodes.specs.declared.Node.{Node}
-use Rattle.template_nodes.proofs.Encoding.{parsed-nodes, parsed-room}
-use Rattle.template_nodes.proofs.Nodes.{small-nodes}
+use Rattle.template_nodes.proofs.Encoding.{parsed_nodes, parsed_room}
+use Rattle.template_nodes.proofs.Nodes.{small_nodes}
 use Rattle.moment_parts.specs.Parts.{answer_by}
-use Rattle.moment_parts.proofs.Limits.{long-template, long-input, bad-text, read_by}
+use Rattle.moment_parts.proofs.Limits.{long_template, long_input, bad_text, read_by}
 use Rattle.moment_parts.proofs.fields_of.Statement.{statement}
 use Rattle.moment_parts.proofs.fields_of.Tie as tie
 
@@ -27,45 +27,45 @@ short c = omega arith
 
 -- the template is over its limit
 returns : tie.Need-returns-then-template_limit-t
-returns c = sym (long-template _ _ _ (omega arith))
+returns c = sym (long_template _ _ _ (omega arith))
 
 -- the template or the input is not UTF-8
 returns-3 : tie.Need-returns-then-not-are_utf8
 returns-3 c =
-    let within-limit = c.before.before.before.before in
-    let args = (start within-limit).args in
+    let within_limit = c.before.before.before.before in
+    let args = (start within_limit).args in
     let small : length args.s.now ≤ input_limit args.set = omega arith in
-    sym (bad-text _ _ _ (short within-limit) small
+    sym (bad_text _ _ _ (short within_limit) small
     (sym c.are_utf8.ensures ∙ c.if-not-are_utf8.true))
 
 -- within their limits a template has at most 256 bytes and an input at most 512
 parse-format-requires : tie.Need-parse_format-end-requires
 parse-format-requires c κs =
-    let within-limit = c.before.before.before.before.before in
-    (omega (arith, short within-limit, template-most (start within-limit).args.set), omega arith)
+    let within_limit = c.before.before.before.before.before in
+    (omega (arith, short within_limit, template_most (start within_limit).args.set), omega arith)
 
 -- the slice of the buffer is as long as the bytes of the nodes
 slice-aggregate-fields-within : tie.Need-slice_bounds-fields_within-end
-slice-aggregate-fields-within c = sym (length-take-le _ _ (parsed-room c.parse_format-end.ensures))
+slice-aggregate-fields-within c = sym (length-take-le _ _ (parsed_room c.parse_format-end.ensures))
 
 fields-within-requires : tie.Need-fields_within-requires
 fields-within-requires c κs =
-    let at-start = start c.before.before.before.before.before.before.before.before.before in
-    let small : length at-start.args.s.now ≤ input_limit at-start.args.set = omega arith in
-    (omega (arith, input-most at-start.args.set), at-start.requires)
+    let at_start = start c.before.before.before.before.before.before.before.before.before in
+    let small : length at_start.args.s.now ≤ input_limit at_start.args.set = omega arith in
+    (omega (arith, input_most at_start.args.set), at_start.requires)
 
 -- the input is read by the template's nodes
 returns-4 : tie.Need-returns
 returns-4 c =
-    let after-parse = c.before.before.before.before in
-    let after-utf8-test = after-parse.before.before in
-    let within-limit = after-utf8-test.before.before.before.before in
-    let args = (start within-limit).args in
+    let after_parse = c.before.before.before.before in
+    let after_utf8_test = after_parse.before.before in
+    let within_limit = after_utf8_test.before.before.before.before in
+    let args = (start within_limit).args in
     let small : length args.s.now ≤ input_limit args.set = omega arith in
     c.fields_within.ensures _
-    ∙ ap (λ (ns : List Node). answer_by args.set.strict ns args.t.now args.s.now) (parsed-nodes after-parse.parse_format-end.ensures (small-nodes args.set.accents args.t.now))
-    ∙ read_by _ _ _ (short within-limit) small
-    (sym after-utf8-test.are_utf8.ensures ∙ after-utf8-test.if-not-are_utf8.false)
+    ∙ ap (λ (ns : List Node). answer_by args.set.strict ns args.t.now args.s.now) (parsed_nodes after_parse.parse_format-end.ensures (small_nodes args.set.accents args.t.now))
+    ∙ read_by _ _ _ (short within_limit) small
+    (sym after_utf8_test.are_utf8.ensures ∙ after_utf8_test.if-not-are_utf8.false)
 
 pub fields_of_spec : {M : Type 1} → statement M
 fields_of_spec =
@@ -75,7 +75,7 @@ fields_of_spec =
     returns
     (λ c κs. search rules)
     -- the input is over its limit
-    (λ c. sym (long-input _ _ _ (short c.before.before) (omega arith)))
+    (λ c. sym (long_input _ _ _ (short c.before.before) (omega arith)))
     (λ c κs. search rules)
     returns-3
     (λ c. search rules)

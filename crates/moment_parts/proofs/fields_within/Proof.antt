@@ -16,14 +16,14 @@ use Rattle.moment_parts.proofs.fields_within.Statement.{statement}
 use Rattle.moment_parts.proofs.fields_within.Tie as tie
 
 -- the answer by the verdict: only what was read needs its fields
-by-verdict : (strict : Bool) (r : Reading) {o : Outcome} {values : List ℤ} → Went r o values → (v : Verdict) → o.verdict ≡ v
+by_verdict : (strict : Bool) (r : Reading) {o : Outcome} {values : List ℤ} → Went r o values → (v : Verdict) → o.verdict ≡ v
     → then_fields strict v (fields_of values) ≡ then_fields strict v r.fields
-by-verdict strict r went Read e = ap (then_fields strict Read) (went.fields e)
-by-verdict strict r went (Refused why) e = refl
+by_verdict strict r went Read e = ap (then_fields strict Read) (went.fields e)
+by_verdict strict r went (Refused why) e = refl
 
 same_answer : (strict : Bool) (r : Reading) {o : Outcome} {values : List ℤ} → Went r o values
     → then_fields strict o.verdict (fields_of values) ≡ then_fields strict r.verdict r.fields
-same_answer strict r {o} went = by-verdict strict r went o.verdict refl ∙ ap (λ (v : Verdict). then_fields strict v r.fields) went.verdict
+same_answer strict r {o} went = by_verdict strict r went o.verdict refl ∙ ap (λ (v : Verdict). then_fields strict v r.fields) went.verdict
 
 returns : tie.Need-returns
 returns c = λ strict. same_answer strict _ c.dch_from_char-read.ensures

@@ -26,50 +26,50 @@ micros c e = sym c.micros_of.ensures ∙ e
 returns : tie.Need-returns-in-Is-micros_of
 unfolding moment_of
 returns c =
-    let micros-known = c.before in
-    let at-micros = micros-known in
-    let after-micros-of = at-micros.before in
-    let at-date = after-micros-of.before in
-    let after-dated-of = at-date.before in
-    let hour-known = after-dated-of.before in
-    let at-hour = hour-known in
+    let micros_known = c.before in
+    let at_micros = micros_known in
+    let after_micros_of = at_micros.before in
+    let at_date = after_micros_of.before in
+    let after_dated_of = at_date.before in
+    let hour_known = after_dated_of.before in
+    let at_hour = hour_known in
     simp (
-      hour at-hour.before at-hour.in-Is.is,
-      date after-dated-of at-date.in-Date.is,
-      micros after-micros-of at-micros.in-Is-micros_of.is,
+      hour at_hour.before at_hour.in-Is.is,
+      date after_dated_of at_date.in-Date.is,
+      micros after_micros_of at_micros.in-Is-micros_of.is,
       c.checked_moment.ensures,
-      back at-hour.in-Is.hour (search rules),
-      back at-micros.in-Is-micros_of.micros (search rules),
+      back at_hour.in-Is.hour (search rules),
+      back at_micros.in-Is-micros_of.micros (search rules),
     )
 
 -- the fraction is refused
 returns-2 : tie.Need-returns-in-Not-micros_of
 unfolding moment_of
 returns-2 c =
-    let at-refusal = c in
-    let after-micros-of = at-refusal.before in
-    let at-date = after-micros-of.before in
-    let after-dated-of = at-date.before in
-    let at-hour = after-dated-of.before in
+    let at_refusal = c in
+    let after_micros_of = at_refusal.before in
+    let at_date = after_micros_of.before in
+    let after_dated_of = at_date.before in
+    let at_hour = after_dated_of.before in
     simp (
-      hour at-hour.before at-hour.in-Is.is,
-      date after-dated-of at-date.in-Date.is,
-      micros after-micros-of at-refusal.in-Not-micros_of.is,
+      hour at_hour.before at_hour.in-Is.is,
+      date after_dated_of at_date.in-Date.is,
+      micros after_micros_of at_refusal.in-Not-micros_of.is,
     )
 
 -- the date is refused
 returns-3 : tie.Need-returns-in-Refused
 unfolding moment_of
 returns-3 c =
-    let at-refusal = c in
-    let after-dated-of = at-refusal.before in
-    let at-hour = after-dated-of.before in
-    simp (hour at-hour.before at-hour.in-Is.is, date after-dated-of at-refusal.in-Refused.is)
+    let at_refusal = c in
+    let after_dated_of = at_refusal.before in
+    let at_hour = after_dated_of.before in
+    simp (hour at_hour.before at_hour.in-Is.is, date after_dated_of at_refusal.in-Refused.is)
 
 -- the hour is refused
 returns-4 : tie.Need-returns-in-Not
 unfolding moment_of
-returns-4 c = let at-refusal = c in simp (hour at-refusal.before at-refusal.in-Not.is)
+returns-4 c = let at_refusal = c in simp (hour at_refusal.before at_refusal.in-Not.is)
 
 pub moment_of_spec : {M : Type 1} → statement M
 moment_of_spec =

@@ -9,10 +9,10 @@ by : tie.Need-returns-in-By
 unfolding unread_report
 by c = rw c.in-By.is c.report_of.ensures
 
-no-such-day : tie.Need-returns-in-NoSuchDay
+no_such_day : tie.Need-returns-in-NoSuchDay
 unfolding unread_report
-no-such-day c = rw c.in-NoSuchDay.is c.alone.ensures
+no_such_day c = rw c.in-NoSuchDay.is c.alone.ensures
 
 pub report_of_spec : {M : Type 1} → statement M
 report_of_spec =
-    tie.close (tie.spec (λ c. search rules) (λ c κs. search rules) (λ c. search rules) (λ c κs. search rules) by no-such-day)
+    tie.close (tie.spec (λ c. search rules) (λ c κs. search rules) (λ c. search rules) (λ c κs. search rules) by no_such_day)

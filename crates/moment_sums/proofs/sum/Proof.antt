@@ -34,38 +34,38 @@ returns : tie.Need-returns-then-a-b
 returns c =
     let args_fit = c.ranges in
     let limit = lower c.before in
-    rw (limit.refused (simp (to_z-of_z args_fit.a, to_z-of_z args_fit.b, to_z-of_z limit.limit-fits) at c.if-a-b.true))
+    rw (limit.refused (simp (to_z-of_z args_fit.a, to_z-of_z args_fit.b, to_z-of_z limit.limit_fits) at c.if-a-b.true))
 
 -- a is not: the sum fits
 add-lower : (c : tie.Else-a-b) → SFits w32 (c.args.a +ℤ c.args.b)
 add-lower c =
     let args_fit = c.ranges in
     let limit = lower c.before in
-    limit.taken (simp (to_z-of_z args_fit.a, to_z-of_z args_fit.b, to_z-of_z limit.limit-fits) at c.if-a-b.false)
+    limit.taken (simp (to_z-of_z args_fit.a, to_z-of_z args_fit.b, to_z-of_z limit.limit_fits) at c.if-a-b.false)
 
 -- a is above the limit: refused
 returns-3 : tie.Need-returns-then-a-b-2
 returns-3 c =
     let args_fit = c.ranges in
     let limit = upper c.before in
-    rw (limit.refused (simp (to_z-of_z args_fit.a, to_z-of_z args_fit.b, to_z-of_z limit.limit-fits) at c.if-a-b-2.true))
+    rw (limit.refused (simp (to_z-of_z args_fit.a, to_z-of_z args_fit.b, to_z-of_z limit.limit_fits) at c.if-a-b-2.true))
 
 -- a is not: the sum fits
 add-upper : (c : tie.Else-a-b-2) → SFits w32 (c.args.a +ℤ c.args.b)
 add-upper c =
     let args_fit = c.ranges in
     let limit = upper c.before in
-    limit.taken (simp (to_z-of_z args_fit.a, to_z-of_z args_fit.b, to_z-of_z limit.limit-fits) at c.if-a-b-2.false)
+    limit.taken (simp (to_z-of_z args_fit.a, to_z-of_z args_fit.b, to_z-of_z limit.limit_fits) at c.if-a-b-2.false)
 
 pub sum_spec : {M : Type 1} → statement M
 sum_spec =
     tie.close
     (tie.spec
-    (λ c. rw (to_z-of_z c.ranges.b) (lower c).limit-fits)
+    (λ c. rw (to_z-of_z c.ranges.b) (lower c).limit_fits)
     returns
     (λ c. let args_fit = c.ranges in rw (to_z-of_z args_fit.a, to_z-of_z args_fit.b) (add-lower c))
     (λ c. let args_fit = c.ranges in rw (to_z-of_z args_fit.a, to_z-of_z args_fit.b, to_z-of_z (add-lower c), fits (add-lower c)))
-    (λ c. rw (to_z-of_z c.ranges.b) (upper c).limit-fits)
+    (λ c. rw (to_z-of_z c.ranges.b) (upper c).limit_fits)
     returns-3
     (λ c. let args_fit = c.ranges in rw (to_z-of_z args_fit.a, to_z-of_z args_fit.b) (add-upper c))
     (λ c. let args_fit = c.ranges in rw (to_z-of_z args_fit.a, to_z-of_z args_fit.b, to_z-of_z (add-upper c), fits (add-upper c))))

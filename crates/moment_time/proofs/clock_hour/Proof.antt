@@ -17,23 +17,23 @@ has c = known c.args.f _ c.well_formed.0
 returns : tie.Need-returns-then-clock-eq12
 unfolding clock_hour
 returns c =
-    let on-twelve = c.before.before in
-    let after-hour = on-twelve.before in
-    let fields = has after-hour.before.before in
+    let on_twelve = c.before.before in
+    let after_hour = on_twelve.before in
+    let fields = has after_hour.before.before in
     simp (
       c.hour_of_twelve.ensures,
       fields.back,
-      returned after-hour.hour_of-hour.type_inv after-hour.hour_of-hour.ensures,
-      equal (lit< tt) (fields.fits clock) on-twelve.if-clock-eq12.true,
+      returned after_hour.hour_of-hour.type_inv after_hour.hour_of-hour.ensures,
+      equal (lit< tt) (fields.fits clock) on_twelve.if-clock-eq12.true,
     )
 
 -- the 24-hour clock, or none
 returns-2 : tie.Need-returns
 unfolding clock_hour
 returns-2 c =
-    let after-hour = c.before in
-    let fields = has after-hour.before.before in
-    simp (returned after-hour.hour_of-hour.type_inv after-hour.hour_of-hour.ensures, unequal (fields.fits clock) c.if-clock-eq12.false)
+    let after_hour = c.before in
+    let fields = has after_hour.before.before in
+    simp (returned after_hour.hour_of-hour.type_inv after_hour.hour_of-hour.ensures, unequal (fields.fits clock) c.if-clock-eq12.false)
 
 pub clock_hour_spec : {M : Type 1} → statement M
 clock_hour_spec =

@@ -3,7 +3,7 @@ use borrow.Author.Rules.{rules}
 use Rattle.base_wrapping.proofs.Fits.{returned}
 use Rattle.moment_sums.proofs.Known.{Known, known}
 use Rattle.moment_time.specs.Time.{hour_of}
-use Rattle.moment_time.proofs.SecondOfDay.{by-hour, hours-back}
+use Rattle.moment_time.proofs.SecondOfDay.{by_hour, hours_back}
 use Rattle.moment_time.proofs.hour_of.Statement.{statement}
 use Rattle.moment_time.proofs.hour_of.Tie as tie
 
@@ -14,7 +14,7 @@ returns : tie.Need-returns
 unfolding hour_of
 returns c =
     let fields = has c.before.before.before in
-    simp (returned c.field_or.type_inv c.field_or.ensures, fields.back, hours-back fields)
+    simp (returned c.field_or.type_inv c.field_or.ensures, fields.back, hours_back fields)
 
 pub hour_of_spec : {M : Type 1} → statement M
 hour_of_spec =
@@ -22,6 +22,6 @@ hour_of_spec =
     (tie.spec
     (λ c. search rules)
     (λ c. search rules)
-    (λ c. by-hour (has c.before.before))
+    (λ c. by_hour (has c.before.before))
     (λ c κs. search rules)
     returns)

@@ -22,63 +22,63 @@ low c = simp (to_z-of_z c.ranges.hour) at c.if-hour-lt1.false
 high : (c : tie.Else-hour-gt12) → lt_z (pos 12) c.args.hour ≡ false
 high c = simp (to_z-of_z c.ranges.hour) at c.if-hour-gt12.false
 
-pm-fits : (c : tie.Else-hour-gt12) → let hour = c.args.hour in SFits w32 (hour +ℤ pos 12)
-pm-fits c = let in-range = within c.args.hour (low c) (high c) in rw in-range.is (omega arith)
+pm_fits : (c : tie.Else-hour-gt12) → let hour = c.args.hour in SFits w32 (hour +ℤ pos 12)
+pm_fits c = let in_range = within c.args.hour (low c) (high c) in rw in_range.is (omega arith)
 
 -- below 1
 returns : tie.Need-returns-then-hour-lt1
 unfolding hour_of_twelve
 returns c =
-    let hour-back = to_z-of_z c.ranges.hour in
-    simp (hour-back, simp hour-back at c.if-hour-lt1.true)
+    let hour_back = to_z-of_z c.ranges.hour in
+    simp (hour_back, simp hour_back at c.if-hour-lt1.true)
 
 -- above 12
 returns-2 : tie.Need-returns-then-hour-gt12
 unfolding hour_of_twelve
 returns-2 c =
-    let hour-back = to_z-of_z c.ranges.hour in
-    simp (hour-back, simp hour-back at c.if-hour-lt1.false, simp hour-back at c.if-hour-gt12.true)
+    let hour_back = to_z-of_z c.ranges.hour in
+    simp (hour_back, simp hour_back at c.if-hour-lt1.false, simp hour_back at c.if-hour-gt12.true)
 
 -- 1 to 11 PM
 returns-3 : tie.Need-returns-then-hour-lt12
 unfolding hour_of_twelve
 returns-3 c =
-    let in-clock = c.before.before in
-    let fits = in-clock.ranges in
-    let hour-back = to_z-of_z fits.hour in
+    let in_clock = c.before.before in
+    let fits = in_clock.ranges in
+    let hour_back = to_z-of_z fits.hour in
     simp (
-      hour-back,
-      low in-clock,
-      high in-clock,
+      hour_back,
+      low in_clock,
+      high in_clock,
       present fits.pm c.if-pm-ne0.true,
-      simp hour-back at c.if-hour-lt12.true,
-      to_z-of_z (pm-fits in-clock),
+      simp hour_back at c.if-hour-lt12.true,
+      to_z-of_z (pm_fits in_clock),
     )
 
 -- 12 PM
 returns-4 : tie.Need-returns-then-pm-ne0
 unfolding hour_of_twelve
 returns-4 c =
-    let in-clock = c.before.before in
-    let fits = in-clock.ranges in
-    let hour-back = to_z-of_z fits.hour in
+    let in_clock = c.before.before in
+    let fits = in_clock.ranges in
+    let hour_back = to_z-of_z fits.hour in
     simp (
-      hour-back,
-      low in-clock,
-      high in-clock,
+      hour_back,
+      low in_clock,
+      high in_clock,
       present fits.pm c.if-pm-ne0.true,
-      simp hour-back at c.if-hour-lt12.false,
+      simp hour_back at c.if-hour-lt12.false,
     )
 
 -- 12 AM
 returns-5 : tie.Need-returns-then-hour-eq12
 unfolding hour_of_twelve
 returns-5 c =
-    let in-clock = c.before.before in
-    let fits = in-clock.ranges in
+    let in_clock = c.before.before in
+    let fits = in_clock.ranges in
     simp (
-      low in-clock,
-      high in-clock,
+      low in_clock,
+      high in_clock,
       absent fits.pm c.if-pm-ne0.false,
       equal (lit< tt) fits.hour c.if-hour-eq12.true,
     )
@@ -87,12 +87,12 @@ returns-5 c =
 returns-6 : tie.Need-returns
 unfolding hour_of_twelve
 returns-6 c =
-    let in-clock = c.before.before in
-    let fits = in-clock.ranges in
+    let in_clock = c.before.before in
+    let fits = in_clock.ranges in
     simp (
       to_z-of_z fits.hour,
-      low in-clock,
-      high in-clock,
+      low in_clock,
+      high in_clock,
       absent fits.pm c.if-pm-ne0.false,
       unequal fits.hour c.if-hour-eq12.false,
     )
@@ -103,7 +103,7 @@ hour_of_twelve_spec =
     (tie.spec
     returns
     returns-2
-    (λ c. let in-clock = c.before.before in rw (to_z-of_z in-clock.ranges.hour) (pm-fits in-clock))
+    (λ c. let in_clock = c.before.before in rw (to_z-of_z in_clock.ranges.hour) (pm_fits in_clock))
     returns-3
     returns-4
     returns-5

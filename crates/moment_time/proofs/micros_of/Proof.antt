@@ -3,7 +3,7 @@
 use mathlib.Core.Path.{◌≡◌, ◌∙◌, sym}
 use borrow.Author.Rules.{rules}
 use Rattle.read_fields.specs.Fields.{get, ms}
-use Rattle.base_wrapping.proofs.Fits.{wrap-back}
+use Rattle.base_wrapping.proofs.Fits.{wrap_back}
 use Rattle.moment_sums.specs.Checked.{◌times◌}
 use Rattle.moment_time.specs.Time.{micros_of}
 use Rattle.moment_sums.specs.declared.Value.{Value}
@@ -16,23 +16,23 @@ use Rattle.moment_time.proofs.micros_of.Tie as tie
 -- the milliseconds times 1000, as the match found them
 product : (c : tie.After-checked_mul) {v : Value} → c.checked_mul.result ≡ v → Is (get c.args.f ms) times 1000 ≡ v
 product c e =
-    let at-start = c.before.before.before in
-    sym (simp (known at-start.args.f _ at-start.well_formed.0).back at c.checked_mul.ensures) ∙ e
+    let at_start = c.before.before.before in
+    sym (simp (known at_start.args.f _ at_start.well_formed.0).back at c.checked_mul.ensures) ∙ e
 
 -- the product fits
 returns : tie.Need-returns-in-Is
 unfolding micros_of
 returns c =
-    let at-whole = c.before in
-    let matched = at-whole in
-    let after-mul = matched.before in
-    let at-start = after-mul.before.before.before in
-    rw (product after-mul matched.in-Is.is)
+    let at_whole = c.before in
+    let matched = at_whole in
+    let after_mul = matched.before in
+    let at_start = after_mul.before.before.before in
+    rw (product after_mul matched.in-Is.is)
     (simp (
       c.wrapping_add.ensures,
-      wrap-back,
+      wrap_back,
       back matched.in-Is.whole (search rules),
-      (known at-start.args.f _ at-start.well_formed.0).back,
+      (known at_start.args.f _ at_start.well_formed.0).back,
     ))
 
 -- it was refused

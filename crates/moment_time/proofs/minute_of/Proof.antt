@@ -3,7 +3,7 @@ use borrow.Author.Rules.{rules}
 use Rattle.base_wrapping.proofs.Fits.{returned}
 use Rattle.moment_sums.proofs.Known.{Known, known}
 use Rattle.moment_time.specs.Time.{minute_of}
-use Rattle.moment_time.proofs.SecondOfDay.{by-hour, by-minute, in-hour-back, minutes-back}
+use Rattle.moment_time.proofs.SecondOfDay.{by_hour, by_minute, in_hour_back, minutes_back}
 use Rattle.moment_time.proofs.minute_of.Statement.{statement}
 use Rattle.moment_time.proofs.minute_of.Tie as tie
 
@@ -14,7 +14,7 @@ returns : tie.Need-returns
 unfolding minute_of
 returns c =
     let fields = has c.before.before.before in
-    simp (returned c.field_or.type_inv c.field_or.ensures, fields.back, in-hour-back fields, minutes-back fields)
+    simp (returned c.field_or.type_inv c.field_or.ensures, fields.back, in_hour_back fields, minutes_back fields)
 
 pub minute_of_spec : {M : Type 1} → statement M
 minute_of_spec =
@@ -22,7 +22,7 @@ minute_of_spec =
     (tie.spec
     (λ c. search rules)
     (λ c. search rules)
-    (λ c. by-hour (has c.before.before))
-    (λ c. by-minute (has c.before.before))
+    (λ c. by_hour (has c.before.before))
+    (λ c. by_minute (has c.before.before))
     (λ c κs. search rules)
     returns)

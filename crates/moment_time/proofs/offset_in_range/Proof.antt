@@ -14,9 +14,9 @@ returns c =
 -- they are not: the test of the minutes
 returns-2 : tie.Need-returns
 returns-2 c =
-    let after-hours = c.before.before in
-    let fits = after-hours.ranges in
-    rw (simp (to_z-of_z fits.hours) at (sym after-hours.below.ensures ∙ c.if-not-below.false))
+    let after_hours = c.before.before in
+    let fits = after_hours.ranges in
+    rw (simp (to_z-of_z fits.hours) at (sym after_hours.below.ensures ∙ c.if-not-below.false))
     (simp (to_z-of_z fits.minutes) at c.below-2.ensures)
 
 pub offset_in_range_spec : {M : Type 1} → statement M

@@ -12,7 +12,7 @@ use Rattle.base_wrapping.proofs.Fits.{read}
 use Rattle.moment_sums.specs.Within.{Within, below}
 use Rattle.moment_time.specs.Time.{east_of, offset_of, offset_in_range, checked_offset}
 use Rattle.moment_sums.proofs.Known.{Known, known}
-use Rattle.moment_time.proofs.Offsets.{minutes as joined, hours-fit, minutes-fit, seconds-fit, neg-minutes-fit, neg-seconds-fit, neg-seconds-is}
+use Rattle.moment_time.proofs.Offsets.{minutes as joined, hours_fit, minutes_fit, seconds_fit, neg_minutes_fit, neg_seconds_fit, neg_seconds_is}
 use Rattle.moment_sums.proofs.Tests.{absent, present}
 use Rattle.moment_sums.proofs.Within.{from_zero}
 use Rattle.moment_time.proofs.offset_of.Statement.{statement}
@@ -53,91 +53,91 @@ returns c = simp (absent ((has c.before.before).fits tzsign) c.if-sign-eq0.true)
 returns-2 : tie.Need-returns-then-not-offset_in_range
 unfolding checked_offset offset_in_range
 returns-2 c =
-    let after-sign = c.before.before.before.before in
-    let fields = has after-sign.before.before in
+    let after_sign = c.before.before.before.before in
+    let fields = has after_sign.before.before in
     simp (
-      present (fields.fits tzsign) after-sign.if-sign-eq0.false,
+      present (fields.fits tzsign) after_sign.if-sign-eq0.false,
       simp fields.back at (sym c.offset_in_range.ensures ∙ c.if-not-offset_in_range.true),
     )
 
 -- the sums and products that fit read back as they are
 module _ (c : tie.Else-not-offset_in_range) where
-  hours-back : read (field c tzh *ℤ pos 60) ≡ field c tzh *ℤ pos 60
-  hours-back = to_z-of_z (hours-fit (hours c) (minutes c))
+  hours_back : read (field c tzh *ℤ pos 60) ≡ field c tzh *ℤ pos 60
+  hours_back = to_z-of_z (hours_fit (hours c) (minutes c))
 
   joined_back : read (joined (field c tzh) (field c tzm)) ≡ joined (field c tzh) (field c tzm)
-  joined_back = to_z-of_z (minutes-fit (hours c) (minutes c))
+  joined_back = to_z-of_z (minutes_fit (hours c) (minutes c))
 
   negated_back : read (neg_ℤ (joined (field c tzh) (field c tzm))) ≡ neg_ℤ (joined (field c tzh) (field c tzm))
-  negated_back = to_z-of_z (neg-minutes-fit (hours c) (minutes c))
+  negated_back = to_z-of_z (neg_minutes_fit (hours c) (minutes c))
 
 -- the sign is minus
 returns-3 : tie.Need-returns-then-sign-lt0
 unfolding checked_offset offset_in_range offset_of east_of
 returns-3 c =
-    let in-range = c.before in
-    let Fields-back = (has (start in-range)).back in
+    let in_range = c.before in
+    let fields_back = (has (start in_range)).back in
     simp (
-      sign_set in-range,
-      (tests in-range).0,
-      (tests in-range).1,
-      simp Fields-back at c.if-sign-lt0.true,
-      Fields-back,
-      hours-back in-range,
-      joined_back in-range,
+      sign_set in_range,
+      (tests in_range).0,
+      (tests in_range).1,
+      simp fields_back at c.if-sign-lt0.true,
+      fields_back,
+      hours_back in_range,
+      joined_back in_range,
       +ℤ_idl,
-      negated_back in-range,
-      neg-seconds-is (hours in-range) (minutes in-range),
-      to_z-of_z (neg-seconds-fit (hours in-range) (minutes in-range)),
+      negated_back in_range,
+      neg_seconds_is (hours in_range) (minutes in_range),
+      to_z-of_z (neg_seconds_fit (hours in_range) (minutes in_range)),
     )
 
 -- the sign is plus
 returns-4 : tie.Need-returns
 unfolding checked_offset offset_in_range offset_of east_of
 returns-4 c =
-    let in-range = c.before in
-    let Fields-back = (has (start in-range)).back in
+    let in_range = c.before in
+    let fields_back = (has (start in_range)).back in
     simp (
-      sign_set in-range,
-      (tests in-range).0,
-      (tests in-range).1,
-      simp Fields-back at c.if-sign-lt0.false,
-      Fields-back,
-      hours-back in-range,
-      joined_back in-range,
-      to_z-of_z (seconds-fit (hours in-range) (minutes in-range)),
+      sign_set in_range,
+      (tests in_range).0,
+      (tests in_range).1,
+      simp fields_back at c.if-sign-lt0.false,
+      fields_back,
+      hours_back in_range,
+      joined_back in_range,
+      to_z-of_z (seconds_fit (hours in_range) (minutes in_range)),
     )
 
 -- each product and sum fits, in the order of the code
 mul-whole-hours : tie.Need-overflow_mul-whole_hours
-mul-whole-hours c = simp (has (start c)).back (hours-fit (hours c) (minutes c))
+mul-whole-hours c = simp (has (start c)).back (hours_fit (hours c) (minutes c))
 
 add-joined : tie.Need-overflow_add-joined
-add-joined c = simp ((has (start c)).back, hours-back c) (minutes-fit (hours c) (minutes c))
+add-joined c = simp ((has (start c)).back, hours_back c) (minutes_fit (hours c) (minutes c))
 
 sub-negated : tie.Need-overflow_sub-result
 sub-negated c =
-    let in-range = c.before in
-    simp ((has (start in-range)).back, hours-back in-range, joined_back in-range, +ℤ_idl)
-    (neg-minutes-fit (hours in-range) (minutes in-range))
+    let in_range = c.before in
+    simp ((has (start in_range)).back, hours_back in_range, joined_back in_range, +ℤ_idl)
+    (neg_minutes_fit (hours in_range) (minutes in_range))
 
 mul-negated : tie.Need-overflow_mul-result
 mul-negated c =
-    let in-range = c.before in
+    let in_range = c.before in
     simp (
-      (has (start in-range)).back,
-      hours-back in-range,
-      joined_back in-range,
+      (has (start in_range)).back,
+      hours_back in_range,
+      joined_back in_range,
       +ℤ_idl,
-      negated_back in-range,
-      neg-seconds-is (hours in-range) (minutes in-range),
+      negated_back in_range,
+      neg_seconds_is (hours in_range) (minutes in_range),
     )
-    (neg-seconds-fit (hours in-range) (minutes in-range))
+    (neg_seconds_fit (hours in_range) (minutes in_range))
 
 mul-joined : tie.Need-overflow_mul-result-2
 mul-joined c =
-    let in-range = c.before in
-    simp ((has (start in-range)).back, hours-back in-range, joined_back in-range) (seconds-fit (hours in-range) (minutes in-range))
+    let in_range = c.before in
+    simp ((has (start in_range)).back, hours_back in_range, joined_back in_range) (seconds_fit (hours in_range) (minutes in_range))
 
 pub offset_of_spec : {M : Type 1} → statement M
 offset_of_spec =

@@ -3,7 +3,7 @@ use borrow.Author.Rules.{rules}
 use Rattle.base_wrapping.proofs.Fits.{returned}
 use Rattle.moment_sums.proofs.Known.{Known, known}
 use Rattle.moment_time.specs.Time.{second_of}
-use Rattle.moment_time.proofs.SecondOfDay.{by-hour, by-minute, in-hour-back, seconds-back}
+use Rattle.moment_time.proofs.SecondOfDay.{by_hour, by_minute, in_hour_back, seconds_back}
 use Rattle.moment_time.proofs.second_of.Statement.{statement}
 use Rattle.moment_time.proofs.second_of.Tie as tie
 
@@ -14,7 +14,7 @@ returns : tie.Need-returns
 unfolding second_of
 returns c =
     let fields = has c.before.before.before in
-    simp (returned c.field_or.type_inv c.field_or.ensures, fields.back, in-hour-back fields, seconds-back fields)
+    simp (returned c.field_or.type_inv c.field_or.ensures, fields.back, in_hour_back fields, seconds_back fields)
 
 pub second_of_spec : {M : Type 1} → statement M
 second_of_spec =
@@ -22,7 +22,7 @@ second_of_spec =
     (tie.spec
     (λ c. search rules)
     (λ c. search rules)
-    (λ c. by-hour (has c.before.before))
-    (λ c. by-minute (has c.before.before))
+    (λ c. by_hour (has c.before.before))
+    (λ c. by_minute (has c.before.before))
     (λ c κs. search rules)
     returns)

@@ -31,20 +31,20 @@ returns c = rw (simp (to_z-of_z c.ranges.hour) at (sym c.below.ensures ∙ c.if-
 returns-2 : tie.Need-returns-then-not-below-2
 unfolding time_in_range
 returns-2 c =
-    let after-hour = c.before.before in
-    let fits = after-hour.ranges in
-    rw (hour after-hour, simp (to_z-of_z fits.minute) at (sym c.below-2.ensures ∙ c.if-not-below-2.true))
+    let after_hour = c.before.before in
+    let fits = after_hour.ranges in
+    rw (hour after_hour, simp (to_z-of_z fits.minute) at (sym c.below-2.ensures ∙ c.if-not-below-2.true))
 
 -- the second is
 returns-3 : tie.Need-returns-then-not-below-3
 unfolding time_in_range
 returns-3 c =
-    let after-minute = c.before.before in
-    let after-hour = after-minute.before.before in
-    let fits = after-hour.ranges in
+    let after_minute = c.before.before in
+    let after_hour = after_minute.before.before in
+    let fits = after_hour.ranges in
     rw (
-      hour after-hour,
-      minute after-minute,
+      hour after_hour,
+      minute after_minute,
       simp (to_z-of_z fits.second) at (sym c.below-3.ensures ∙ c.if-not-below-3.true),
     )
 
@@ -52,11 +52,11 @@ returns-3 c =
 returns-4 : tie.Need-returns
 unfolding time_in_range
 returns-4 c =
-    let after-second = c.before in
-    let after-minute = after-second.before.before in
-    let after-hour = after-minute.before.before in
-    let fits = after-hour.ranges in
-    rw (hour after-hour, minute after-minute, second after-second) (simp (to_z-of_z fits.micros) at c.below-4.ensures)
+    let after_second = c.before in
+    let after_minute = after_second.before.before in
+    let after_hour = after_minute.before.before in
+    let fits = after_hour.ranges in
+    rw (hour after_hour, minute after_minute, second after_second) (simp (to_z-of_z fits.micros) at c.below-4.ensures)
 
 pub time_in_range_spec : {M : Type 1} → statement M
 time_in_range_spec =

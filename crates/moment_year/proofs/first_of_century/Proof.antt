@@ -2,7 +2,7 @@
 -- checked product and sum of it. Assumes nothing.
 use borrow.Author.Rules.{rules}
 use mir.Facts.{to_z-of_z}
-use Rattle.base_wrapping.proofs.Fits.{wrap-back}
+use Rattle.base_wrapping.proofs.Fits.{wrap_back}
 use Rattle.moment_year.specs.Year.{first_of_century}
 use Rattle.moment_year.proofs.first_of_century.Statement.{statement}
 use Rattle.moment_year.proofs.first_of_century.Tie as tie
@@ -11,31 +11,31 @@ use Rattle.moment_year.proofs.first_of_century.Tie as tie
 returns : tie.Need-returns-then-century-lt0
 unfolding first_of_century
 returns c =
-    let after-mul = c.before in
-    let before-christ = after-mul.before in
-    let century-back = to_z-of_z before-christ.ranges.century in
+    let after_mul = c.before in
+    let before_christ = after_mul.before in
+    let century_back = to_z-of_z before_christ.ranges.century in
     simp (
-      simp century-back at before-christ.if-century-lt0.true,
+      simp century_back at before_christ.if-century-lt0.true,
       c.checked_add.ensures,
-      after-mul.checked_mul.ensures,
-      century-back,
+      after_mul.checked_mul.ensures,
+      century_back,
     )
 
 -- after Christ
 returns-2 : tie.Need-returns
 unfolding first_of_century
 returns-2 c =
-    let after-mul = c.before in
-    let after-sub = after-mul.before in
-    let after-christ = after-sub.before in
-    let century-back = to_z-of_z after-christ.ranges.century in
+    let after_mul = c.before in
+    let after_sub = after_mul.before in
+    let after_christ = after_sub.before in
+    let century_back = to_z-of_z after_christ.ranges.century in
     simp (
-      simp century-back at after-christ.if-century-lt0.false,
+      simp century_back at after_christ.if-century-lt0.false,
       c.checked_add-2.ensures,
-      after-mul.checked_mul-2.ensures,
-      after-sub.wrapping_sub.ensures,
-      wrap-back,
-      century-back,
+      after_mul.checked_mul-2.ensures,
+      after_sub.wrapping_sub.ensures,
+      wrap_back,
+      century_back,
     )
 
 pub first_of_century_spec : {M : Type 1} → statement M

@@ -16,14 +16,14 @@ next c =
 -- before Christ
 returns : tie.Need-returns-then-year-lt0
 returns c =
-    let year-back = to_z-of_z c.ranges.year in
-    simp (year-back, simp year-back at c.if-year-lt0.true, to_z-of_z (next c))
+    let year_back = to_z-of_z c.ranges.year in
+    simp (year_back, simp year_back at c.if-year-lt0.true, to_z-of_z (next c))
 
 -- after Christ
 returns-2 : tie.Need-returns
 returns-2 c =
-    let year-back = to_z-of_z c.ranges.year in
-    simp (year-back, simp year-back at c.if-year-lt0.false)
+    let year_back = to_z-of_z c.ranges.year in
+    simp (year_back, simp year_back at c.if-year-lt0.false)
 
 pub plain_year_spec : {M : Type 1} → statement M
 plain_year_spec = tie.close (tie.spec (λ c. rw (to_z-of_z c.ranges.year) (next c)) returns returns-2)

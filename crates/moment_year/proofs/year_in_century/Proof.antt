@@ -10,16 +10,16 @@ use mir.Facts.{to_z-of_z}
 use mir.Syntax.{w32}
 use mir.Val.{SFits}
 use Rattle.read_fields.specs.Fields.{is_zero}
-use Rattle.base_wrapping.proofs.Fits.{wrap-back, quot_fits}
+use Rattle.base_wrapping.proofs.Fits.{wrap_back, quot_fits}
 use Rattle.moment_year.specs.Year.{year_in_century}
-use Rattle.moment_sums.proofs.Fits.{rem-fits, neg-rem-fits, wrap-twice}
+use Rattle.moment_sums.proofs.Fits.{rem_fits, neg_rem_fits, wrap_twice}
 use Rattle.moment_sums.proofs.Tests.{absent, present}
 use Rattle.moment_year.proofs.year_in_century.Statement.{statement}
 use Rattle.moment_year.proofs.year_in_century.Tie as tie
 
 -- the last two digits
 digits : (c : tie.Start) → SFits w32 (rem_z c.args.year (pos 100))
-digits c = rem-fits c.args.year 100 c.ranges.year
+digits c = rem_fits c.args.year 100 c.ranges.year
 
 -- what the first test says of the last two digits
 none : (c : tie.Then-y-eq0) → is_zero (rem_z c.args.year (pos 100)) ≡ true
@@ -32,90 +32,90 @@ some c = present (digits c.before) (simp (to_z-of_z c.ranges.year) at c.if-y-eq0
 returns : tie.Need-returns-then-century-lt0
 unfolding year_in_century
 returns c =
-    let after-mul = c.before in
-    let before-christ = after-mul.before in
-    let no-digits = before-christ.before in
-    let century-back = to_z-of_z no-digits.ranges.century in
+    let after_mul = c.before in
+    let before_christ = after_mul.before in
+    let no_digits = before_christ.before in
+    let century_back = to_z-of_z no_digits.ranges.century in
     simp (
-      none no-digits,
-      simp century-back at before-christ.if-century-lt0.true,
+      none no_digits,
+      simp century_back at before_christ.if-century-lt0.true,
       c.wrapping_add.ensures,
-      after-mul.wrapping_mul.ensures,
-      wrap-back,
-      century-back,
+      after_mul.wrapping_mul.ensures,
+      wrap_back,
+      century_back,
     )
 
 -- they are 00, after Christ
 returns-2 : tie.Need-returns-then-y-eq0
 unfolding year_in_century
 returns-2 c =
-    let after-christ = c.before in
-    let no-digits = after-christ.before in
-    let century-back = to_z-of_z no-digits.ranges.century in
+    let after_christ = c.before in
+    let no_digits = after_christ.before in
+    let century_back = to_z-of_z no_digits.ranges.century in
     simp (
-      none no-digits,
-      simp century-back at after-christ.if-century-lt0.false,
+      none no_digits,
+      simp century_back at after_christ.if-century-lt0.false,
       c.wrapping_mul-then-y-eq0.ensures,
-      wrap-back,
-      century-back,
+      wrap_back,
+      century_back,
       +ℤ_idr,
-      wrap-twice,
+      wrap_twice,
     )
 
 -- they are not, before Christ
 returns-3 : tie.Need-returns-then-century-lt0-2
 unfolding year_in_century
 returns-3 c =
-    let after-digits = c.before in
-    let after-mul = after-digits.before in
-    let after-add = after-mul.before in
-    let before-christ = after-add.before in
-    let has-digits = before-christ.before in
-    let at-start = has-digits.before in
-    let century-back = to_z-of_z at-start.ranges.century in
+    let after_digits = c.before in
+    let after_mul = after_digits.before in
+    let after_add = after_mul.before in
+    let before_christ = after_add.before in
+    let has_digits = before_christ.before in
+    let at_start = has_digits.before in
+    let century_back = to_z-of_z at_start.ranges.century in
     simp (
-      some has-digits,
-      simp century-back at before-christ.if-century-lt0-2.true,
+      some has_digits,
+      simp century_back at before_christ.if-century-lt0-2.true,
       c.checked_add-then-century-lt0-2.ensures,
-      after-digits.checked_add.ensures,
-      after-mul.checked_mul-hundreds.ensures,
-      after-add.wrapping_add-then-century-lt0-2.ensures,
-      wrap-back,
-      century-back,
-      to_z-of_z at-start.ranges.year,
-      to_z-of_z (digits at-start),
+      after_digits.checked_add.ensures,
+      after_mul.checked_mul-hundreds.ensures,
+      after_add.wrapping_add-then-century-lt0-2.ensures,
+      wrap_back,
+      century_back,
+      to_z-of_z at_start.ranges.year,
+      to_z-of_z (digits at_start),
       +ℤ_idl,
-      to_z-of_z (neg-rem-fits at-start.args.year 100 (lit< tt) (lit< tt)),
+      to_z-of_z (neg_rem_fits at_start.args.year 100 (lit< tt) (lit< tt)),
     )
 
 -- they are not, after Christ
 returns-4 : tie.Need-returns
 unfolding year_in_century
 returns-4 c =
-    let after-mul = c.before in
-    let after-sub = after-mul.before in
-    let after-christ = after-sub.before in
-    let has-digits = after-christ.before in
-    let at-start = has-digits.before in
-    let century-back = to_z-of_z at-start.ranges.century in
+    let after_mul = c.before in
+    let after_sub = after_mul.before in
+    let after_christ = after_sub.before in
+    let has_digits = after_christ.before in
+    let at_start = has_digits.before in
+    let century_back = to_z-of_z at_start.ranges.century in
     simp (
-      some has-digits,
-      simp century-back at after-christ.if-century-lt0-2.false,
+      some has_digits,
+      simp century_back at after_christ.if-century-lt0-2.false,
       c.checked_add-2.ensures,
-      after-mul.checked_mul.ensures,
-      after-sub.wrapping_sub.ensures,
-      wrap-back,
-      century-back,
-      to_z-of_z at-start.ranges.year,
-      to_z-of_z (digits at-start),
+      after_mul.checked_mul.ensures,
+      after_sub.wrapping_sub.ensures,
+      wrap_back,
+      century_back,
+      to_z-of_z at_start.ranges.year,
+      to_z-of_z (digits at_start),
     )
 
 -- the digits with the other sign fit
 sub-checked-add : tie.Need-overflow_sub-y
 sub-checked-add c =
-    let at-start = c.before.before.before.before in
-    simp (to_z-of_z at-start.ranges.year, to_z-of_z (digits at-start), +ℤ_idl)
-    (neg-rem-fits at-start.args.year 100 (lit< tt) (lit< tt))
+    let at_start = c.before.before.before.before in
+    simp (to_z-of_z at_start.ranges.year, to_z-of_z (digits at_start), +ℤ_idl)
+    (neg_rem_fits at_start.args.year 100 (lit< tt) (lit< tt))
 
 pub year_in_century_spec : {M : Type 1} → statement M
 year_in_century_spec =

@@ -9,7 +9,7 @@ use Rattle.moment_year.proofs.year_of.Statement.{statement}
 use Rattle.moment_year.proofs.year_of.Tie as tie
 
 has : (c : tie.After-bc-1) → Known c.args.f
-has c = let at-start = c.before.before.before in known at-start.args.f _ at-start.well_formed.0
+has c = let at_start = c.before.before.before in known at_start.args.f _ at_start.well_formed.0
 
 -- neither year nor century
 returns : tie.Need-returns-then-cc-eq0
@@ -22,14 +22,14 @@ returns c =
 returns-2 : tie.Need-returns-then-year-eq0
 unfolding year_of
 returns-2 c =
-    let after-sign = c.before in
-    let at-century = after-sign.before in
-    let fields = has at-century.before.before in
+    let after_sign = c.before in
+    let at_century = after_sign.before in
+    let fields = has at_century.before.before in
     simp (
-      absent (fields.fits year) at-century.if-year-eq0.true,
-      present (fields.fits cc) at-century.if-cc-eq0.false,
+      absent (fields.fits year) at_century.if-year-eq0.true,
+      present (fields.fits cc) at_century.if-cc-eq0.false,
       c.first_of_century.ensures,
-      returned after-sign.signed_by.type_inv after-sign.signed_by.ensures,
+      returned after_sign.signed_by.type_inv after_sign.signed_by.ensures,
       fields.back,
     )
 
@@ -37,14 +37,14 @@ returns-2 c =
 returns-3 : tie.Need-returns-then-cc-eq0-2
 unfolding year_of
 returns-3 c =
-    let after-sign = c.before in
-    let at-century = after-sign.before in
-    let fields = has at-century.before.before in
+    let after_sign = c.before in
+    let at_century = after_sign.before in
+    let fields = has at_century.before.before in
     simp (
-      present (fields.fits year) at-century.if-year-eq0.false,
-      absent (fields.fits cc) at-century.if-cc-eq0-2.true,
+      present (fields.fits year) at_century.if-year-eq0.false,
+      absent (fields.fits cc) at_century.if-cc-eq0-2.true,
       returned c.plain_year.type_inv c.plain_year.ensures,
-      returned after-sign.signed_by-then-cc-eq0-2.type_inv after-sign.signed_by-then-cc-eq0-2.ensures,
+      returned after_sign.signed_by-then-cc-eq0-2.type_inv after_sign.signed_by-then-cc-eq0-2.ensures,
       fields.back,
     )
 
@@ -52,16 +52,16 @@ returns-3 c =
 returns-4 : tie.Need-returns-then-f-lt3
 unfolding year_of
 returns-4 c =
-    let after-sign = c.before in
-    let at-digits = after-sign.before in
-    let at-century = at-digits.before.before in
-    let fields = has at-century.before.before in
+    let after_sign = c.before in
+    let at_digits = after_sign.before in
+    let at_century = at_digits.before.before in
+    let fields = has at_century.before.before in
     simp (
-      present (fields.fits year) at-century.if-year-eq0.false,
-      present (fields.fits cc) at-century.if-cc-eq0-2.false,
-      simp fields.back at at-digits.if-f-lt3.true,
+      present (fields.fits year) at_century.if-year-eq0.false,
+      present (fields.fits cc) at_century.if-cc-eq0-2.false,
+      simp fields.back at at_digits.if-f-lt3.true,
       c.year_in_century.ensures,
-      returned after-sign.signed_by-then-f-lt3.type_inv after-sign.signed_by-then-f-lt3.ensures,
+      returned after_sign.signed_by-then-f-lt3.type_inv after_sign.signed_by-then-f-lt3.ensures,
       fields.back,
     )
 
@@ -69,16 +69,16 @@ returns-4 c =
 returns-5 : tie.Need-returns
 unfolding year_of
 returns-5 c =
-    let after-sign = c.before in
-    let at-digits = after-sign.before in
-    let at-century = at-digits.before.before in
-    let fields = has at-century.before.before in
+    let after_sign = c.before in
+    let at_digits = after_sign.before in
+    let at_century = at_digits.before.before in
+    let fields = has at_century.before.before in
     simp (
-      present (fields.fits year) at-century.if-year-eq0.false,
-      present (fields.fits cc) at-century.if-cc-eq0-2.false,
-      simp fields.back at at-digits.if-f-lt3.false,
+      present (fields.fits year) at_century.if-year-eq0.false,
+      present (fields.fits cc) at_century.if-cc-eq0-2.false,
+      simp fields.back at at_digits.if-f-lt3.false,
       returned c.plain_year-2.type_inv c.plain_year-2.ensures,
-      returned after-sign.signed_by-2.type_inv after-sign.signed_by-2.ensures,
+      returned after_sign.signed_by-2.type_inv after_sign.signed_by-2.ensures,
       fields.back,
     )
 

@@ -8,12 +8,12 @@ use borrow.Author.Rules.{rules}
 use lib.ListN.{length}
 use Rattle.template_nodes.specs.Bytes.{nodes_in}
 use Rattle.template_nodes.specs.declared.Node.{Node}
-use Rattle.template_nodes.proofs.Encoding.{nodes-length}
+use Rattle.template_nodes.proofs.Encoding.{nodes_length}
 use Rattle.read_fields.specs.Fields.{fields_of}
 use Rattle.read_input.specs.Reader.{read_all}
 use Rattle.read_input.specs.Turn.{Turned}
-use Rattle.read_input.proofs.Turns.{begun, then-on, input-ends, template-ends, stops, goes_on}
-use Rattle.read_input.proofs.Verdicts.{read_is, verdict-read, whole-went}
+use Rattle.read_input.proofs.Turns.{begun, then_on, input_ends, template_ends, stops, goes_on}
+use Rattle.read_input.proofs.Verdicts.{read_is, verdict_read, whole_went}
 use Rattle.read_input.proofs.dch_from_char.Statement.{statement}
 use Rattle.read_input.proofs.dch_from_char.Tie as tie
 
@@ -33,11 +33,11 @@ lane-requires c κs =
 
 -- after the lane
 module _ (c : tie.After-lane-passed invariant-loop decreases-loop) where
-  abbrev at-loop : tie.At-loop-i invariant-loop decreases-loop
-  at-loop = c.before.before.before
+  abbrev at_loop : tie.At-loop-i invariant-loop decreases-loop
+  at_loop = c.before.before.before
 
   abbrev start : tie.Start invariant-loop decreases-loop
-  start = at-loop.before.before.before.before
+  start = at_loop.before.before.before.before
 
   abbrev nodes : List Node
   nodes = nodes_in start.args.c.now
@@ -46,80 +46,80 @@ module _ (c : tie.After-lane-passed invariant-loop decreases-loop) where
   next = c.lane-passed.result.next
 
   -- the invariant holds there too
-  after-lane
+  after_lane
       : Turned start.args.t.now start.args.s.now nodes (read_all start.args.t.now start.args.s.now nodes) next
       (fields_of c.lane-passed.new.f) c.lane-passed.result.place
-  after-lane = then-on _ _ _ _ _ _ _ at-loop.loop-i.invariant c.lane-passed.ensures.turned
+  after_lane = then_on _ _ _ _ _ _ _ at_loop.loop-i.invariant c.lane-passed.ensures.turned
 
-  node-count : length nodes ≡ length start.args.c.now / 6
-  node-count = nodes-length start.args.c.now
+  node_count : length nodes ≡ length start.args.c.now / 6
+  node_count = nodes_length start.args.c.now
 
 -- at the node after it: it is a pattern
 module _ (c : tie.After-node_at-n invariant-loop decreases-loop) where
-  abbrev at-lane : tie.After-lane-passed invariant-loop decreases-loop
-  at-lane = c.before.before.before.before.before
+  abbrev at_lane : tie.After-lane-passed invariant-loop decreases-loop
+  at_lane = c.before.before.before.before.before
 
-  one_left : next at-lane < length (nodes at-lane)
-  one_left = omega (arith, node-count at-lane, c.if-c-next.false)
+  one_left : next at_lane < length (nodes at_lane)
+  one_left = omega (arith, node_count at_lane, c.if-c-next.false)
 
-  input-left : at-lane.lane-passed.result.place.at < length (start at-lane).args.s.now
-  input-left = omega (arith, c.if-s-place.false)
+  input_left : at_lane.lane-passed.result.place.at < length (start at_lane).args.s.now
+  input_left = omega (arith, c.if-s-place.false)
 
   pattern : c.node_at-n.result.kind ≡ 1
-  pattern = ap (λ (n : Node). n.kind) c.node_at-n.ensures ∙ at-lane.lane-passed.ensures.stops one_left input-left
+  pattern = ap (λ (n : Node). n.kind) c.node_at-n.ensures ∙ at_lane.lane-passed.ensures.stops one_left input_left
 
 -- the template ended in the lane
 returns : tie.Need-returns-then-c-next invariant-loop decreases-loop
 returns c =
     let passed = c.before.before.before in
-    verdict-read (rw c.read.ensures (template-ends _ _ _ _ _ _ _ (after-lane passed) (omega (arith, c.if-c-next.true, node-count passed))))
+    verdict_read (rw c.read.ensures (template_ends _ _ _ _ _ _ _ (after_lane passed) (omega (arith, c.if-c-next.true, node_count passed))))
 
 -- the input ended
 returns-2 : tie.Need-returns-then-s-place invariant-loop decreases-loop
 returns-2 c =
     let passed = c.before.before.before.before.before in
-    verdict-read (rw c.read-then-s-place.ensures (input-ends _ _ _ _ _ _ _ (after-lane passed) c.if-s-place.true))
+    verdict_read (rw c.read-then-s-place.ensures (input_ends _ _ _ _ _ _ _ (after_lane passed) c.if-s-place.true))
 
 pattern-read-requires : tie.Need-pattern_read-r-requires invariant-loop decreases-loop
 pattern-read-requires c κs =
-    let at-node = c.before.before in
-    ((after-lane (at-lane at-node)).payable, omega (arith, input-left at-node), (start (at-lane at-node)).requires.0)
+    let at_node = c.before.before in
+    ((after_lane (at_lane at_node)).payable, omega (arith, input_left at_node), (start (at_lane at_node)).requires.0)
 
 -- a pattern was refused
 returns-3 : tie.Need-returns-in-Refused invariant-loop decreases-loop
 returns-3 c =
-    let after-pattern = c.before in
-    let at-node = after-pattern.before.before.before in
-    let went = after-pattern.pattern_read-r.ensures in
-    whole-went went
-    (stops _ _ _ _ _ _ _ (after-lane (at-lane at-node)) (one_left at-node) (input-left at-node) _ _ at-node.node_at-n.ensures
-    after-pattern.node_at-node_after.ensures (pattern at-node)
+    let after_pattern = c.before in
+    let at_node = after_pattern.before.before.before in
+    let went = after_pattern.pattern_read-r.ensures in
+    whole_went went
+    (stops _ _ _ _ _ _ _ (after_lane (at_lane at_node)) (one_left at_node) (input_left at_node) _ _ at_node.node_at-n.ensures
+    after_pattern.node_at-node_after.ensures (pattern at_node)
     _ refl _ (sym went.verdict ∙ c.in-Refused.is))
 
 loop-less : tie.Need-loop-i-smaller invariant-loop decreases-loop
 loop-less c =
-    let at-node = c.before.before.before.before.before in
-    let passed = at-lane at-node in
-    omega (arith, one_left at-node, node-count passed, passed.lane-passed.ensures.on)
+    let at_node = c.before.before.before.before.before in
+    let passed = at_lane at_node in
+    omega (arith, one_left at_node, node_count passed, passed.lane-passed.ensures.on)
 
 -- a pattern was read: on to the nodes after it
 loop-again : tie.Need-loop-i-preserved invariant-loop decreases-loop
 loop-again c =
-    let after-pattern = c.before.before in
-    let at-node = after-pattern.before.before.before in
+    let after_pattern = c.before.before in
+    let at_node = after_pattern.before.before.before in
     let was_read = c.in_default.is in
-    goes_on _ _ _ _ _ _ _ (after-lane (at-lane at-node)) (one_left at-node) (input-left at-node) _ _ at-node.node_at-n.ensures
-    after-pattern.node_at-node_after.ensures (pattern at-node)
-    _ (read_is after-pattern.pattern_read-r.ensures was_read) was_read
+    goes_on _ _ _ _ _ _ _ (after_lane (at_lane at_node)) (one_left at_node) (input_left at_node) _ _ at_node.node_at-n.ensures
+    after_pattern.node_at-node_after.ensures (pattern at_node)
+    _ (read_is after_pattern.pattern_read-r.ensures was_read) was_read
 
 -- the template ended with a pattern, or has no nodes
 returns-4 : tie.Need-returns invariant-loop decreases-loop
 returns-4 c =
     let loop-end = c.before.before in
     let args = loop-end.args in
-    verdict-read
+    verdict_read
     (rw c.read-2.ensures
-    (template-ends _ _ _ _ _ _ _ loop-end.loop-i.invariant (omega (arith, c.loop-i-test.false, nodes-length args.c.now))))
+    (template_ends _ _ _ _ _ _ _ loop-end.loop-i.invariant (omega (arith, c.loop-i-test.false, nodes_length args.c.now))))
 
 pub dch_from_char_spec : {M : Type 1} → statement M
 dch_from_char_spec =

@@ -10,7 +10,7 @@ use mir.Syntax.{w64}
 use mir.Val.{SFits}
 use Rattle.read_integers.specs.Number.{checked, fits32}
 use Rattle.read_integers.proofs.Numbers.{accepted}
-use Rattle.read_integers.proofs.Ranges.{too-low, too-high, between, fits-of}
+use Rattle.read_integers.proofs.Ranges.{too_low, too_high, between, fits_of}
 use Rattle.read_integers.proofs.checked.Statement.{statement}
 use Rattle.read_integers.proofs.checked.Tie as tie
 
@@ -25,8 +25,8 @@ unfolding checked
 returns-2 c = rw (ne_eqb _ _ c.if-r-start.false, c.if-r.true)
 
 -- the value has 64 bits, so that its bits give it back
-value-fits : (c : tie.After-struct_told-1) → SFits w64 c.args.r.value
-value-fits c = search rules
+value_fits : (c : tie.After-struct_told-1) → SFits w64 c.args.r.value
+value_fits c = search rules
 
 -- below 32 bits
 returns-3 : tie.Need-returns-then-value-ltminus2147483648
@@ -36,7 +36,7 @@ returns-3 c =
     rw (
       ne_eqb _ _ at_value.if-r-start.false,
       at_value.if-r.false,
-      too-low _ (simp (to_z-of_z (value-fits at_value)) at c.if-value-ltminus2147483648.true),
+      too_low _ (simp (to_z-of_z (value_fits at_value)) at c.if-value-ltminus2147483648.true),
     )
 
 -- above 32 bits
@@ -47,7 +47,7 @@ returns-4 c =
     rw (
       ne_eqb _ _ at_value.if-r-start.false,
       at_value.if-r.false,
-      too-high _ (simp (to_z-of_z (value-fits at_value)) at c.if-value-gt2147483647.true),
+      too_high _ (simp (to_z-of_z (value_fits at_value)) at c.if-value-gt2147483647.true),
     )
 
 -- neither below nor above: the number has 32 bits
@@ -58,18 +58,18 @@ module _ (c : tie.Else-value-gt2147483647) where
   abbrev z : ℤ
   z = at_value.before.before.before.before.args.r.value
 
-  has-32-bits : fits32 z ≡ true
-  has-32-bits =
-      between z (simp (to_z-of_z (value-fits at_value)) at c.if-value-ltminus2147483648.false) (simp (to_z-of_z (value-fits at_value)) at c.if-value-gt2147483647.false)
+  has_32_bits : fits32 z ≡ true
+  has_32_bits =
+      between z (simp (to_z-of_z (value_fits at_value)) at c.if-value-ltminus2147483648.false) (simp (to_z-of_z (value_fits at_value)) at c.if-value-gt2147483647.false)
 
 cast : tie.Need-overflow_cast-result
-cast c = simp (to_z-of_z (value-fits (at_value c))) (fits-of (z c) (has-32-bits c))
+cast c = simp (to_z-of_z (value_fits (at_value c))) (fits_of (z c) (has_32_bits c))
 
 -- the number that was read
 returns-5 : tie.Need-returns
 returns-5 c =
-    simp (to_z-of_z (value-fits (at_value c)), to_z-of_z (fits-of (z c) (has-32-bits c)))
-    (accepted _ _ _ c.if-r-start.false c.if-r.false (has-32-bits c))
+    simp (to_z-of_z (value_fits (at_value c)), to_z-of_z (fits_of (z c) (has_32_bits c)))
+    (accepted _ _ _ c.if-r-start.false c.if-r.false (has_32_bits c))
 
 pub checked_spec : {M : Type 1} → statement M
 checked_spec = tie.close (tie.spec returns returns-2 returns-3 returns-4 cast returns-5)

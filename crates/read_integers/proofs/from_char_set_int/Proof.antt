@@ -10,17 +10,17 @@ use Rattle.read_integers.proofs.from_char_set_int.Tie as tie
 -- the field is absent
 returns : tie.Need-returns-then-old-eq0
 returns c =
-    let at-start = c.before in
-    rw (← same_bits at-start.args.old (pos 0) at-start.ranges.old (omega arith), c.if-old-eq0.true)
+    let at_start = c.before in
+    rw (← same_bits at_start.args.old (pos 0) at_start.ranges.old (omega arith), c.if-old-eq0.true)
 
 -- it holds a value: whether that is another
 returns-2 : tie.Need-returns
 returns-2 c =
-    let at-start = c.before in
+    let at_start = c.before in
     rw (
-      ← same_bits at-start.args.old (pos 0) at-start.ranges.old (omega arith),
+      ← same_bits at_start.args.old (pos 0) at_start.ranges.old (omega arith),
       ne_eqb _ _ c.if-old-eq0.false,
-      same_bits _ _ at-start.ranges.old at-start.ranges.new,
+      same_bits _ _ at_start.ranges.old at_start.ranges.new,
     )
 
 pub from_char_set_int_spec : {M : Type 1} → statement M

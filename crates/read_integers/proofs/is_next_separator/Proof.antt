@@ -12,8 +12,8 @@ use Rattle.read_integers.proofs.is_next_separator.Tie as tie
 returns : tie.Need-returns-then-n-ne0
 unfolding ends_number
 returns c =
-    let has-suffix : ordinal c.args.n.suffix ≡ true = ap not (ne_eqb _ _ c.if-n-ne0.true) in
-    rw has-suffix
+    let has_suffix : ordinal c.args.n.suffix ≡ true = ap not (ne_eqb _ _ c.if-n-ne0.true) in
+    rw has_suffix
 
 -- the template ends
 returns-2 : tie.Need-returns-then-next-eq-FN_END
@@ -31,21 +31,21 @@ returns-3 c =
 returns-4 : tie.Need-returns-then-next-ne1
 unfolding ends_number
 returns-4 c =
-    let no-pattern = c.before.before in
-    let no_end = no-pattern.before.before in
-    rw (no_end.if-n-ne0.false, ne_eqb _ _ no_end.if-next-eq-FN_END.false, ne_eqb _ _ no-pattern.if-next-eq-FN_ACTION.false, ne_eqb _ _ c.if-next-ne1.true)
+    let no_pattern = c.before.before in
+    let no_end = no_pattern.before.before in
+    rw (no_end.if-n-ne0.false, ne_eqb _ _ no_end.if-next-eq-FN_END.false, ne_eqb _ _ no_pattern.if-next-eq-FN_ACTION.false, ne_eqb _ _ c.if-next-ne1.true)
 
 -- a literal of one byte: whether it is a digit
 returns-5 : tie.Need-returns
 unfolding ends_number
 returns-5 c =
     let one_byte = c.before.before.before in
-    let no-pattern = one_byte.before.before in
-    let no_end = no-pattern.before.before in
+    let no_pattern = one_byte.before.before in
+    let no_end = no_pattern.before.before in
     rw (
       no_end.if-n-ne0.false,
       ne_eqb _ _ no_end.if-next-eq-FN_END.false,
-      ne_eqb _ _ no-pattern.if-next-eq-FN_ACTION.false,
+      ne_eqb _ _ no_pattern.if-next-eq-FN_ACTION.false,
       one_byte.if-next-ne1.false,
       c.is_digit_c.ensures,
       c.byte_at.ensures,

@@ -20,10 +20,10 @@ unfolding past_ordinal measure_of
 returns-3 c =
     let first = c.pg_mblen.ensures in
     let second = c.pg_mblen-2.ensures in
-    let at-mode = c.before.before in
-    let off : at-mode.args.accents ≡ false = search rules in
+    let at_mode = c.before.before in
+    let off : at_mode.args.accents ≡ false = search rules in
     record {
-      is = rw (ne_eqb _ _ at-mode.if-suffix-eq0.false, off, second.is, first.is);
+      is = rw (ne_eqb _ _ at_mode.if-suffix-eq0.false, off, second.is, first.is);
       from = omega arith;
       within = omega arith;
     }
@@ -40,10 +40,10 @@ skip_th_spec =
     (λ c. omega arith)
     -- past two characters in the accents mode
     (λ c.
-    let at-mode = c.before.before in
-    let on : at-mode.args.accents ≡ true = search rules in
+    let at_mode = c.before.before in
+    let on : at_mode.args.accents ≡ true = search rules in
     record {
-      is = rw (ne_eqb _ _ at-mode.if-suffix-eq0.false, on) (cc);
+      is = rw (ne_eqb _ _ at_mode.if-suffix-eq0.false, on) (cc);
       from = omega arith;
       within = omega arith;
     })

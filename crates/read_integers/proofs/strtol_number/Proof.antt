@@ -3,7 +3,7 @@
 use mathlib.Core.Path.{◌∙◌, ap}
 use borrow.Author.Rules.{rules}
 use Rattle.read_integers.specs.Number.{checked}
-use Rattle.read_integers.proofs.Numbers.{found-free, found-fixed}
+use Rattle.read_integers.proofs.Numbers.{found_free, found_fixed}
 use Rattle.read_integers.proofs.strtol_number.Statement.{statement}
 use Rattle.read_integers.proofs.strtol_number.Tie as tie
 
@@ -11,13 +11,13 @@ use Rattle.read_integers.proofs.strtol_number.Tie as tie
 returns : tie.Need-returns-then-free
 returns c =
     let if-free = c.before.before in
-    found-free _ _ _ _ if-free.requires _ _ if-free.if-free.true (c.checked.ensures ∙ ap (checked _ _) c.c_strtol.ensures)
+    found_free _ _ _ _ if-free.requires _ _ if-free.if-free.true (c.checked.ensures ∙ ap (checked _ _) c.c_strtol.ensures)
 
 -- of a fixed width
 returns-2 : tie.Need-returns
 returns-2 c =
-    let not-Free = c.before in
-    found-fixed _ _ _ _ not-Free.requires _ _ not-Free.if-free.false c.fixed.ensures
+    let not_Free = c.before in
+    found_fixed _ _ _ _ not_Free.requires _ _ not_Free.if-free.false c.fixed.ensures
 
 pub strtol_number_spec : {M : Type 1} → statement M
 strtol_number_spec =

@@ -2,7 +2,7 @@
 -- Assumes nothing.
 use mathlib.Core.Path.{◌∙◌, sym}
 use borrow.Author.Rules.{rules}
-use Rattle.read_literals.proofs.Literals.{blank-taken, blank-paid}
+use Rattle.read_literals.proofs.Literals.{blank_taken, blank_paid}
 use Rattle.read_literals.proofs.blank_passed.Statement.{statement}
 use Rattle.read_literals.proofs.blank_passed.Tie as tie
 
@@ -11,7 +11,7 @@ returns : tie.Need-returns-then-is_blank
 returns c =
     let after_test_lem = c.before in
     let args = after_test_lem.args in
-    blank-taken args.s.now args.p (rw after_test_lem.byte_at.ensures at (sym after_test_lem.is_blank.ensures ∙ c.if-is_blank.true))
+    blank_taken args.s.now args.p (rw after_test_lem.byte_at.ensures at (sym after_test_lem.is_blank.ensures ∙ c.if-is_blank.true))
 
 -- none there: a skipped space pays
 returns-2 : tie.Need-returns
@@ -19,7 +19,7 @@ returns-2 c =
     let after_test_lem = c.before.before in
     let args = after_test_lem.args in
     rw c.less_one.ensures
-    (blank-paid args.s.now args.p (rw after_test_lem.byte_at.ensures at (sym after_test_lem.is_blank.ensures ∙ c.if-is_blank.false)))
+    (blank_paid args.s.now args.p (rw after_test_lem.byte_at.ensures at (sym after_test_lem.is_blank.ensures ∙ c.if-is_blank.false)))
 
 pub blank_passed_spec : {M : Type 1} → statement M
 blank_passed_spec =

@@ -6,7 +6,7 @@ use native.Mathlib.Omega.{arith}
 use borrow.Author.Rules.{rules}
 use lib.ListN.{drop}
 use Rattle.base_strtol.specs.Runs.{spaces}
-use Rattle.read_literals.proofs.Literals.{spaces-few}
+use Rattle.read_literals.proofs.Literals.{spaces_few}
 use Rattle.read_literals.proofs.spaces_skipped.Statement.{statement}
 use Rattle.read_literals.proofs.spaces_skipped.Tie as tie
 
@@ -14,7 +14,7 @@ use Rattle.read_literals.proofs.spaces_skipped.Tie as tie
 add-extra : tie.Need-overflow_add-extra
 add-extra c =
     let args = c.args in
-    omega (arith, c.past_spaces-next.ensures, spaces-few args.s.now args.p)
+    omega (arith, c.past_spaces-next.ensures, spaces_few args.s.now args.p)
 
 returns : tie.Need-returns
 returns c =

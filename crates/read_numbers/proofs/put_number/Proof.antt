@@ -8,11 +8,11 @@ use Rattle.read_numbers.proofs.put_number.Tie as tie
 
 returns : tie.Need-returns
 returns c =
-    let after-put = c.before.before in
-    let after_kept = after-put.before in
+    let after_put = c.before.before in
+    let after_kept = after_put.before in
     simp (
       c.noted.ensures,
-      after-put.put.ensures,
+      after_put.put.ensures,
       returned after_kept.kept.type_inv after_kept.kept.ensures,
       to_z-of_z after_kept.ranges.z,
     )

@@ -8,17 +8,17 @@ use Rattle.read_numbers.proofs.read_dropped.Tie as tie
 returns : tie.Need-returns-in-Refused
 unfolding dropped_number
 returns c values =
-    let at-refused = c.before in
-    rw (← at-refused.parse_int_len.ensures.is, at-refused.in-Refused.is, c.refuse.ensures)
+    let at_refused = c.before in
+    rw (← at_refused.parse_int_len.ensures.is, at_refused.in-Refused.is, c.refuse.ensures)
 
 -- a number, and past its ordinal suffix
 returns-2 : tie.Need-returns-in-Read
 unfolding dropped_number
 returns-2 c values =
-    let after-place = c.before in
-    let at_read = after-place.before.before in
+    let after_place = c.before in
+    let at_read = after_place.before.before in
     rw (← at_read.parse_int_len.ensures.is, at_read.in-Read.is)
-    (simp (c.read.ensures, after-place.at_place.ensures, after-place.skip_th.ensures.is))
+    (simp (c.read.ensures, after_place.at_place.ensures, after_place.skip_th.ensures.is))
 
 pub read_dropped_spec : {M : Type 1} → statement M
 read_dropped_spec =

@@ -12,13 +12,13 @@ use Rattle.read_numbers.proofs.stored_number.Statement.{statement}
 use Rattle.read_numbers.proofs.stored_number.Tie as tie
 
 -- the number that was read has 32 bits, and ends after its place
-value-fits : (c : tie.In-Read) → SFits w32 c.in-Read.value
-value-fits c = search rules
+value_fits : (c : tie.In-Read) → SFits w32 c.in-Read.value
+value_fits c = search rules
 
 moved_on : (c : tie.In-Read) → c.args.p.at < c.in-Read.next
 moved_on c =
-    let at-start = c.before.before in
-    (rw c.in-Read.is at at-start.requires.1).0
+    let at_start = c.before.before in
+    (rw c.in-Read.is at at_start.requires.1).0
 
 -- the field was set to another value
 returns : tie.Need-returns-then-holds_other
@@ -29,7 +29,7 @@ returns c =
     let args = at_read.args in
     rw (
       at_read.in-Read.is,
-      answered args.f.now args.task.field (value-fits at_read) after_test_lem.holds_other.ensures c.if-holds_other.true,
+      answered args.f.now args.task.field (value_fits at_read) after_test_lem.holds_other.ensures c.if-holds_other.true,
       c.refuse-then-holds_other.ensures,
     )
 
@@ -42,20 +42,20 @@ returns-2 c = rw (c.in-Refused.is, c.refuse.ensures)
 returns-3 : tie.Need-returns-else-holds_other
 unfolding stored_number
 returns-3 c =
-    let after-place = c.before in
-    let after-put = after-place.before.before in
-    let not-other = after-put.before.before.before in
-    let after_test_lem = not-other.before in
+    let after_place = c.before in
+    let after_put = after_place.before.before in
+    let not_other = after_put.before.before.before in
+    let after_test_lem = not_other.before in
     let at_read = after_test_lem.before in
     let args = at_read.args in
     simp (
       at_read.in-Read.is,
-      answered args.f.now args.task.field (value-fits at_read) after_test_lem.holds_other.ensures not-other.if-holds_other.false,
+      answered args.f.now args.task.field (value_fits at_read) after_test_lem.holds_other.ensures not_other.if-holds_other.false,
       c.read.ensures,
-      after-place.at_place.ensures,
-      after-place.skip_th.ensures.is,
-      after-put.put_number.ensures,
-      to_z-of_z (value-fits at_read),
+      after_place.at_place.ensures,
+      after_place.skip_th.ensures.is,
+      after_put.put_number.ensures,
+      to_z-of_z (value_fits at_read),
     )
 
 pub stored_number_spec : {M : Type 1} → statement M

@@ -15,8 +15,8 @@ returns c =
 returns-2 : tie.Need-returns-else-d-gt7
 returns-2 c =
     let sum = c.wrapping_add-d in
-    let z-read = to_z-of_z c.ranges.z in
-    simp (simp (returned sum.type_inv sum.ensures, z-read) at c.if-d-gt7.false, returned sum.type_inv sum.ensures, z-read)
+    let z_read = to_z-of_z c.ranges.z in
+    simp (simp (returned sum.type_inv sum.ensures, z_read) at c.if-d-gt7.false, returned sum.type_inv sum.ensures, z_read)
 
 pub sunday_first_spec : {M : Type 1} → statement M
 sunday_first_spec = tie.close (tie.spec (λ c κs. search rules) returns returns-2)

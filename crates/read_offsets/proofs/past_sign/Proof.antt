@@ -6,7 +6,7 @@ use native.Mathlib.Omega.{arith}
 use borrow.Author.Rules.{rules}
 use lib.ListN.{length}
 use Rattle.base_notation.specs.Text.{byte_at}
-use Rattle.base_notation.proofs.Bytes.{byte-within}
+use Rattle.base_notation.proofs.Bytes.{byte_within}
 use Rattle.read_offsets.specs.Offsets.{is_sign}
 use Rattle.read_offsets.proofs.past_sign.Statement.{statement}
 use Rattle.read_offsets.proofs.past_sign.Tie as tie
@@ -21,12 +21,12 @@ tested c = rw c.byte_at.ensures at c.is_sign.ensures
 inside : (c : tie.Then-is_sign) → let args = c.args in args.at < length args.s.now
 inside c =
     let args = c.args in
-    byte-within args.s.now args.at (λ z. true≢false (sym c.if-is_sign.true ∙ tested c.before ∙ rw z))
+    byte_within args.s.now args.at (λ z. true≢false (sym c.if-is_sign.true ∙ tested c.before ∙ rw z))
 
 -- past a sign
 returns : tie.Need-returns-then-is_sign
 returns c =
-    let in-text = inside c in
+    let in_text = inside c in
     record { is = rw (sym (tested c.before) ∙ c.if-is_sign.true); within = omega arith }
 
 -- no sign: the place as it is

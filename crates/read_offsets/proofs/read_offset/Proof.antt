@@ -32,33 +32,33 @@ hours : (c : tie.After-stored_offset-hours) →
     ≡ stored_offset args.n tzh (number_at args.s.now (past_sign args.s.now args.p.at) 2 args.n.pattern args.free)
     (put (fields_of args.f.now) tzsign (sign_of args.s.now args.p)) args.p
 hours c =
-    let after-number = c.before.before in
-    let after-sign = after-number.before in
-    let after-put = after-sign.before in
-    let sign = after-put.sign_of in
-    let signed = rw (returned sign.type_inv sign.ensures) at after-put.put.ensures in
-    rw (← after-sign.past_sign.ensures.is, ← after-number.strtol_number-number.ensures.is, ← signed) c.stored_offset-hours.ensures
+    let after_number = c.before.before in
+    let after_sign = after_number.before in
+    let after_put = after_sign.before in
+    let sign = after_put.sign_of in
+    let signed = rw (returned sign.type_inv sign.ensures) at after_put.put.ensures in
+    rw (← after_sign.past_sign.ensures.is, ← after_number.strtol_number-number.ensures.is, ← signed) c.stored_offset-hours.ensures
 
 -- where the letter was tested: there was none
-abbrev no-letter : tie.After-stored_offset-hours → tie.Else-is_zone_letter
-no-letter c = c.before.before.before.before.before.before.before
+abbrev no_letter_lem : tie.After-stored_offset-hours → tie.Else-is_zone_letter
+no_letter_lem c = c.before.before.before.before.before.before.before
 
 -- the hours were refused
 returns-2 : tie.Need-returns-in-Refused
 unfolding read_offset then_minutes
 returns-2 c =
-    let after-hours = c.before in
-    let at_test = no-letter after-hours in
-    rw (sym (tested at_test.before) ∙ at_test.if-is_zone_letter.false, ← hours after-hours, c.in-Refused.is)
+    let after_hours = c.before in
+    let at_test = no_letter_lem after_hours in
+    rw (sym (tested at_test.before) ∙ at_test.if-is_zone_letter.false, ← hours after_hours, c.in-Refused.is)
 
 -- the hours were read: the minutes after them
 returns-3 : tie.Need-returns-in-Read
 unfolding read_offset then_minutes
 returns-3 c =
-    let at-verdict = c.before.before.before in
-    let after-hours = at-verdict.before in
-    let at_test = no-letter after-hours in
-    rw (sym (tested at_test.before) ∙ at_test.if-is_zone_letter.false, ← hours after-hours, at-verdict.in-Read.is) c.colon_minutes.ensures
+    let at_verdict = c.before.before.before in
+    let after_hours = at_verdict.before in
+    let at_test = no_letter_lem after_hours in
+    rw (sym (tested at_test.before) ∙ at_test.if-is_zone_letter.false, ← hours after_hours, at_verdict.in-Read.is) c.colon_minutes.ensures
 
 pub read_offset_spec : {M : Type 1} → statement M
 read_offset_spec =

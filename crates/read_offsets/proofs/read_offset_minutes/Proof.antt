@@ -6,8 +6,8 @@ use Rattle.read_offsets.proofs.read_offset_minutes.Tie as tie
 
 returns : tie.Need-returns
 returns c =
-    let after-sign = c.before.before in
-    rw (← after-sign.strtol_number-number.ensures.is, ← after-sign.with_sign.ensures) c.stored_offset.ensures
+    let after_sign = c.before.before in
+    rw (← after_sign.strtol_number-number.ensures.is, ← after_sign.with_sign.ensures) c.stored_offset.ensures
 
 pub read_offset_minutes_spec : {M : Type 1} → statement M
 read_offset_minutes_spec =

@@ -79,8 +79,8 @@ sign_of_spec =
     -- no sign, and no space was skipped: plus
     (λ c.
     let no_sign = c.before.before in
-    let none-skipped : no_sign.args.p.extra ≡ 0 = omega arith in
-    rw (sym (tested no_sign.before) ∙ no_sign.if-is_sign.false, none-skipped))
+    let none_skipped : no_sign.args.p.extra ≡ 0 = omega arith in
+    rw (sym (tested no_sign.before) ∙ no_sign.if-is_sign.false, none_skipped))
     returns-4
     (λ c. search rules)
     (λ c κs. search rules)

@@ -9,8 +9,8 @@ use Rattle.read_offsets.proofs.stored_offset.Statement.{statement}
 use Rattle.read_offsets.proofs.stored_offset.Tie as tie
 
 -- the number that was read has 32 bits
-value-fits : (c : tie.In-Read) → SFits w32 c.in-Read.value
-value-fits c = search rules
+value_fits : (c : tie.In-Read) → SFits w32 c.in-Read.value
+value_fits c = search rules
 
 -- the field was set to another value
 returns : tie.Need-returns-then-holds_other
@@ -21,7 +21,7 @@ returns c =
     let args = at_read.args in
     rw (
       at_read.in-Read.is,
-      answered args.f.now args.k (value-fits at_read) after_test_lem.holds_other.ensures c.if-holds_other.true,
+      answered args.f.now args.k (value_fits at_read) after_test_lem.holds_other.ensures c.if-holds_other.true,
       c.refuse-then-holds_other.ensures,
     )
 
@@ -34,18 +34,18 @@ returns-2 c = rw (c.in-Refused.is, c.refuse.ensures)
 returns-3 : tie.Need-returns-else-holds_other
 unfolding stored_offset
 returns-3 c =
-    let after-put = c.before.before in
-    let not-other = after-put.before.before in
-    let after_test_lem = not-other.before in
+    let after_put = c.before.before in
+    let not_other = after_put.before.before in
+    let after_test_lem = not_other.before in
     let at_read = after_test_lem.before in
     let args = at_read.args in
     simp (
       at_read.in-Read.is,
-      answered args.f.now args.k (value-fits at_read) after_test_lem.holds_other.ensures not-other.if-holds_other.false,
+      answered args.f.now args.k (value_fits at_read) after_test_lem.holds_other.ensures not_other.if-holds_other.false,
       c.read.ensures,
       c.at_place.ensures,
-      after-put.put.ensures,
-      to_z-of_z (value-fits at_read),
+      after_put.put.ensures,
+      to_z-of_z (value_fits at_read),
     )
 
 pub stored_offset_spec : {M : Type 1} → statement M

@@ -20,17 +20,17 @@ inside c = rw c.in-At.is at c.seq_search_ascii.ensures.inside
 returns : tie.Need-returns-in-Nothing
 unfolding stored_word
 returns c =
-    let after-search = c.before.before in
-    rw (← after-search.list_of.ensures, ← after-search.seq_search_ascii.ensures.is, c.in-Nothing.is, c.refuse.ensures)
+    let after_search = c.before.before in
+    rw (← after_search.list_of.ensures, ← after_search.seq_search_ascii.ensures.is, c.in-Nothing.is, c.refuse.ensures)
 
 -- a word, whose number is stored
 returns-2 : tie.Need-returns-in-At
 unfolding stored_word
 returns-2 c =
-    let after-meant = c.before.before in
-    let at-word = after-meant.before in
-    let after-search = at-word.before in
-    rw (← after-search.list_of.ensures, ← after-search.seq_search_ascii.ensures.is, at-word.in-At.is, ← after-meant.meant.ensures.0)
+    let after_meant = c.before.before in
+    let at_word = after_meant.before in
+    let after_search = at_word.before in
+    rw (← after_search.list_of.ensures, ← after_search.seq_search_ascii.ensures.is, at_word.in-At.is, ← after_meant.meant.ensures.0)
     c.word_stored.ensures
 
 pub read_word_spec : {M : Type 1} → statement M

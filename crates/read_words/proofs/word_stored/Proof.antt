@@ -37,28 +37,28 @@ number_fits c = omega arith
 returns : tie.Need-returns-then-holds_other
 returns c =
     let after_test_lem = c.before.before in
-    let at-start = after_test_lem.before.before in
+    let at_start = after_test_lem.before.before in
     rw (
-      answered at-start.args.f.now at-start.args.task.field (number_fits at-start) after_test_lem.holds_other.ensures c.if-holds_other.true,
+      answered at_start.args.f.now at_start.args.task.field (number_fits at_start) after_test_lem.holds_other.ensures c.if-holds_other.true,
       c.refuse.ensures,
     )
 
 -- the number goes into its field
 returns-2 : tie.Need-returns
 returns-2 c =
-    let after-noted = c.before.before in
-    let after-put = after-noted.before.before in
-    let not-other = after-put.before.before in
-    let after_test_lem = not-other.before in
+    let after_noted = c.before.before in
+    let after_put = after_noted.before.before in
+    let not_other = after_put.before.before in
+    let after_test_lem = not_other.before in
     let after_kept = after_test_lem.before in
-    let at-start = after_kept.before in
-    let args = at-start.args in
+    let at_start = after_kept.before in
+    let args = at_start.args in
     let kept = ap (λ (x : ℕ). put (fields_of args.f.now) args.task.field (pos x)) after_kept.kept_word-kept.ensures in
-    let set = simp (to_z_pos w32 {n = after_kept.kept_word-kept.result} (omega arith)) at after-put.put.ensures ∙ kept in
+    let set = simp (to_z_pos w32 {n = after_kept.kept_word-kept.result} (omega arith)) at after_put.put.ensures ∙ kept in
     stored args.n args.task args.z args.next (fields_of args.f.now) args.p
-    (answered args.f.now args.task.field (number_fits at-start) after_test_lem.holds_other.ensures not-other.if-holds_other.false)
+    (answered args.f.now args.task.field (number_fits at_start) after_test_lem.holds_other.ensures not_other.if-holds_other.false)
     (c.read.ensures ∙ ap (went Read) c.at_place.ensures)
-    (after-noted.noted_word.ensures ∙ ap (noted_word args.task.rule) set)
+    (after_noted.noted_word.ensures ∙ ap (noted_word args.task.rule) set)
 
 pub word_stored_spec : {M : Type 1} → statement M
 word_stored_spec =

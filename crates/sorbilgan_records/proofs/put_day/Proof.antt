@@ -6,27 +6,27 @@ use mir.Syntax.{w32}
 use mir.Val.{SFits}
 use Rattle.calendar_gregorian.proofs.Signed.{wide, wide_fits}
 use Rattle.sorbilgan_records.specs.Records.{day_record}
-use Rattle.sorbilgan_records.proofs.Values.{value-recorded}
+use Rattle.sorbilgan_records.proofs.Values.{value_recorded}
 use Rattle.sorbilgan_records.proofs.put_day.Statement.{statement}
 use Rattle.sorbilgan_records.proofs.put_day.Tie as tie
 
-days-fit : (c : tie.In-Number) → SFits w32 c.in-Number.days
-days-fit c = search rules
+days_fit : (c : tie.In-Number) → SFits w32 c.in-Number.days
+days_fit c = search rules
 
 -- a day
 returns : tie.Need-returns-in-Number
 unfolding day_record
 returns c =
-    let after-alone = c.before.before in
-    let at-days = after-alone.before in
-    value-recorded after-alone.alone.ensures (wide (days-fit at-days)) (ap day_record at-days.in-Number.is) c.put_value.ensures
+    let after_alone = c.before.before in
+    let at_days = after_alone.before in
+    value_recorded after_alone.alone.ensures (wide (days_fit at_days)) (ap day_record at_days.in-Number.is) c.put_value.ensures
 
 -- a refusal
 returns-2 : tie.Need-returns-in-Refused
 unfolding day_record
 returns-2 c =
-    let after-report = c.before.before in
-    value-recorded after-report.report_of.ensures refl (ap day_record after-report.in-Refused.is) c.put_value-in-Refused.ensures
+    let after_report = c.before.before in
+    value_recorded after_report.report_of.ensures refl (ap day_record after_report.in-Refused.is) c.put_value-in-Refused.ensures
 
 pub put_day_spec : {M : Type 1} → statement M
 put_day_spec =
@@ -34,7 +34,7 @@ put_day_spec =
     (tie.spec
     (λ c. search rules)
     (λ c κs. search rules)
-    (λ c. wide_fits (days-fit c.before))
+    (λ c. wide_fits (days_fit c.before))
     (λ c κs. search rules)
     (λ c. search rules)
     (λ c κs. search rules)

@@ -16,22 +16,22 @@ use Rattle.sorbilgan_records.proofs.put_moment.Tie as tie
 ranged : (c : tie.After-struct_told-1) → Ranged c.args.p
 ranged c = search rules
 
-marks-range : (c : tie.After-struct_told-1) → c.args.p.marks < 2 ^ 8
-marks-range c = search rules
+marks_range : (c : tie.After-struct_told-1) → c.args.p.marks < 2 ^ 8
+marks_range c = search rules
 
 -- where the first field is read, as seen from where the fifth is read, and the last
-abbrev from-fifth : tie.After-struct_told-5-1 → tie.After-struct_told-1
-from-fifth c = c.before.before.before.before.before.before.before.before
+abbrev from_fifth : tie.After-struct_told-5-1 → tie.After-struct_told-1
+from_fifth c = c.before.before.before.before.before.before.before.before
 
 abbrev from_last : tie.After-struct_told-8-1 → tie.After-struct_told-1
-from_last c = from-fifth c.before.before.before.before.before.before
+from_last c = from_fifth c.before.before.before.before.before.before
 
 returns : tie.Need-returns
 returns c =
-    let at-precision = c.before.before in
-    let at-year = from_last at-precision in
-    let in-32 = ranged at-year in
-    let in-64 = at-year.ranges in
+    let at_precision = c.before.before in
+    let at_year = from_last at_precision in
+    let in-32 = ranged at_year in
+    let in-64 = at_year.ranges in
     record {
       is = λ i.
           pos 0
@@ -48,7 +48,7 @@ returns c =
           ∷ wide in-32.precision i
           ∷ to_z-of_z in-64.zoned i
           ∷ to_z-of_z in-64.offset i
-          ∷ to_z_pos w64 {n = at-year.args.p.marks} (omega (arith, marks-range at-year)) i
+          ∷ to_z_pos w64 {n = at_year.args.p.marks} (omega (arith, marks_range at_year)) i
           ∷ [];
       number = refl;
     }
@@ -62,9 +62,9 @@ put_moment_spec =
     (λ c. wide_fits (ranged c.before.before).month)
     (λ c. wide_fits (ranged c.before.before.before.before).day)
     (λ c. wide_fits (ranged c.before.before.before.before.before.before).hour)
-    (λ c. wide_fits (ranged (from-fifth c)).minute)
-    (λ c. wide_fits (ranged (from-fifth c.before.before)).second)
-    (λ c. wide_fits (ranged (from-fifth c.before.before.before.before)).micros)
+    (λ c. wide_fits (ranged (from_fifth c)).minute)
+    (λ c. wide_fits (ranged (from_fifth c.before.before)).second)
+    (λ c. wide_fits (ranged (from_fifth c.before.before.before.before)).micros)
     (λ c. wide_fits (ranged (from_last c)).precision)
-    (λ c. record { sfits = omega (arith, marks-range (from_last c.before)) })
+    (λ c. record { sfits = omega (arith, marks_range (from_last c.before)) })
     returns)

@@ -8,32 +8,32 @@ use Rattle.sorbilgan_records.specs.Records.{parts_record}
 use Rattle.sorbilgan_records.proofs.put_parts.Statement.{statement}
 use Rattle.sorbilgan_records.proofs.put_parts.Tie as tie
 
-offset-fits : (c : tie.In-East) → SFits w32 c.in-East.seconds
-offset-fits c = search rules
+offset_fits : (c : tie.In-East) → SFits w32 c.in-East.seconds
+offset_fits c = search rules
 
 -- a moment without an offset
 returns : tie.Need-returns-in-Absent
 unfolding parts_record
 returns c =
-    let at-absent = c.before.before in
-    let at-moment = at-absent.before in
-    rw (at-moment.in-Moment.is, at-absent.in-Absent.is) c.put_moment.ensures
+    let at_absent = c.before.before in
+    let at_moment = at_absent.before in
+    rw (at_moment.in-Moment.is, at_absent.in-Absent.is) c.put_moment.ensures
 
 -- a moment with an offset, an i32 that keeps its value as an i64
 returns-2 : tie.Need-returns-in-East
 unfolding parts_record
 returns-2 c =
     let at_offset = c.before.before in
-    let at-moment = at_offset.before in
-    rw (at-moment.in-Moment.is, at_offset.in-East.is)
-    (rw (wide (offset-fits at_offset)) at c.put_moment-in-East.ensures)
+    let at_moment = at_offset.before in
+    rw (at_moment.in-Moment.is, at_offset.in-East.is)
+    (rw (wide (offset_fits at_offset)) at c.put_moment-in-East.ensures)
 
 -- a refusal
 returns-3 : tie.Need-returns-in-Refused
 unfolding parts_record
 returns-3 c =
-    let after-report = c.before.before in
-    rw after-report.in-Refused.is (rw after-report.report_of.ensures at c.put_refusal.ensures)
+    let after_report = c.before.before in
+    rw after_report.in-Refused.is (rw after_report.report_of.ensures at c.put_refusal.ensures)
 
 pub put_parts_spec : {M : Type 1} → statement M
 put_parts_spec =
@@ -43,7 +43,7 @@ put_parts_spec =
     (λ c. search rules)
     (λ c κs. search rules)
     (λ c. search rules)
-    (λ c. wide_fits (offset-fits c))
+    (λ c. wide_fits (offset_fits c))
     (λ c κs. search rules)
     (λ c. search rules)
     (λ c κs. search rules)

@@ -12,8 +12,8 @@ returns c = rw c.in-Read.is c.put_fields.ensures
 returns-2 : tie.Need-returns-in-Refused
 unfolding parts_record
 returns-2 c =
-    let after-report = c.before.before in
-    rw after-report.in-Refused.is (rw after-report.report_of.ensures at c.put_refusal.ensures)
+    let after_report = c.before.before in
+    rw after_report.in-Refused.is (rw after_report.report_of.ensures at c.put_refusal.ensures)
 
 pub put_read_spec : {M : Type 1} → statement M
 put_read_spec =

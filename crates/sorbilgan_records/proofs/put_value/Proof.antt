@@ -11,8 +11,8 @@ ranged c = search rules
 
 returns : tie.Need-returns
 returns c =
-    let at-start = c.before.before.before.before in
-    record { is = rw (to_z-of_z at-start.ranges.value) (stored (ranged c) _); number = refl }
+    let at_start = c.before.before.before.before in
+    record { is = rw (to_z-of_z at_start.ranges.value) (stored (ranged c) _); number = refl }
 
 pub put_value_spec : {M : Type 1} → statement M
 put_value_spec = tie.close (tie.spec (λ c. search rules) (λ c. search rules) returns)

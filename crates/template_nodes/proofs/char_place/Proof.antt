@@ -6,7 +6,7 @@ use native.Mathlib.Omega.{arith}
 use borrow.Author.Rules.{rules}
 use borrow.Author.Tests.{eq-eqb, ne_eqb, lt-ltb, le-ltb}
 use Rattle.template_nodes.specs.Template.{char_place}
-use Rattle.base_notation.proofs.Bytes.{byte-within}
+use Rattle.base_notation.proofs.Bytes.{byte_within}
 use Rattle.template_nodes.proofs.char_place.Statement.{statement}
 use Rattle.template_nodes.proofs.char_place.Tie as tie
 
@@ -20,9 +20,9 @@ returns c =
 returns-2 : tie.Need-returns-then-at-t
 unfolding char_place
 returns-2 c =
-    let at-backslash = c.before.before in
+    let at_backslash = c.before.before in
     record {
-      is = simp (at-backslash.if-t-at-ne92.false, c.if-quoted.true, lt-ltb _ _ c.if-at-t.true);
+      is = simp (at_backslash.if-t-at-ne92.false, c.if-quoted.true, lt-ltb _ _ c.if-at-t.true);
       from = omega arith;
       near = omega arith;
       within = c.if-at-t.true;
@@ -32,9 +32,9 @@ returns-2 c =
 returns-3 : tie.Need-returns-then-quoted
 unfolding char_place
 returns-3 c =
-    let at-backslash = c.before.before in
+    let at_backslash = c.before.before in
     record {
-      is = simp (at-backslash.if-t-at-ne92.false, c.if-quoted.true, le-ltb _ _ c.if-at-t.false);
+      is = simp (at_backslash.if-t-at-ne92.false, c.if-quoted.true, le-ltb _ _ c.if-at-t.false);
       from = omega arith;
       near = omega arith;
       within = search rules;
@@ -44,23 +44,23 @@ returns-3 c =
 returns-4 : tie.Need-returns-then-byte_at-eq34
 unfolding char_place
 returns-4 c =
-    let at-backslash = c.before.before.before in
-    let args = at-backslash.args in
-    let is-quote = sym c.byte_at.ensures ∙ c.if-byte_at-eq34.true in
+    let at_backslash = c.before.before.before in
+    let args = at_backslash.args in
+    let is_quote = sym c.byte_at.ensures ∙ c.if-byte_at-eq34.true in
     record {
-      is = simp (at-backslash.if-t-at-ne92.false, c.if-quoted.false, eq-eqb _ _ is-quote);
+      is = simp (at_backslash.if-t-at-ne92.false, c.if-quoted.false, eq-eqb _ _ is_quote);
       from = omega arith;
       near = omega arith;
-      within = byte-within args.t.now _ (λ z. omega (arith, is-quote, z));
+      within = byte_within args.t.now _ (λ z. omega (arith, is_quote, z));
     }
 
 -- outside quotes, any other backslash
 returns-5 : tie.Need-returns
 unfolding char_place
 returns-5 c =
-    let at-backslash = c.before.before.before in
+    let at_backslash = c.before.before.before in
     record {
-      is = simp (at-backslash.if-t-at-ne92.false, c.if-quoted.false, ne_eqb _ _ (λ z. c.if-byte_at-eq34.false (c.byte_at.ensures ∙ z)));
+      is = simp (at_backslash.if-t-at-ne92.false, c.if-quoted.false, ne_eqb _ _ (λ z. c.if-byte_at-eq34.false (c.byte_at.ensures ∙ z)));
       from = omega arith;
       near = omega arith;
       within = search rules;

@@ -11,14 +11,14 @@ returns c = rw c.if-not-quoted.true
 -- the quote that ends them
 returns-2 : tie.Need-returns-then-t-at-eq34
 returns-2 c =
-    let in-quotes = c.before.before in
-    rw (in-quotes.if-not-quoted.false, eq-eqb _ 34 c.if-t-at-eq34.true)
+    let in_quotes = c.before.before in
+    rw (in_quotes.if-not-quoted.false, eq-eqb _ 34 c.if-t-at-eq34.true)
 
 -- any other byte in quotes
 returns-3 : tie.Need-returns
 returns-3 c =
-    let in-quotes = c.before.before.before in
-    rw (in-quotes.if-not-quoted.false, ne_eqb _ 34 c.if-t-at-eq34.false)
+    let in_quotes = c.before.before.before in
+    rw (in_quotes.if-not-quoted.false, ne_eqb _ 34 c.if-t-at-eq34.false)
 
 pub is_quoted_char_spec : {M : Type 1} → statement M
 is_quoted_char_spec =

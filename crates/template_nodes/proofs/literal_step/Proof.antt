@@ -5,7 +5,7 @@ use native.Mathlib.Omega.{arith}
 use borrow.Author.Rules.{rules}
 use Rattle.template_nodes.specs.Template.{char_at}
 use Rattle.template_nodes.specs.declared.Step.{Step}
-use Rattle.template_nodes.proofs.Steps.{at-quote, at_literal}
+use Rattle.template_nodes.proofs.Steps.{at_quote, at_literal}
 use Rattle.template_nodes.proofs.literal_step.Statement.{statement}
 use Rattle.template_nodes.proofs.literal_step.Tie as tie
 
@@ -13,24 +13,24 @@ use Rattle.template_nodes.proofs.literal_step.Tie as tie
 returns : tie.Need-returns-then-t-at-eq34
 returns c =
     let args = c.args in
-    let next-is = ap (λ (s : Step). s.next) c.skipped.ensures in
+    let next_is = ap (λ (s : Step). s.next) c.skipped.ensures in
     record {
-      is = c.skipped.ensures ∙ sym (at-quote args.accents args.t.now args.at args.quoted c.if-t-at-eq34.true);
+      is = c.skipped.ensures ∙ sym (at_quote args.accents args.t.now args.at args.quoted c.if-t-at-eq34.true);
       on = omega arith;
     }
 
 -- a character
 returns-2 : tie.Need-returns
 returns-2 c =
-    let after-kind = c.before in
-    let after-place = after-kind.before.before in
-    let args = after-place.args in
+    let after_kind = c.before in
+    let after_place = after_kind.before.before in
+    let args = after_place.args in
     let step = c.char_at.ensures in
-    let placed = after-place.char_place-place.ensures in
+    let placed = after_place.char_place-place.ensures in
     record {
       is =
-          step.is ∙ ap (λ (k : ℕ). char_at args.accents args.t.now after-place.char_place-place.result k args.quoted) after-kind.literal_kind.ensures
-          ∙ sym (at_literal args.accents args.t.now args.at args.quoted after-place.if-t-at-eq34.false after-place.char_place-place.result placed.is);
+          step.is ∙ ap (λ (k : ℕ). char_at args.accents args.t.now after_place.char_place-place.result k args.quoted) after_kind.literal_kind.ensures
+          ∙ sym (at_literal args.accents args.t.now args.at args.quoted after_place.if-t-at-eq34.false after_place.char_place-place.result placed.is);
       on = omega (arith, step.on, placed.from);
     }
 

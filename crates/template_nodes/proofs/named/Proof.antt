@@ -8,8 +8,8 @@ use Rattle.template_nodes.proofs.named.Tie as tie
 returns : tie.Need-returns
 returns c =
     let suffix = c.fmt_suffix_search-suffix in
-    let next-is = c.past_affix.ensures in
-    record { is = rw (next-is, suffix.ensures); from = omega (arith, next-is); on = λ q. omega (arith, next-is) }
+    let next_is = c.past_affix.ensures in
+    record { is = rw (next_is, suffix.ensures); from = omega (arith, next_is); on = λ q. omega (arith, next_is) }
 
 pub named_spec : {M : Type 1} → statement M
 named_spec =

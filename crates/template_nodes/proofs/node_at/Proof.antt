@@ -7,7 +7,7 @@ use borrow.Author.Rules.{rules}
 use lib.ListN.{get_or, get_or-eq_default}
 use Rattle.template_nodes.specs.Bytes.{nodes_in}
 use Rattle.template_nodes.specs.Template.{end_node}
-use Rattle.template_nodes.proofs.Encoding.{node_in, nodes-length}
+use Rattle.template_nodes.proofs.Encoding.{node_in, nodes_length}
 use Rattle.template_nodes.proofs.node_at.Statement.{statement}
 use Rattle.template_nodes.proofs.node_at.Tie as tie
 
@@ -45,7 +45,7 @@ returns c =
 returns-2 : tie.Need-returns
 returns-2 c =
     let bytes = c.args.c.now in
-    sym (get_or-eq_default (nodes_in bytes) end_node (omega (arith, nodes-length bytes, c.if-i-c.false)))
+    sym (get_or-eq_default (nodes_in bytes) end_node (omega (arith, nodes_length bytes, c.if-i-c.false)))
 
 pub node_at_spec : {M : Type 1} → statement M
 node_at_spec =

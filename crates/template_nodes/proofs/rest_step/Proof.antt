@@ -16,9 +16,9 @@ returns c =
 -- the end
 returns-2 : tie.Need-returns
 returns-2 c =
-    let next-is = ap (λ (s : Step). s.next) c.skipped.ensures in
-    let at-end = c.if-at-t.false in
-    record { is = rw (le-ltb _ _ at-end) c.skipped.ensures; from = omega (arith, next-is); on = λ h. absurd (omega (arith, h, at-end)) }
+    let next_is = ap (λ (s : Step). s.next) c.skipped.ensures in
+    let at_end = c.if-at-t.false in
+    record { is = rw (le-ltb _ _ at_end) c.skipped.ensures; from = omega (arith, next_is); on = λ h. absurd (omega (arith, h, at_end)) }
 
 pub rest_step_spec : {M : Type 1} → statement M
 rest_step_spec = tie.close (tie.spec (λ c κs. search rules) returns (λ c κs. search rules) returns-2)

@@ -9,9 +9,9 @@ use Rattle.template_patterns.specs.Numbers.{five_at, name_number}
 use Rattle.template_patterns.specs.Patterns.{names as table}
 use Rattle.template_patterns.specs.Search.{pattern_at, first_at}
 use Rattle.template_patterns.specs.declared.Found.TheVariants.{Pattern}
-use Rattle.template_patterns.proofs.Keys.{key-begins, key-first, number-parts}
-use Rattle.template_patterns.proofs.Names.{name-length}
-use Rattle.template_patterns.proofs.Search.{begins, none-on, found, next}
+use Rattle.template_patterns.proofs.Keys.{key_begins, key_first, number_parts}
+use Rattle.template_patterns.proofs.Names.{name_length}
+use Rattle.template_patterns.proofs.Search.{begins, none_on, found, next}
 use Rattle.template_patterns.proofs.fmt_index_search.Statement.{statement}
 use Rattle.template_patterns.proofs.fmt_index_search.Tie as tie
 
@@ -39,60 +39,60 @@ loop-holds c =
 -- name k begins with another byte: no later name is there
 returns-2 : tie.Need-returns-then-name-key invariant-loop decreases-loop
 returns-2 c =
-    let at-loop = c.before.before.before in
-    let k = at-loop.loop-k.k in
-    let key = at-loop.key_at-key.ensures in
-    let after_first = at-loop.before.before.before in
+    let at_loop = c.before.before.before in
+    let k = at_loop.loop-k.k in
+    let key = at_loop.key_at-key.ensures in
+    let after_first = at_loop.before.before.before in
     let args = after_first.args in
     let in_table = c.loop-k-test.true in
     let same_first = c.name_of-name.ensures in
-    let name-first = rw (← same_first) at (number-parts k in_table).first in
-    let key-begins-with = rw (← key.is) at (key-first args.t.now key.bytes args.at) in
-    sym (at-loop.loop-k.invariant.2
-    ∙ none-on args.t.now args.at after_first.first_of-k.result k after_first.first_of-k.ensures in_table at-loop.loop-k.invariant.0
-    (λ q. c.if-name-key.true (name-first ∙ q ∙ sym key-begins-with)))
+    let name_first = rw (← same_first) at (number_parts k in_table).first in
+    let key_begins_with = rw (← key.is) at (key_first args.t.now key.bytes args.at) in
+    sym (at_loop.loop-k.invariant.2
+    ∙ none_on args.t.now args.at after_first.first_of-k.result k after_first.first_of-k.ensures in_table at_loop.loop-k.invariant.0
+    (λ q. c.if-name-key.true (name_first ∙ q ∙ sym key_begins_with)))
 
 -- a name has at most 40 bits
 begins-requires : tie.Need-begins-requires invariant-loop decreases-loop
 begins-requires c κs =
     let in_table = c.loop-k-test.true in
     let k = c.loop-k.k in
-    let name-is = c.name_of-name.ensures in
-    let bits = rw (← name-is) at (number-parts k in_table).bits in
-    omega (arith, bits, name-length k in_table)
+    let name_is = c.name_of-name.ensures in
+    let bits = rw (← name_is) at (number_parts k in_table).bits in
+    omega (arith, bits, name_length k in_table)
 
 -- name k is there
 returns-3 : tie.Need-returns-then-begins invariant-loop decreases-loop
 returns-3 c =
-    let at-loop = c.before.before.before.before.before in
-    let k = at-loop.loop-k.k in
-    let key = at-loop.key_at-key.ensures in
-    let args = at-loop.args in
+    let at_loop = c.before.before.before.before.before in
+    let k = at_loop.loop-k.k in
+    let key = at_loop.key_at-key.ensures in
+    let args = at_loop.args in
     let in_table = c.loop-k-test.true in
-    let name-is = c.name_of-name.ensures in
-    let told = key-begins args.t.now key.bytes args.at k in_table in
-    let is-there = sym told ∙ sym (rw (← key.is, ← name-is) c.begins.ensures) ∙ c.if-begins.true in
-    ap (Pattern k) (rw (← name-is) at (number-parts k in_table).size) ∙ sym (at-loop.loop-k.invariant.2 ∙ found args.t.now args.at k in_table is-there)
+    let name_is = c.name_of-name.ensures in
+    let told = key_begins args.t.now key.bytes args.at k in_table in
+    let is_there = sym told ∙ sym (rw (← key.is, ← name_is) c.begins.ensures) ∙ c.if-begins.true in
+    ap (Pattern k) (rw (← name_is) at (number_parts k in_table).size) ∙ sym (at_loop.loop-k.invariant.2 ∙ found args.t.now args.at k in_table is_there)
 
 -- name k is not there
 loop-again : tie.Need-loop-k-preserved invariant-loop decreases-loop
 loop-again c =
-    let at-loop = c.before.before.before.before.before in
-    let k = at-loop.loop-k.k in
-    let key = at-loop.key_at-key.ensures in
-    let args = at-loop.args in
+    let at_loop = c.before.before.before.before.before in
+    let k = at_loop.loop-k.k in
+    let key = at_loop.key_at-key.ensures in
+    let args = at_loop.args in
     let in_table = c.loop-k-test.true in
-    let name-is = c.name_of-name.ensures in
-    let told = key-begins args.t.now key.bytes args.at k in_table in
-    let not_there = sym told ∙ sym (rw (← key.is, ← name-is) c.begins.ensures) ∙ c.if-begins.false in
-    (search rules, search rules, at-loop.loop-k.invariant.2 ∙ next args.t.now args.at k in_table not_there)
+    let name_is = c.name_of-name.ensures in
+    let told = key_begins args.t.now key.bytes args.at k in_table in
+    let not_there = sym told ∙ sym (rw (← key.is, ← name_is) c.begins.ensures) ∙ c.if-begins.false in
+    (search rules, search rules, at_loop.loop-k.invariant.2 ∙ next args.t.now args.at k in_table not_there)
 
 -- no name is left
 returns-4 : tie.Need-returns invariant-loop decreases-loop
 returns-4 c =
-    let at-loop = c.loop-k in
-    let at-end : at-loop.k ≡ 112 = omega arith in
-    sym (rw at-end at at-loop.invariant.2)
+    let at_loop = c.loop-k in
+    let at_end : at_loop.k ≡ 112 = omega arith in
+    sym (rw at_end at at_loop.invariant.2)
 
 pub fmt_index_search_spec : {M : Type 1} → statement M
 fmt_index_search_spec =

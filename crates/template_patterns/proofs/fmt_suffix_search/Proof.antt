@@ -3,7 +3,7 @@
 use mathlib.Core.Path.{sym}
 use mathlib.Core.Bool.{true, false}
 use borrow.Author.Rules.{rules}
-use Rattle.template_patterns.proofs.Affixes.{by-letters, none_below, none-past}
+use Rattle.template_patterns.proofs.Affixes.{by_letters, none_below, none_past}
 use Rattle.template_patterns.proofs.fmt_suffix_search.Statement.{statement}
 use Rattle.template_patterns.proofs.fmt_suffix_search.Tie as tie
 
@@ -11,7 +11,7 @@ use Rattle.template_patterns.proofs.fmt_suffix_search.Tie as tie
 returns : tie.Need-returns-then-at-t
 returns c =
     let args = c.args in
-    sym (none-past args.prefix args.t.now args.at c.if-at-t.true)
+    sym (none_past args.prefix args.t.now args.at c.if-at-t.true)
 
 -- a byte that no affix begins with
 returns-2 : tie.Need-returns-then-a-lt70
@@ -22,16 +22,16 @@ returns-2 c =
 -- a prefix is wanted
 returns-3 : tie.Need-returns-then-prefix
 returns-3 c =
-    let after-byte = c.before.before in
-    let args = after-byte.args in
-    rw (c.if-prefix.true, by-letters true args.t.now args.at, ← after-byte.byte_at-b.ensures) c.prefix_bit.ensures
+    let after_byte = c.before.before in
+    let args = after_byte.args in
+    rw (c.if-prefix.true, by_letters true args.t.now args.at, ← after_byte.byte_at-b.ensures) c.prefix_bit.ensures
 
 -- a suffix is wanted
 returns-4 : tie.Need-returns
 returns-4 c =
-    let after-byte = c.before.before in
-    let args = after-byte.args in
-    rw (c.if-prefix.false, by-letters false args.t.now args.at, ← after-byte.byte_at-b.ensures) c.suffix_bit.ensures
+    let after_byte = c.before.before in
+    let args = after_byte.args in
+    rw (c.if-prefix.false, by_letters false args.t.now args.at, ← after_byte.byte_at-b.ensures) c.suffix_bit.ensures
 
 pub fmt_suffix_search_spec : {M : Type 1} → statement M
 fmt_suffix_search_spec =

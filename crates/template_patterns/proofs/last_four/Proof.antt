@@ -12,13 +12,13 @@ first c = omega (arith, c.shared_slice_known-2-1.given c.args.at)
 
 returns : tie.Need-returns
 returns c =
-    let after-d = c.before.before in
-    let after-c = after-d.before in
-    let after-b = after-c.before in
-    let args = after-b.args in
+    let after_d = c.before.before in
+    let after_c = after_d.before in
+    let after_b = after_c.before in
+    let args = after_b.args in
     let past_end = get_or-eq_default args.t.now 0 {n = args.at + 4} (omega arith) in
     record {
-      is = omega (arith, c.four.ensures, after-d.byte_at-d.ensures, after-c.byte_at-c.ensures, after-b.byte_at-b.ensures, past_end);
+      is = omega (arith, c.four.ensures, after_d.byte_at-d.ensures, after_c.byte_at-c.ensures, after_b.byte_at-b.ensures, past_end);
       bytes = λ i. omega (arith, c.shared_slice_known-2-1.given i);
     }
 

@@ -5,44 +5,44 @@ use native.Mathlib.Omega.{arith}
 use borrow.Author.Rules.{rules}
 use lib.ListN.{length}
 use mir.Syntax.{w32}
-use Rattle.write_pieces.proofs.Lengths.{few_bytes, name-put, piece-size}
-use Rattle.write_pieces.proofs.Moments.{cast, named-month, numbers}
+use Rattle.write_pieces.proofs.Lengths.{few_bytes, name_put, piece_size}
+use Rattle.write_pieces.proofs.Moments.{cast, named_month, numbers}
 use Rattle.write_pieces.proofs.piece_length.Statement.{statement}
 use Rattle.write_pieces.proofs.piece_length.Tie as tie
 
 -- there is such a month
 name-length-requires : tie.Need-name_length-requires
 name-length-requires c κs =
-    let at-start = c.before.before.before in
-    let named = named-month at-start.args.m at-start.requires.1 in
+    let at_start = c.before.before.before in
+    let named = named_month at_start.args.m at_start.requires.1 in
     (named.1, named.2)
 
 -- the full name of a month
 returns : tie.Need-returns-then-piece-eq-MONTH_NAME
 returns c =
     let at_test = c.before.before.before in
-    let at-start = at_test.before in
-    let args = at-start.args in
-    let month = (named-month args.m at-start.requires.1).0 in
+    let at_start = at_test.before in
+    let args = at_start.args in
+    let month = (named_month args.m at_start.requires.1).0 in
     let measured = c.name_length.ensures in
-    (λ case. measured.0 case ∙ ap length (name-put case args.m args.piece _ month at_test.if-piece-eq-MONTH_NAME.true), measured.1)
+    (λ case. measured.0 case ∙ ap length (name_put case args.m args.piece _ month at_test.if-piece-eq-MONTH_NAME.true), measured.1)
 
 -- any other piece
 returns-2 : tie.Need-returns
 returns-2 c =
     let at_test = c.before in
-    let at-start = at_test.before in
-    let args = at-start.args in
+    let at_start = at_test.before in
+    let args = at_start.args in
     let width = c.width_of.ensures in (
-      λ case. width ∙ piece-size case args.m args.piece at-start.requires.1 at-start.requires.0 at_test.if-piece-eq-MONTH_NAME.false,
-      omega (arith, width, few_bytes args.piece at-start.requires.0),
+      λ case. width ∙ piece_size case args.m args.piece at_start.requires.1 at_start.requires.0 at_test.if-piece-eq-MONTH_NAME.false,
+      omega (arith, width, few_bytes args.piece at_start.requires.0),
     )
 
 pub piece_length_spec : {M : Type 1} → statement M
 piece_length_spec =
     tie.close
     (tie.spec
-    (λ c. let at-start = c.before.before.before in cast (numbers _ at-start.requires.1).month w32 tt)
+    (λ c. let at_start = c.before.before.before in cast (numbers _ at_start.requires.1).month w32 tt)
     name-length-requires
     returns
     (λ c κs. search rules)

@@ -6,7 +6,7 @@ use borrow.Author.Rules.{rules}
 use lib.ListN.{get_or}
 use Rattle.write_pieces.specs.Pieces.{piece_of}
 use Rattle.write_pieces.specs.Tables.{letter_of}
-use Rattle.write_pieces.proofs.PieceTable.{letter_at, none-past}
+use Rattle.write_pieces.proofs.PieceTable.{letter_at, none_past}
 use Rattle.write_pieces.proofs.piece_of.Statement.{statement}
 use Rattle.write_pieces.proofs.piece_of.Tie as tie
 
@@ -19,7 +19,7 @@ piece_of_spec =
     tie.close
     (tie.spec
     -- past the table: none
-    (λ c. sym (none-past _ c.if-pattern-ge112.true))
+    (λ c. sym (none_past _ c.if-pattern-ge112.true))
     -- in it: the entry less the letter for none
     (λ c. search rules)
     (λ c. omega (arith, read c.before.before))

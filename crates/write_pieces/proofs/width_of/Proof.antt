@@ -1,7 +1,7 @@
 -- `write_pieces::width_of` meets its contract: each arm is its piece's entry of the definition, and what is no piece has
 -- no width. Assumes nothing.
 use mathlib.Core.Path.{sym}
-use Rattle.write_pieces.proofs.Lengths.{no-width}
+use Rattle.write_pieces.proofs.Lengths.{no_width}
 use Rattle.write_pieces.proofs.width_of.Statement.{statement}
 use Rattle.write_pieces.proofs.width_of.Tie as tie
 
@@ -28,4 +28,4 @@ width_of_spec =
     (λ c. rw c.in-16.is)
     (λ c. rw c.in-17.is)
     -- any other
-    (λ c. sym (no-width c.args.piece c.in_default.in_default-own.rest)))
+    (λ c. sym (no_width c.args.piece c.in_default.in_default-own.rest)))

@@ -27,18 +27,18 @@ returns c = rw (ne_eqb _ 1 c.if-n-ne-FN_ACTION.true)
 -- a pattern that the writer does not know
 returns-2 : tie.Need-returns-then-piece-eq-NONE
 returns-2 c =
-    let after-piece = c.before in
-    let at_test = after-piece.before in
-    unknown at_test.args.n at_test.if-n-ne-FN_ACTION.false _ after-piece.piece_of-piece.ensures c.if-piece-eq-NONE.true
+    let after_piece = c.before in
+    let at_test = after_piece.before in
+    unknown at_test.args.n at_test.if-n-ne-FN_ACTION.false _ after_piece.piece_of-piece.ensures c.if-piece-eq-NONE.true
 
 -- a pattern that it knows: written with its piece's prefix
 returns-3 : tie.Need-returns
 returns-3 c =
-    let after-prefix = c.before in
-    let at-known = after-prefix.before in
-    let after-piece = at-known.before in
-    let at_test = after-piece.before in
-    known at_test.args.n at_test.if-n-ne-FN_ACTION.false _ after-piece.piece_of-piece.ensures at-known.if-piece-eq-NONE.false _ after-prefix.prefix_of.ensures
+    let after_prefix = c.before in
+    let at_known = after_prefix.before in
+    let after_piece = at_known.before in
+    let at_test = after_piece.before in
+    known at_test.args.n at_test.if-n-ne-FN_ACTION.false _ after_piece.piece_of-piece.ensures at_known.if-piece-eq-NONE.false _ after_prefix.prefix_of.ensures
 
 pub is_written_spec : {M : Type 1} → statement M
 is_written_spec =

@@ -8,63 +8,63 @@ use lib.ListN.{take, drop}
 use Rattle.template_patterns.specs.Cases.{case_of}
 use Rattle.write_pieces.specs.Pieces.{piece_of, piece_text}
 use Rattle.write_text.specs.Text.{node_text}
-use Rattle.write_text.proofs.Lengths.{action-text, literal-end, literal-part, literal-text, no-literal}
-use Rattle.write_pieces.proofs.PieceTable.{piece-range}
-use Rattle.write_pieces.proofs.Puts.{put-nothing}
+use Rattle.write_text.proofs.Lengths.{action_text, literal_end, literal_part, literal_text_lem, no_literal}
+use Rattle.write_pieces.proofs.PieceTable.{piece_range}
+use Rattle.write_pieces.proofs.Puts.{put_nothing}
 use Rattle.write_text.proofs.put_node.Statement.{statement}
 use Rattle.write_text.proofs.put_node.Tie as tie
 
 -- the text of a pattern is its piece's, in its case
 piece : (c : tie.Then-n-eq-FN_ACTION) → let args = c.args in
     node_text args.t.now args.m args.n ≡ piece_text (piece_of args.n.pattern) (case_of args.n.pattern) args.m
-piece c = let args = c.args in action-text args.t.now args.m args.n c.if-n-eq-FN_ACTION.true
+piece c = let args = c.args in action_text args.t.now args.m args.n c.if-n-eq-FN_ACTION.true
 
 -- there is room for the piece
 put-piece-requires : tie.Need-put_piece-requires
 put-piece-requires c κs =
-    let after-case = c.before in
-    let after-piece = after-case.before in
-    let at-start = after-piece.before.before.before.before.before in
-    rw (after-piece.piece_of-piece.ensures, after-case.case_of.ensures)
-    (piece-range _, at-start.requires.1, rw (piece after-piece.before) at at-start.requires.2)
+    let after_case = c.before in
+    let after_piece = after_case.before in
+    let at_start = after_piece.before.before.before.before.before in
+    rw (after_piece.piece_of-piece.ensures, after_case.case_of.ensures)
+    (piece_range _, at_start.requires.1, rw (piece after_piece.before) at at_start.requires.2)
 
 -- a pattern
 returns : tie.Need-returns-then-n-eq-FN_ACTION
 returns c =
-    let after-put = c.before.before in
-    let after-case = after-put.before.before in
-    let after-piece = after-case.before in
-    rw (piece after-piece.before, ← after-piece.piece_of-piece.ensures, ← after-case.case_of.ensures) after-put.put_piece.ensures
+    let after_put = c.before.before in
+    let after_case = after_put.before.before in
+    let after_piece = after_case.before in
+    rw (piece after_piece.before, ← after_piece.piece_of-piece.ensures, ← after_case.case_of.ensures) after_put.put_piece.ensures
 
 -- the text of a literal that the template has nothing of
 nothing : (c : tie.Then-len-eq0) → let args = c.args in
     node_text args.t.now args.m args.n ≡ []
 nothing c =
-    let after-length = c.before in
-    let args = after-length.args in
-    literal-text args.t.now args.m args.n after-length.if-n-eq-FN_ACTION.false
-    ∙ no-literal args.t.now args.n _ after-length.literal_length-len.ensures.0 c.if-len-eq0.true
+    let after_length = c.before in
+    let args = after_length.args in
+    literal_text_lem args.t.now args.m args.n after_length.if-n-eq-FN_ACTION.false
+    ∙ no_literal args.t.now args.n _ after_length.literal_length-len.ensures.0 c.if-len-eq0.true
 
 -- the text of any other is a part of the template
-part : (c : tie.Else-len-eq0) → let after-length = c.before in let args = after-length.args in
-    node_text args.t.now args.m args.n ≡ take (args.n.start + after-length.literal_length-len.result - args.n.start) (drop args.n.start args.t.now)
+part : (c : tie.Else-len-eq0) → let after_length = c.before in let args = after_length.args in
+    node_text args.t.now args.m args.n ≡ take (args.n.start + after_length.literal_length-len.result - args.n.start) (drop args.n.start args.t.now)
 part c =
-    let after-length = c.before in
-    let args = after-length.args in
-    literal-text args.t.now args.m args.n after-length.if-n-eq-FN_ACTION.false
-    ∙ sym (literal-part args.t.now args.n _ after-length.literal_length-len.ensures.0)
+    let after_length = c.before in
+    let args = after_length.args in
+    literal_text_lem args.t.now args.m args.n after_length.if-n-eq-FN_ACTION.false
+    ∙ sym (literal_part args.t.now args.n _ after_length.literal_length-len.ensures.0)
 
 -- a literal that the template has nothing of
 returns-2 : tie.Need-returns-then-len-eq0
-returns-2 c = rw (nothing c) (put-nothing _ _)
+returns-2 c = rw (nothing c) (put_nothing _ _)
 
 -- the part ends within the template
 part-put-bytes-end : tie.Need-slice_bounds-put_bytes-end
 part-put-bytes-end c =
     let at_test = c.before in
-    let after-length = at_test.before in
-    let args = after-length.args in
-    literal-end args.t.now args.n _ after-length.literal_length-len.ensures.0 at_test.if-len-eq0.false
+    let after_length = at_test.before in
+    let args = after_length.args in
+    literal_end args.t.now args.n _ after_length.literal_length-len.ensures.0 at_test.if-len-eq0.false
 
 -- there is room for the literal
 put-bytes-requires : tie.Need-put_bytes-requires
@@ -75,8 +75,8 @@ put-bytes-requires c κs =
 -- a literal
 returns-3 : tie.Need-returns
 returns-3 c =
-    let after-put = c.before.before in
-    rw (part after-put.before.before.before.before) after-put.put_bytes.ensures
+    let after_put = c.before.before in
+    rw (part after_put.before.before.before.before) after_put.put_bytes.ensures
 
 pub put_node_spec : {M : Type 1} → statement M
 put_node_spec =

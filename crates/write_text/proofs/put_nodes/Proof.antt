@@ -9,8 +9,8 @@ use lib.Seq.{sets}
 use Rattle.template_nodes.specs.Bytes.{nodes_in}
 use Rattle.write_text.specs.Text.{nodes_text}
 use Rattle.write_text.specs.Writer.{text_in}
-use Rattle.write_pieces.proofs.Puts.{put-length}
-use Rattle.write_text.proofs.Turns.{node-left, none_left, put_next, room-here, text-end}
+use Rattle.write_pieces.proofs.Puts.{put_length}
+use Rattle.write_text.proofs.Turns.{node_left, none_left, put_next, room_here, text_end}
 use Rattle.write_text.proofs.put_nodes.Statement.{statement}
 use Rattle.write_text.proofs.put_nodes.Tie as tie
 
@@ -25,34 +25,34 @@ decreases-loop table c t m out₀ at₀ i₀ out at i = length c / 6 - i
 -- there is room for the node
 put-node-requires : tie.Need-put_node-at-requires invariant-loop decreases-loop
 put-node-requires c κs =
-    let after-node = c.before in
-    let at-loop = after-node.before.before in
-    let at-start = at-loop.before.before.before.before in
-    let args = at-start.args in
-    let left = node-left _ _ after-node.loop-i-test.true in
-    let room = room-here (nodes_in args.c.now) at-loop.loop-i.i left args.t.now args.m _ _ at-loop.loop-i.invariant.2 in
-    (at-start.requires.0, at-start.requires.1, rw after-node.node_at-n.ensures (omega (arith, room, at-loop.loop-i.invariant.1)))
+    let after_node = c.before in
+    let at_loop = after_node.before.before in
+    let at_start = at_loop.before.before.before.before in
+    let args = at_start.args in
+    let left = node_left _ _ after_node.loop-i-test.true in
+    let room = room_here (nodes_in args.c.now) at_loop.loop-i.i left args.t.now args.m _ _ at_loop.loop-i.invariant.2 in
+    (at_start.requires.0, at_start.requires.1, rw after_node.node_at-n.ensures (omega (arith, room, at_loop.loop-i.invariant.1)))
 
 -- the node is put
 loop-again : tie.Need-loop-i-preserved invariant-loop decreases-loop
 loop-again c =
-    let after-put = c.before.before in
-    let after-node = after-put.before.before in
-    let at-loop = after-node.before.before in
-    let at-start = at-loop.before.before.before.before in
-    let args = at-start.args in
-    let put = after-put.put_node-at.ensures in
-    let left = node-left _ _ after-node.loop-i-test.true in
-    let here = rw after-node.node_at-n.ensures at put in
-    let turn = put_next (nodes_in args.c.now) at-loop.loop-i.i left args.t.now args.m _ at-loop.loop-i.invariant.2 here in
-    (omega arith, put-length put ∙ at-loop.loop-i.invariant.1, turn.0, turn.1 ∙ at-loop.loop-i.invariant.3)
+    let after_put = c.before.before in
+    let after_node = after_put.before.before in
+    let at_loop = after_node.before.before in
+    let at_start = at_loop.before.before.before.before in
+    let args = at_start.args in
+    let put = after_put.put_node-at.ensures in
+    let left = node_left _ _ after_node.loop-i-test.true in
+    let here = rw after_node.node_at-n.ensures at put in
+    let turn = put_next (nodes_in args.c.now) at_loop.loop-i.i left args.t.now args.m _ at_loop.loop-i.invariant.2 here in
+    (omega arith, put_length put ∙ at_loop.loop-i.invariant.1, turn.0, turn.1 ∙ at_loop.loop-i.invariant.3)
 
 -- all nodes are put
 returns : tie.Need-returns invariant-loop decreases-loop
 returns c =
-    let at-loop = c.before in
-    let args = at-loop.args in
-    rw (text-end (nodes_in args.c.now) at-loop.loop-i.i (none_left _ _ c.loop-i-test.false) args.t.now args.m) at at-loop.loop-i.invariant.3
+    let at_loop = c.before in
+    let args = at_loop.args in
+    rw (text_end (nodes_in args.c.now) at_loop.loop-i.i (none_left _ _ c.loop-i-test.false) args.t.now args.m) at at_loop.loop-i.invariant.3
 
 pub put_nodes_spec : {M : Type 1} → statement M
 put_nodes_spec =

@@ -10,12 +10,12 @@ use borrow.Author.Tests.{not-true, not-false}
 use lib.ListN.{length, take}
 use lib.Seq.{length-take-le}
 use Rattle.base_settings.specs.Limits.{template_limit}
-use Rattle.base_settings.proofs.Most.{template-most}
+use Rattle.base_settings.proofs.Most.{template_most}
 use Rattle.template_nodes.specs.Bytes.{Parsed}
 use Rattle.template_nodes.specs.Template.{nodes_of}
-use Rattle.template_nodes.proofs.Encoding.{parsed-nodes, parsed-room}
-use Rattle.template_nodes.proofs.Nodes.{count-within, small-nodes}
-use Rattle.write_text.proofs.Answers.{too_long, not-utf8, by-nodes}
+use Rattle.template_nodes.proofs.Encoding.{parsed_nodes, parsed_room}
+use Rattle.template_nodes.proofs.Nodes.{count_within, small_nodes}
+use Rattle.write_text.proofs.Answers.{too_long, not_utf8, by_nodes}
 use Rattle.write_text.proofs.write.Statement.{statement}
 use Rattle.write_text.proofs.write.Tie as tie
 
@@ -31,7 +31,7 @@ short c = omega arith
 few_bytes : {limit : ℕ} (t : List ℕ) {before after : List ℕ} {r : ℕ} → length t ≤ limit → Parsed (nodes_of t) before after r
     → length (take (6 * r) after) ≤ 6 * limit
 few_bytes t {after = after} {r = r} short p =
-    omega (arith, length-take-le (6 * r) after (parsed-room p), p.count, count-within false t)
+    omega (arith, length-take-le (6 * r) after (parsed_room p), p.count, count_within false t)
 
 -- the template is over its limit
 returns : tie.Need-returns-then-template_limit-t
@@ -40,29 +40,29 @@ returns c = too_long _ _ _ _ (omega arith)
 -- the template is not UTF-8
 returns-2 : tie.Need-returns-then-not-is_utf8
 returns-2 c =
-    not-utf8 _ _ _ _ (short c.before.before) (sym c.is_utf8.ensures ∙ c.if-not-is_utf8.true)
+    not_utf8 _ _ _ _ (short c.before.before) (sym c.is_utf8.ensures ∙ c.if-not-is_utf8.true)
 
 -- within its limit a template has at most 256 bytes
 parse-format-requires : tie.Need-parse_format-end-requires
 parse-format-requires c κs =
-    let within-limit = c.before.before.before in
-    (omega (arith, short within-limit, template-most (start within-limit).args.set), omega arith)
+    let within_limit = c.before.before.before in
+    (omega (arith, short within_limit, template_most (start within_limit).args.set), omega arith)
 
 -- the slice of the buffer is as long as the bytes of the nodes
 slice-aggregate-write-by : tie.Need-slice_bounds-write_by-end
-slice-aggregate-write-by c = sym (length-take-le _ _ (parsed-room c.parse_format-end.ensures))
+slice-aggregate-write-by c = sym (length-take-le _ _ (parsed_room c.parse_format-end.ensures))
 
 -- the answer by the template's nodes
 returns-3 : tie.Need-returns
 returns-3 c =
     let after_write = c.before.before in
-    let after-parse = after_write.before.before.before.before in
-    let after-utf8-test = after-parse.before.before in
-    let within-limit = after-utf8-test.before.before in
-    let args = (start within-limit).args in
-    by-nodes args.set args.t.now args.m args.out.now (short within-limit)
-    (sym after-utf8-test.is_utf8.ensures ∙ after-utf8-test.if-not-is_utf8.false)
-    _ (few_bytes args.t.now (short within-limit) after-parse.parse_format-end.ensures) (parsed-nodes after-parse.parse_format-end.ensures (small-nodes false args.t.now))
+    let after_parse = after_write.before.before.before.before in
+    let after_utf8_test = after_parse.before.before in
+    let within_limit = after_utf8_test.before.before in
+    let args = (start within_limit).args in
+    by_nodes args.set args.t.now args.m args.out.now (short within_limit)
+    (sym after_utf8_test.is_utf8.ensures ∙ after_utf8_test.if-not-is_utf8.false)
+    _ (few_bytes args.t.now (short within_limit) after_parse.parse_format-end.ensures) (parsed_nodes after_parse.parse_format-end.ensures (small_nodes false args.t.now))
     after_write.write_by.ensures
 
 pub write_spec : {M : Type 1} → statement M

@@ -8,33 +8,33 @@ use Rattle.base_settings.specs.Limits.{pages}
 use Rattle.moment_instants.specs.ByTemplate.{timestamp_of}
 use Rattle.line_answers.specs.Items.{report_text}
 use Rattle.line_answers.specs.Answers.{instant_answer}
-use Rattle.line_answers.proofs.Same.{answered-as}
+use Rattle.line_answers.proofs.Same.{answered_as}
 use Rattle.line_answers.proofs.answers.instant.Statement.{statement}
 use Rattle.line_answers.proofs.answers.instant.Tie as tie
 
 -- the answer is that of the exercise pages
-answer-is : (c : tie.After-to_timestamp_text) → c.to_timestamp_text.result ≡ timestamp_of pages c.args.t.now c.args.s.now
-answer-is c = rw c.pages.ensures at c.to_timestamp_text.ensures
+answer_is : (c : tie.After-to_timestamp_text) → c.to_timestamp_text.result ≡ timestamp_of pages c.args.t.now c.args.s.now
+answer_is c = rw c.pages.ensures at c.to_timestamp_text.ensures
 
 -- an instant
 returns : tie.Need-returns-in-Micros
 unfolding instant_answer
 returns c =
-    let after-put = c.before.before in
-    let at-micros = after-put.before.before in
-    let fits : SFits w64 at-micros.in-Micros.micros = search rules in
-    answered-as (ap instant_answer (sym at-micros.in-Micros.is ∙ answer-is at-micros.before))
-    (simp (to_z-of_z fits) at after-put.put_value.ensures)
+    let after_put = c.before.before in
+    let at_micros = after_put.before.before in
+    let fits : SFits w64 at_micros.in-Micros.micros = search rules in
+    answered_as (ap instant_answer (sym at_micros.in-Micros.is ∙ answer_is at_micros.before))
+    (simp (to_z-of_z fits) at after_put.put_value.ensures)
 
 -- a refusal
 returns-2 : tie.Need-returns-in-Refused
 unfolding instant_answer
 returns-2 c =
-    let after-put = c.before.before in
-    let after-report = after-put.before.before in
-    let at-refusal = after-report.before in
-    answered-as (ap report_text after-report.report_of.ensures ∙ ap instant_answer (sym at-refusal.in-Refused.is ∙ answer-is at-refusal.before))
-    after-put.put_report.ensures
+    let after_put = c.before.before in
+    let after_report = after_put.before.before in
+    let at_refusal = after_report.before in
+    answered_as (ap report_text after_report.report_of.ensures ∙ ap instant_answer (sym at_refusal.in-Refused.is ∙ answer_is at_refusal.before))
+    after_put.put_report.ensures
 
 pub instant_spec : {M : Type 1} → statement M
 instant_spec =

@@ -9,13 +9,13 @@ use Rattle.line_answers.proofs.items.put_date.Tie as tie
 -- year, month and day
 returns : tie.Need-returns
 returns c =
-    let after-day = c.before.before in
-    let after-month = after-day.before.before.before.before in
-    let after-year = after-month.before.before.before.before in
-    let fits = after-year.ranges in
-    let year = put_back fits.year after-year.put_int-after_year.ensures in
-    let month = put_back fits.month after-month.put_int-after_month.ensures in
-    let day = put_back fits.day after-day.put_int.ensures in
+    let after_day = c.before.before in
+    let after_month = after_day.before.before.before.before in
+    let after_year = after_month.before.before.before.before in
+    let fits = after_year.ranges in
+    let year = put_back fits.year after_year.put_int-after_year.ensures in
+    let month = put_back fits.month after_month.put_int-after_month.ensures in
+    let day = put_back fits.day after_day.put_int.ensures in
     rw append-nil (put_then _ _ year (put_then _ _ month day))
 
 pub put_date_spec : {M : Type 1} → statement M

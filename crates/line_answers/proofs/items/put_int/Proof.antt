@@ -7,9 +7,9 @@ use Rattle.line_answers.proofs.items.put_int.Tie as tie
 -- the number of 64 bits
 returns : tie.Need-returns
 returns c =
-    let after-number = c.before.before in
-    let at-start = after-number.before.before.before in
-    rw (wide at-start.ranges.value) at after-number.put_number.ensures
+    let after_number = c.before.before in
+    let at_start = after_number.before.before.before in
+    rw (wide at_start.ranges.value) at after_number.put_number.ensures
 
 pub put_int_spec : {M : Type 1} → statement M
 put_int_spec =

@@ -8,8 +8,8 @@ use Rattle.line_answers.proofs.items.put_item.Tie as tie
 returns : tie.Need-returns
 returns c =
     let after_text = c.before.before in
-    let after-space = after_text.before.before.before.before in
-    put_then _ _ after-space.put_byte-next.ensures after_text.put_bytes.ensures
+    let after_space = after_text.before.before.before.before in
+    put_then _ _ after_space.put_byte-next.ensures after_text.put_bytes.ensures
 
 pub put_item_spec : {M : Type 1} → statement M
 put_item_spec = tie.close (tie.spec (λ c κs. search rules) (λ c κs. search rules) (λ c. search rules) returns)

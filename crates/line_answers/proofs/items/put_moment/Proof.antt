@@ -6,8 +6,8 @@ use mir.Facts.{to_z-of_z, to_z_pos}
 use mir.Syntax.{w8, w64}
 use mir.Val.{Fits}
 use Rattle.moment_instants.proofs.Seconds.{Ranged}
-use Rattle.line_buffers.proofs.Puts.{put-size, put_then}
-use Rattle.line_answers.proofs.Lengths.{moment-is, moment-short}
+use Rattle.line_buffers.proofs.Puts.{put_size, put_then}
+use Rattle.line_answers.proofs.Lengths.{moment_is, moment_short}
 use Rattle.line_answers.proofs.items.put_moment.Statement.{statement}
 use Rattle.line_answers.proofs.items.put_moment.Tie as tie
 
@@ -15,31 +15,31 @@ use Rattle.line_answers.proofs.items.put_moment.Tie as tie
 ranged : (c : tie.After-struct_told-1) → Ranged c.args.p
 ranged c = search rules
 
-marks-range : (c : tie.After-struct_told-1) → Fits w8 c.args.p.marks
-marks-range c = search rules
+marks_range : (c : tie.After-struct_told-1) → Fits w8 c.args.p.marks
+marks_range c = search rules
 
 -- all ten
 returns : tie.Need-returns
 returns c =
-    let after-marks = c.before.before in
-    let after-offset = after-marks.before.before.before.before.before in
-    let after-precision = after-offset.before.before.before.before in
-    let after-time = after-precision.before.before.before.before.before in
-    let after-date = after-time.before.before.before.before.before.before.before.before in
-    let at-year = after-date.before.before.before in
-    let fits = ranged at-year in
-    let start = at-year.before.before.before.before in
-    let date = simp (to_z-of_z fits.year, to_z-of_z fits.month, to_z-of_z fits.day) at after-date.put_date-date.ensures in
+    let after_marks = c.before.before in
+    let after_offset = after_marks.before.before.before.before.before in
+    let after_precision = after_offset.before.before.before.before in
+    let after_time = after_precision.before.before.before.before.before in
+    let after_date = after_time.before.before.before.before.before.before.before.before in
+    let at_year = after_date.before.before.before in
+    let fits = ranged at_year in
+    let start = at_year.before.before.before.before in
+    let date = simp (to_z-of_z fits.year, to_z-of_z fits.month, to_z-of_z fits.day) at after_date.put_date-date.ensures in
     let time =
-    simp (to_z-of_z fits.hour, to_z-of_z fits.minute, to_z-of_z fits.second, to_z-of_z fits.micros) at after-time.put_time-time.ensures in
-    let precision = simp (to_z-of_z fits.precision) at after-precision.put_int-precision.ensures in
-    let offset = after-offset.put_offset-offset.ensures in
-    let marks = simp (to_z_pos w64 {n = start.args.p.marks} (omega (arith, marks-range at-year))) at after-marks.put_number.ensures in
+    simp (to_z-of_z fits.hour, to_z-of_z fits.minute, to_z-of_z fits.second, to_z-of_z fits.micros) at after_time.put_time-time.ensures in
+    let precision = simp (to_z-of_z fits.precision) at after_precision.put_int-precision.ensures in
+    let offset = after_offset.put_offset-offset.ensures in
+    let marks = simp (to_z_pos w64 {n = start.args.p.marks} (omega (arith, marks_range at_year))) at after_marks.put_number.ensures in
     record {
       put =
-          rw (moment-is start.args.p)
+          rw (moment_is start.args.p)
           (put_then _ _ start.put_accepted-number.ensures (put_then _ _ date (put_then _ _ time (put_then _ _ precision (put_then _ _ offset.0 marks)))));
-      short = moment-short _ fits (marks-range at-year) offset.1;
+      short = moment_short _ fits (marks_range at_year) offset.1;
     }
 
 pub put_moment_spec : {M : Type 1} → statement M
@@ -53,5 +53,5 @@ put_moment_spec =
     (λ c κs. search rules)
     (λ c. search rules)
     (λ c κs. search rules)
-    (λ c. put-size _ _ (returns c).put)
+    (λ c. put_size _ _ (returns c).put)
     returns)

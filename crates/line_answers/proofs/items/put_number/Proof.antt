@@ -8,10 +8,10 @@ use Rattle.line_answers.proofs.items.put_number.Tie as tie
 -- the space and the number
 returns : tie.Need-returns
 returns c =
-    let after-number = c.before.before in
-    let after-space = after-number.before.before.before.before in
-    let at-start = after-space.before.before.before in
-    put_then _ _ after-space.put_byte-next.ensures (rw (to_z-of_z at-start.ranges.value) at after-number.put_decimal.ensures)
+    let after_number = c.before.before in
+    let after_space = after_number.before.before.before.before in
+    let at_start = after_space.before.before.before in
+    put_then _ _ after_space.put_byte-next.ensures (rw (to_z-of_z at_start.ranges.value) at after_number.put_decimal.ensures)
 
 pub put_number_spec : {M : Type 1} → statement M
 put_number_spec = tie.close (tie.spec (λ c κs. search rules) (λ c κs. search rules) (λ c. search rules) returns)

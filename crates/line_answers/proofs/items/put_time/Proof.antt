@@ -9,15 +9,15 @@ use Rattle.line_answers.proofs.items.put_time.Tie as tie
 -- hour, minute, second and microseconds
 returns : tie.Need-returns
 returns c =
-    let after-micros = c.before.before in
-    let after-second = after-micros.before.before.before.before in
-    let after-minute = after-second.before.before.before.before in
-    let after-hour = after-minute.before.before.before.before in
-    let fits = after-hour.ranges in
-    let hour = put_back fits.hour after-hour.put_int-after_hour.ensures in
-    let minute = put_back fits.minute after-minute.put_int-after_minute.ensures in
-    let second = put_back fits.second after-second.put_int-after_second.ensures in
-    let micros = put_back fits.micros after-micros.put_int.ensures in
+    let after_micros = c.before.before in
+    let after_second = after_micros.before.before.before.before in
+    let after_minute = after_second.before.before.before.before in
+    let after_hour = after_minute.before.before.before.before in
+    let fits = after_hour.ranges in
+    let hour = put_back fits.hour after_hour.put_int-after_hour.ensures in
+    let minute = put_back fits.minute after_minute.put_int-after_minute.ensures in
+    let second = put_back fits.second after_second.put_int-after_second.ensures in
+    let micros = put_back fits.micros after_micros.put_int.ensures in
     rw append-nil (put_then _ _ hour (put_then _ _ minute (put_then _ _ second micros)))
 
 pub put_time_spec : {M : Type 1} → statement M

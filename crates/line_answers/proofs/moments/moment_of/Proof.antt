@@ -15,8 +15,8 @@ use Rattle.line_answers.proofs.moments.moment_of.Tie as tie
 returns : tie.Need-returns
 unfolding moment_of
 returns c =
-    let after-seven = c.before.before.before.before.before.before.before.before in
-    let seven = after-seven.seven_of-v.result in
+    let after_seven = c.before.before.before.before.before.before.before.before in
+    let seven = after_seven.seven_of-v.result in
     let year : SFits w32 (get_or seven 0 (pos 0)) = search rules in
     let month : SFits w32 (get_or seven 1 (pos 0)) = search rules in
     let day : SFits w32 (get_or seven 2 (pos 0)) = search rules in
@@ -25,7 +25,7 @@ returns c =
     let second : SFits w32 (get_or seven 5 (pos 0)) = search rules in
     let micros : SFits w32 (get_or seven 6 (pos 0)) = search rules in
     c.seven_numbers.ensures
-    ∙ rw (← after-seven.seven_of-v.ensures)
+    ∙ rw (← after_seven.seven_of-v.ensures)
     (λ i. seven_numbers (to_z-of_z year i) (to_z-of_z month i) (to_z-of_z day i) (to_z-of_z hour i) (to_z-of_z minute i) (to_z-of_z second i) (to_z-of_z micros i))
 
 pub moment_of_spec : {M : Type 1} → statement M

@@ -8,11 +8,11 @@ use Rattle.line_answers.proofs.moments.put_text.Tie as tie
 -- 0 and the text
 returns : tie.Need-returns
 returns c =
-    let after-item = c.before.before in
-    let after-accepted = after-item.before.before.before.before in
+    let after_item = c.before.before in
+    let after_accepted = after_item.before.before.before.before in
     record {
-      put = put_then _ _ after-accepted.put_accepted-next.ensures after-item.put_item.ensures;
-      short = omega (arith, after-accepted.requires);
+      put = put_then _ _ after_accepted.put_accepted-next.ensures after_item.put_item.ensures;
+      short = omega (arith, after_accepted.requires);
     }
 
 pub put_text_spec : {M : Type 1} → statement M

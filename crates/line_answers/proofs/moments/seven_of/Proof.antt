@@ -25,23 +25,23 @@ returns c = sym (too_few _ _ _ _ c.loop-i.invariant c.loop-i-test.true c.if-s-at
 returns-2 : tie.Need-returns-in_default invariant-loop decreases-loop
 returns-2 c =
     let after_read = c.before in
-    let after-find = after_read.before.before in
-    let at_item = after-find.before in
-    let in-loop = at_item.before in
-    let item-is = sym after_read.read_int.ensures ∙ c.in_default.is in
-    sym (no_number _ _ _ _ in-loop.loop-i.invariant _ in-loop.loop-i-test.true at_item.if-s-at.false after-find.find-end.ensures.is item-is)
+    let after_find = after_read.before.before in
+    let at_item = after_find.before in
+    let in_loop = at_item.before in
+    let item_is = sym after_read.read_int.ensures ∙ c.in_default.is in
+    sym (no_number _ _ _ _ in_loop.loop-i.invariant _ in_loop.loop-i-test.true at_item.if-s-at.false after_find.find-end.ensures.is item_is)
 
 loop-again : tie.Need-loop-i-preserved invariant-loop decreases-loop
 loop-again c =
-    let at-number = c in
-    let after_read = at-number.before in
-    let after-find = after_read.before.before in
-    let at_item = after-find.before in
-    let in-loop = at_item.before in
-    let fits : SFits w32 at-number.in-Value.n = search rules in
-    let item-is = sym after_read.read_int.ensures ∙ at-number.in-Value.is in
+    let at_number = c in
+    let after_read = at_number.before in
+    let after_find = after_read.before.before in
+    let at_item = after_find.before in
+    let in_loop = at_item.before in
+    let fits : SFits w32 at_number.in-Value.n = search rules in
+    let item_is = sym after_read.read_int.ensures ∙ at_number.in-Value.is in
     rw (to_z-of_z fits)
-    (more _ _ _ _ in-loop.loop-i.invariant _ in-loop.loop-i-test.true at_item.if-s-at.false after-find.find-end.ensures.is _ item-is)
+    (more _ _ _ _ in_loop.loop-i.invariant _ in_loop.loop-i-test.true at_item.if-s-at.false after_find.find-end.ensures.is _ item_is)
 
 -- an item is left after the seventh
 returns-3 : tie.Need-returns-then-at-s invariant-loop decreases-loop

@@ -5,13 +5,13 @@ use native.Mathlib.Omega.{arith}
 use borrow.Author.Rules.{rules}
 use lib.ListN.{length, length-take}
 use Rattle.base_settings.specs.Limits.{pages}
-use Rattle.line_answers.proofs.Cuts.{text-within, text-written, text-unwritten}
+use Rattle.line_answers.proofs.Cuts.{text_within, text_written, text_unwritten}
 use Rattle.line_answers.proofs.moments.text.Statement.{statement}
 use Rattle.line_answers.proofs.moments.text.Tie as tie
 
 -- the settings are those of the exercise pages
-settings-are : (c : tie.After-write) → c.pages.result ≡ pages
-settings-are c = c.pages.ensures
+settings_are : (c : tie.After-write) → c.pages.result ≡ pages
+settings_are c = c.pages.ensures
 
 -- the text is no longer than its buffer
 part-put-text-end : tie.Need-slice_bounds-put_text-end
@@ -19,7 +19,7 @@ part-put-text-end c =
     let at_length = c in
     let after_write = at_length.before.before in
     let size : length after_write.write.new.out ≡ 512 = search rules in
-    omega (arith, text-within (settings-are after_write) refl after_write.write.ensures _ at_length.in-Length.is, size)
+    omega (arith, text_within (settings_are after_write) refl after_write.write.ensures _ at_length.in-Length.is, size)
 
 put-text-requires : tie.Need-put_text-requires
 put-text-requires c κs =
@@ -32,22 +32,22 @@ put-text-requires c κs =
 -- a text
 returns : tie.Need-returns-in-Length
 returns c =
-    let after-put = c.before.before in
-    let at_length = after-put.before.before.before in
+    let after_put = c.before.before in
+    let at_length = after_put.before.before.before in
     let after_write = at_length.before.before in
-    let moment-is = after_write.moment_of.ensures in
-    rw (text-written (settings-are after_write) refl after_write.write.ensures _ moment-is _ at_length.in-Length.is) after-put.put_text.ensures
+    let moment_is = after_write.moment_of.ensures in
+    rw (text_written (settings_are after_write) refl after_write.write.ensures _ moment_is _ at_length.in-Length.is) after_put.put_text.ensures
 
 -- a refusal
 returns-2 : tie.Need-returns-in-Refused
 returns-2 c =
-    let after-put = c.before.before in
-    let after-report = after-put.before.before in
-    let at-refusal = after-report.before in
-    let after_write = at-refusal.before.before in
-    let moment-is = after_write.moment_of.ensures in
-    rw (text-unwritten (settings-are after_write) refl after_write.write.ensures _ moment-is _ at-refusal.in-Refused.is)
-    (rw after-report.report_of.ensures at after-put.put_report.ensures)
+    let after_put = c.before.before in
+    let after_report = after_put.before.before in
+    let at_refusal = after_report.before in
+    let after_write = at_refusal.before.before in
+    let moment_is = after_write.moment_of.ensures in
+    rw (text_unwritten (settings_are after_write) refl after_write.write.ensures _ moment_is _ at_refusal.in-Refused.is)
+    (rw after_report.report_of.ensures at after_put.put_report.ensures)
 
 pub text_spec : {M : Type 1} → statement M
 text_spec =

@@ -21,25 +21,25 @@ decreases-loop s from b i₀ i = length s - i
 -- the byte is here
 returns : tie.Need-returns-then-s-i invariant-loop decreases-loop
 returns c =
-    let at-loop = c.before.before.before in
-    let args = at-loop.args in
+    let at_loop = c.before.before.before in
+    let args = at_loop.args in
     let s = args.s.now in
-    let none_passed = here s args.b at-loop.loop-i.i (omega arith) c.if-s-i.true in
+    let none_passed = here s args.b at_loop.loop-i.i (omega arith) c.if-s-i.true in
     found s _ _ _ (omega arith)
 
 loop-again : tie.Need-loop-i-preserved invariant-loop decreases-loop
 loop-again c =
-    let at-loop = c.before.before.before in
-    let args = at-loop.args in
-    omega (arith, passed args.s.now args.b at-loop.loop-i.i (omega arith) c.if-s-i.false)
+    let at_loop = c.before.before.before in
+    let args = at_loop.args in
+    omega (arith, passed args.s.now args.b at_loop.loop-i.i (omega arith) c.if-s-i.false)
 
 -- the text ends
 returns-2 : tie.Need-returns invariant-loop decreases-loop
 returns-2 c =
-    let at-loop = c.before in
-    let args = at-loop.args in
+    let at_loop = c.before in
+    let args = at_loop.args in
     let s = args.s.now in
-    let none_passed = nowhere s args.b at-loop.loop-i.i (omega arith) in
+    let none_passed = nowhere s args.b at_loop.loop-i.i (omega arith) in
     found s _ _ _ (omega arith)
 
 pub find_spec : {M : Type 1} → statement M

@@ -1,6 +1,6 @@
 -- `line_buffers::output::put_byte` meets its contract: past the buffer's end nothing is stored. Assumes nothing.
 use borrow.Author.Rules.{rules}
-use Rattle.line_buffers.proofs.Puts.{put-out}
+use Rattle.line_buffers.proofs.Puts.{put_out}
 use Rattle.line_buffers.proofs.output.put_byte.Statement.{statement}
 use Rattle.line_buffers.proofs.output.put_byte.Tie as tie
 
@@ -12,4 +12,4 @@ put_byte_spec =
     (λ c. search rules)
     (λ c. search rules)
     (λ c. search rules)
-    (λ c. put-out _ _ _ c.if-at-out.false))
+    (λ c. put_out _ _ _ c.if-at-out.false))

@@ -5,7 +5,7 @@ use native.Mathlib.Omega.{arith}
 use borrow.Author.Rules.{rules}
 use lib.ListN.{length, take}
 use lib.Seq.{sets}
-use Rattle.line_buffers.proofs.Puts.{sets-suc, put-fitting}
+use Rattle.line_buffers.proofs.Puts.{sets_suc, put_fitting}
 use Rattle.line_buffers.proofs.output.put_bytes.Statement.{statement}
 use Rattle.line_buffers.proofs.output.put_bytes.Tie as tie
 
@@ -20,18 +20,18 @@ loop-holds c = (omega arith, refl, refl)
 
 loop-again : tie.Need-loop-i-preserved invariant-loop decreases-loop
 loop-again c =
-    let at-loop = c.before.before in
-    let args = at-loop.args in
-    let one_more = sets-suc args.out.now args.at args.text.now at-loop.loop-i.i (omega arith) in
-    (omega arith, rw at-loop.loop-i.invariant.1 one_more, search rules)
+    let at_loop = c.before.before in
+    let args = at_loop.args in
+    let one_more = sets_suc args.out.now args.at args.text.now at_loop.loop-i.i (omega arith) in
+    (omega arith, rw at_loop.loop-i.invariant.1 one_more, search rules)
 
 returns : tie.Need-returns invariant-loop decreases-loop
 returns c =
-    let at-loop = c.before in
-    let after-fitting = at-loop.before in
-    let args = after-fitting.args in
-    let done : at-loop.loop-i.i ≡ after-fitting.fitting-n.result = omega arith in
-    rw (at-loop.loop-i.invariant.1, done) (put-fitting args.out.now args.at args.text.now _ after-fitting.fitting-n.ensures)
+    let at_loop = c.before in
+    let after_fitting = at_loop.before in
+    let args = after_fitting.args in
+    let done : at_loop.loop-i.i ≡ after_fitting.fitting-n.result = omega arith in
+    rw (at_loop.loop-i.invariant.1, done) (put_fitting args.out.now args.at args.text.now _ after_fitting.fitting-n.ensures)
 
 pub put_bytes_spec : {M : Type 1} → statement M
 put_bytes_spec =

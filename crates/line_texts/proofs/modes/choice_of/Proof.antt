@@ -29,15 +29,15 @@ returns-4 c = chosen Write (c.same-4.ensures.0 c.if-same-4.true)
 -- none of them
 returns-5 : tie.Need-returns
 returns-5 c =
-    let at-write = c.before in
-    let at-date = at-write.before.before.before in
-    let at-instant = at-date.before.before.before in
-    let at-parts = at-instant.before.before.before in
+    let at_write = c.before in
+    let at_date = at_write.before.before.before in
+    let at_instant = at_date.before.before.before in
+    let at_parts = at_instant.before.before.before in
     unknown
-    (another Parts c.if-same.false at-parts.same.ensures.1)
-    (another Instant c.if-same-2.false at-instant.same-2.ensures.1)
-    (another Date c.if-same-3.false at-date.same-3.ensures.1)
-    (another Write c.if-same-4.false at-write.same-4.ensures.1)
+    (another Parts c.if-same.false at_parts.same.ensures.1)
+    (another Instant c.if-same-2.false at_instant.same-2.ensures.1)
+    (another Date c.if-same-3.false at_date.same-3.ensures.1)
+    (another Write c.if-same-4.false at_write.same-4.ensures.1)
 
 pub choice_of_spec : {M : Type 1} → statement M
 choice_of_spec =

@@ -12,8 +12,8 @@ returns c =
 -- above 1: it stays
 returns-2 : tie.Need-returns
 returns-2 c =
-    let value-back = to_z-of_z c.ranges.value in
-    simp (simp value-back at c.if-value-le1.false, value-back)
+    let value_back = to_z-of_z c.ranges.value in
+    simp (simp value_back at c.if-value-le1.false, value_back)
 
 pub above_one_spec : {M : Type 1} → statement M
 above_one_spec = tie.close (tie.spec returns returns-2)

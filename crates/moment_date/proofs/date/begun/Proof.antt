@@ -9,9 +9,9 @@ use Rattle.moment_date.proofs.date.begun.Tie as tie
 returns : tie.Need-returns
 unfolding begun
 returns c =
-    let at-start = c.before.before.before in
-    let fields = known at-start.args.f _ at-start.well_formed.0 in
-    simp (to_z-of_z at-start.ranges.year, c.year_mask-set.ensures, fields.back)
+    let at_start = c.before.before.before in
+    let fields = known at_start.args.f _ at_start.well_formed.0 in
+    simp (to_z-of_z at_start.ranges.year, c.year_mask-set.ensures, fields.back)
 
 pub begun_spec : {M : Type 1} → statement M
 begun_spec = tie.close (tie.spec (λ c. search rules) (λ c. search rules) (λ c κs. search rules) returns)

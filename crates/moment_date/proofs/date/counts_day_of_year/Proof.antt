@@ -15,19 +15,19 @@ returns c = simp (absent (has c.before.before.before).ddd c.if-r-eq0.true)
 -- the month is not above 1
 returns-2 : tie.Need-returns-then-r-le1
 returns-2 c =
-    let has-day = c.before.before.before in
-    let fits = has has-day.before.before.before in
-    simp (present fits.ddd has-day.if-r-eq0.false, simp (to_z-of_z fits.month) at c.if-r-le1.true)
+    let has_day = c.before.before.before in
+    let fits = has has_day.before.before.before in
+    simp (present fits.ddd has_day.if-r-eq0.false, simp (to_z-of_z fits.month) at c.if-r-le1.true)
 
 -- it is: the test of the day
 returns-3 : tie.Need-returns
 returns-3 c =
-    let after-month = c.before.before in
-    let has-day = after-month.before.before.before in
-    let fits = has has-day.before.before.before in
+    let after_month = c.before.before in
+    let has_day = after_month.before.before.before in
+    let fits = has has_day.before.before.before in
     simp (
-      present fits.ddd has-day.if-r-eq0.false,
-      simp (to_z-of_z fits.month) at after-month.if-r-le1.false,
+      present fits.ddd has_day.if-r-eq0.false,
+      simp (to_z-of_z fits.month) at after_month.if-r-le1.false,
       to_z-of_z fits.day,
     )
 

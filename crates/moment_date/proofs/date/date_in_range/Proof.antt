@@ -27,10 +27,10 @@ returns c =
 returns-2 : tie.Need-returns-then-not-part_in_range-2
 unfolding date_in_range
 returns-2 c =
-    let after-month = c.before.before.before in
-    let fits = has after-month.before.before.before in
+    let after_month = c.before.before.before in
+    let fits = has after_month.before.before.before in
     rw (
-      month after-month,
+      month after_month,
       simp (to_z-of_z fits.day) at (sym c.part_in_range-2.ensures ∙ c.if-not-part_in_range-2.true),
     )
 
@@ -38,12 +38,12 @@ returns-2 c =
 returns-3 : tie.Need-returns
 unfolding date_in_range
 returns-3 c =
-    let after-day = c.before in
-    let after-month = after-day.before.before.before in
-    let fits = has after-month.before.before.before in
+    let after_day = c.before in
+    let after_month = after_day.before.before.before in
+    let fits = has after_month.before.before.before in
     rw (
-      month after-month,
-      simp (to_z-of_z fits.day) at (sym after-day.part_in_range-2.ensures ∙ after-day.if-not-part_in_range-2.false),
+      month after_month,
+      simp (to_z-of_z fits.day) at (sym after_day.part_in_range-2.ensures ∙ after_day.if-not-part_in_range-2.false),
     )
     c.day_in_month.ensures
 

@@ -14,39 +14,39 @@ year : (c : tie.After-year_of) {v : Value} → c.year_of.result ≡ v → year_o
 year c e = sym c.year_of.ensures ∙ e
 
 week : (c : tie.After-with_week) {v : Dated} → c.with_week.result ≡ v
-    → let at-year = c.before.before.before in
-    let f = at-year.args.f in with_week f (with_julian f (begun f at-year.in-Is.year)) ≡ v
+    → let at_year = c.before.before.before in
+    let f = at_year.args.f in with_week f (with_julian f (begun f at_year.in-Is.year)) ≡ v
 week c e =
-    let after-julian = c.before in
-    let after-begun = after-julian.before in
-    let year-known = after-begun.before in
-    let year-back = back year-known.in-Is.year (search rules) in
-    sym (simp (after-julian.with_julian.ensures, after-begun.begun.ensures, year-back) at c.with_week.ensures) ∙ e
+    let after_julian = c.before in
+    let after_begun = after_julian.before in
+    let year_known = after_begun.before in
+    let year_back = back year_known.in-Is.year (search rules) in
+    sym (simp (after_julian.with_julian.ensures, after_begun.begun.ensures, year_back) at c.with_week.ensures) ∙ e
 
-month-week : (c : tie.After-with_month_week) {v : Dated} → c.with_month_week.result ≡ v
-    → let at-date = c.before in
-    let at-start = at-date.before.before.before.before.before.before in
-    with_month_week at-start.args.f at-date.in-Date.r ≡ v
-month-week c e = sym c.with_month_week.ensures ∙ e
+month_week : (c : tie.After-with_month_week) {v : Dated} → c.with_month_week.result ≡ v
+    → let at_date = c.before in
+    let at_start = at_date.before.before.before.before.before.before in
+    with_month_week at_start.args.f at_date.in-Date.r ≡ v
+month_week c e = sym c.with_month_week.ensures ∙ e
 
 -- no step before the last was refused
 returns : tie.Need-returns-in-Date-with_month_week
 unfolding dated_of
 returns c =
-    let after-month = c.before in
-    let after-day = after-month.before in
-    let at-month-week = after-day.before in
-    let after-month-week = at-month-week.before in
-    let at-week = after-month-week.before in
-    let after-week = at-week.before in
-    let at-year = after-week.before.before.before in
+    let after_month = c.before in
+    let after_day = after_month.before in
+    let at_month_week = after_day.before in
+    let after_month_week = at_month_week.before in
+    let at_week = after_month_week.before in
+    let after_week = at_week.before in
+    let at_year = after_week.before.before.before in
     simp (
-      year at-year.before at-year.in-Is.is,
-      week after-week at-week.in-Date.is,
-      month-week after-month-week at-month-week.in-Date-with_month_week.is,
+      year at_year.before at_year.in-Is.is,
+      week after_week at_week.in-Date.is,
+      month_week after_month_week at_month_week.in-Date-with_month_week.is,
       c.with_day_of_year.ensures,
-      after-month.with_month.ensures,
-      after-day.with_day.ensures,
+      after_month.with_month.ensures,
+      after_day.with_day.ensures,
     )
 
 -- the week of the month was refused
@@ -54,14 +54,14 @@ returns-2 : tie.Need-returns-in-Refused-with_month_week
 unfolding dated_of
 returns-2 c =
     let refused = c in
-    let after-month-week = refused.before in
-    let at-week = after-month-week.before in
-    let after-week = at-week.before in
-    let at-year = after-week.before.before.before in
+    let after_month_week = refused.before in
+    let at_week = after_month_week.before in
+    let after_week = at_week.before in
+    let at_year = after_week.before.before.before in
     simp (
-      year at-year.before at-year.in-Is.is,
-      week after-week at-week.in-Date.is,
-      month-week after-month-week refused.in-Refused-with_month_week.is,
+      year at_year.before at_year.in-Is.is,
+      week after_week at_week.in-Date.is,
+      month_week after_month_week refused.in-Refused-with_month_week.is,
     )
 
 -- the week of the year was refused
@@ -69,9 +69,9 @@ returns-3 : tie.Need-returns-in-Refused
 unfolding dated_of
 returns-3 c =
     let refused = c in
-    let after-week = refused.before in
-    let at-year = after-week.before.before.before in
-    simp (year at-year.before at-year.in-Is.is, week after-week refused.in-Refused.is)
+    let after_week = refused.before in
+    let at_year = after_week.before.before.before in
+    simp (year at_year.before at_year.in-Is.is, week after_week refused.in-Refused.is)
 
 -- the year was refused
 returns-4 : tie.Need-returns-in-Not

@@ -1,7 +1,7 @@
 -- `moment_date::date::day_of_week` meets its contract: each way out is one case of the definition. Assumes nothing.
 use borrow.Author.Rules.{rules}
 use mir.Facts.{to_z-of_z}
-use Rattle.base_wrapping.proofs.Fits.{wrap-back}
+use Rattle.base_wrapping.proofs.Fits.{wrap_back}
 use Rattle.moment_sums.proofs.Tests.{absent, present}
 use Rattle.moment_date.proofs.date.day_of_week.Statement.{statement}
 use Rattle.moment_date.proofs.date.day_of_week.Tie as tie
@@ -15,17 +15,17 @@ returns c =
 -- Monday to Saturday
 returns-2 : tie.Need-returns-then-d-gt1
 returns-2 c =
-    let after-sub = c.before in
-    let not-sunday = after-sub.before in
-    let fits = not-sunday.ranges in
-    let weekday-back = to_z-of_z fits.d in
+    let after_sub = c.before in
+    let not_sunday = after_sub.before in
+    let fits = not_sunday.ranges in
+    let weekday_back = to_z-of_z fits.d in
     simp (
-      present fits.d not-sunday.if-d-eq0.false,
-      simp weekday-back at not-sunday.if-d-gt1.true,
+      present fits.d not_sunday.if-d-eq0.false,
+      simp weekday_back at not_sunday.if-d-gt1.true,
       c.wrapping_add.ensures,
-      after-sub.wrapping_sub.ensures,
-      wrap-back,
-      weekday-back,
+      after_sub.wrapping_sub.ensures,
+      wrap_back,
+      weekday_back,
       to_z-of_z fits.monday,
     )
 
@@ -38,7 +38,7 @@ returns-3 c =
       present fits.d sunday.if-d-eq0.false,
       simp (to_z-of_z fits.d) at sunday.if-d-gt1.false,
       c.wrapping_add-2.ensures,
-      wrap-back,
+      wrap_back,
       to_z-of_z fits.monday,
     )
 

@@ -8,13 +8,13 @@ use Rattle.moment_date.proofs.date.first_of_week.Tie as tie
 returns : tie.Need-returns
 unfolding first_of_week
 returns c =
-    let after-mul = c.before in
-    let after-add = after-mul.before in
+    let after_mul = c.before in
+    let after_add = after_mul.before in
     simp (
       c.checked_add-2.ensures,
-      after-mul.checked_mul.ensures,
-      after-add.checked_add.ensures,
-      to_z-of_z after-add.ranges.week,
+      after_mul.checked_mul.ensures,
+      after_add.checked_add.ensures,
+      to_z-of_z after_add.ranges.week,
     )
 
 pub first_of_week_spec : {M : Type 1} → statement M

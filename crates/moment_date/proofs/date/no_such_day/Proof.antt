@@ -26,13 +26,13 @@ no_such_day_spec =
     (λ c κs. search rules)
     -- these two: the test of the day
     (λ c.
-    let two-set = c.before in
-    let at-start = two-set.before.before in
-    let on : at-start.args.strict ≡ true = search rules in
-    let fits = at-start.ranges in
+    let two_set = c.before in
+    let at_start = two_set.before.before in
+    let on : at_start.args.strict ≡ true = search rules in
+    let fits = at_start.ranges in
     simp (
       on,
-      eq-eqb _ _ two-set.if-set.false,
+      eq-eqb _ _ two_set.if-set.false,
       to_z-of_z fits.day,
       returned c.month_length.type_inv c.month_length.ensures,
       to_z-of_z fits.month,

@@ -16,10 +16,10 @@ returns c = simp (absent (has c.before.before.before).dd c.if-r-eq0.true)
 -- one was
 returns-2 : tie.Need-returns
 returns-2 c =
-    let has-day = c.before.before.before.before.before.before in
-    let fits = has has-day.before.before.before in
+    let has_day = c.before.before.before.before.before.before in
+    let fits = has has_day.before.before.before in
     simp (
-      present fits.dd has-day.if-r-eq0.false,
+      present fits.dd has_day.if-r-eq0.false,
       to_z-of_z fits.year,
       to_z-of_z fits.month,
       to_z-of_z fits.dd,

@@ -17,8 +17,8 @@ has c = known c.args.f _ c.well_formed.0
 counts : (c : tie.Else-not-counts_day_of_year) → counts_day_of_year c.args.r ≡ true
 counts c = sym c.counts_day_of_year.ensures ∙ c.if-not-counts_day_of_year.false
 
-has-year : (c : tie.Else-lacks_year) → let args = c.args in lacks_year args.f args.r ≡ false
-has-year c = sym c.lacks_year.ensures ∙ c.if-lacks_year.false
+has_year : (c : tie.Else-lacks_year) → let args = c.args in lacks_year args.f args.r ≡ false
+has_year c = sym c.lacks_year.ensures ∙ c.if-lacks_year.false
 
 -- the day of the year does not count
 returns : tie.Need-returns-then-not-counts_day_of_year
@@ -34,13 +34,13 @@ returns-2 c = simp (counts c.before.before, sym c.lacks_year.ensures ∙ c.if-la
 returns-3 : tie.Need-returns-then-f-eq-ISO_WEEKS
 unfolding with_day_of_year
 returns-3 c =
-    let at-mode = c.before in
-    let after-year = at-mode.before.before in
-    let after-counts = after-year.before.before in
+    let at_mode = c.before in
+    let after_year = at_mode.before.before in
+    let after_counts = after_year.before.before in
     simp (
-      counts after-counts,
-      has-year after-year,
-      equal (lit< tt) ((has after-counts.before.before).fits mode) at-mode.if-f-eq-ISO_WEEKS.true,
+      counts after_counts,
+      has_year after_year,
+      equal (lit< tt) ((has after_counts.before.before).fits mode) at_mode.if-f-eq-ISO_WEEKS.true,
       c.from_day_of_iso_year.ensures,
     )
 
@@ -48,13 +48,13 @@ returns-3 c =
 returns-4 : tie.Need-returns
 unfolding with_day_of_year
 returns-4 c =
-    let at-mode = c.before in
-    let after-year = at-mode.before.before in
-    let after-counts = after-year.before.before in
+    let at_mode = c.before in
+    let after_year = at_mode.before.before in
+    let after_counts = after_year.before.before in
     simp (
-      counts after-counts,
-      has-year after-year,
-      unequal ((has after-counts.before.before).fits mode) at-mode.if-f-eq-ISO_WEEKS.false,
+      counts after_counts,
+      has_year after_year,
+      unequal ((has after_counts.before.before).fits mode) at_mode.if-f-eq-ISO_WEEKS.false,
       c.from_day_of_year.ensures,
     )
 

@@ -19,12 +19,12 @@ returns c = simp (absent ((has c.before.before).fits mm) c.if-month-eq0.true)
 -- one was
 returns-2 : tie.Need-returns
 returns-2 c =
-    let has-month = c.before.before.before.before.before in
-    let at-start = has-month.before.before in
-    let fields = has at-start in
-    let fits = fitting at-start.args.r _ at-start.well_formed.1.0 in
+    let has_month = c.before.before.before.before.before in
+    let at_start = has_month.before.before in
+    let fields = has at_start in
+    let fits = fitting at_start.args.r _ at_start.well_formed.1.0 in
     simp (
-      present (fields.fits mm) has-month.if-month-eq0.false,
+      present (fields.fits mm) has_month.if-month-eq0.false,
       fields.back,
       to_z-of_z fits.year,
       to_z-of_z fits.day,

@@ -29,16 +29,16 @@ returns c = simp (absent ((has c.before.before).fits w) c.if-week-eq0.true)
 returns-2 : tie.Need-returns-in-Is
 unfolding with_month_week
 returns-2 c =
-    let day-known = c.before.before.before.before in
-    let at-day = day-known in
-    let after_first = at-day.before in
-    let has-week = after_first.before in
-    let at-start = has-week.before.before in
-    let fits = fitting at-start.args.r _ at-start.well_formed.1.0 in
+    let day_known = c.before.before.before.before in
+    let at_day = day_known in
+    let after_first = at_day.before in
+    let has_week = after_first.before in
+    let at_start = has_week.before.before in
+    let fits = fitting at_start.args.r _ at_start.well_formed.1.0 in
     simp (
-      present ((has at-start).fits w) has-week.if-week-eq0.false,
-      first after_first at-day.in-Is.is,
-      back at-day.in-Is.dd (search rules),
+      present ((has at_start).fits w) has_week.if-week-eq0.false,
+      first after_first at_day.in-Is.is,
+      back at_day.in-Is.dd (search rules),
       to_z-of_z fits.year,
       to_z-of_z fits.month,
       to_z-of_z fits.day,
@@ -51,9 +51,9 @@ unfolding with_month_week
 returns-3 c =
     let refused = c in
     let after_first = refused.before in
-    let has-week = after_first.before in
+    let has_week = after_first.before in
     simp (
-      present ((has has-week.before.before).fits w) has-week.if-week-eq0.false,
+      present ((has has_week.before.before).fits w) has_week.if-week-eq0.false,
       first after_first refused.in-Not.is,
     )
 

@@ -34,39 +34,39 @@ returns c = simp (absent ((has c.before.before).fits ww) c.if-week-eq0.true)
 returns-2 : tie.Need-returns-then-f-eq-ISO_WEEKS
 unfolding with_week
 returns-2 c =
-    let after-day = c.before in
-    let after-monday = after-day.before.before in
-    let iso-weeks = after-monday.before.before in
-    let has-week = iso-weeks.before.before in
-    let at-start = has-week.before.before in
-    let fields = has at-start in
+    let after_day = c.before in
+    let after_monday = after_day.before.before in
+    let iso_weeks = after_monday.before.before in
+    let has_week = iso_weeks.before.before in
+    let at_start = has_week.before.before in
+    let fields = has at_start in
     simp (
-      present (fields.fits ww) has-week.if-week-eq0.false,
-      equal (lit< tt) (fields.fits mode) iso-weeks.if-f-eq-ISO_WEEKS.true,
+      present (fields.fits ww) has_week.if-week-eq0.false,
+      equal (lit< tt) (fields.fits mode) iso_weeks.if-f-eq-ISO_WEEKS.true,
       c.whole.ensures,
-      returned after-day.day_of_week.type_inv after-day.day_of_week.ensures,
-      returned after-monday.pg_isoweek2j-monday.type_inv after-monday.pg_isoweek2j-monday.ensures,
+      returned after_day.day_of_week.type_inv after_day.day_of_week.ensures,
+      returned after_monday.pg_isoweek2j-monday.type_inv after_monday.pg_isoweek2j-monday.ensures,
       fields.back,
-      to_z-of_z (fitting at-start.args.r _ at-start.well_formed.1.0).year,
+      to_z-of_z (fitting at_start.args.r _ at_start.well_formed.1.0).year,
     )
 
 -- the first day of another week
 returns-3 : tie.Need-returns-in-Is
 unfolding with_week
 returns-3 c =
-    let day-known = c.before.before.before.before in
-    let at-day = day-known in
-    let after_first = at-day.before in
-    let other-weeks = after_first.before in
-    let has-week = other-weeks.before.before in
-    let at-start = start after_first in
-    let fields = has at-start in
-    let fits = fitting at-start.args.r _ at-start.well_formed.1.0 in
+    let day_known = c.before.before.before.before in
+    let at_day = day_known in
+    let after_first = at_day.before in
+    let other_weeks = after_first.before in
+    let has_week = other_weeks.before.before in
+    let at_start = start after_first in
+    let fields = has at_start in
+    let fits = fitting at_start.args.r _ at_start.well_formed.1.0 in
     simp (
-      present (fields.fits ww) has-week.if-week-eq0.false,
-      unequal (fields.fits mode) other-weeks.if-f-eq-ISO_WEEKS.false,
-      first after_first at-day.in-Is.is,
-      back at-day.in-Is.ddd (search rules),
+      present (fields.fits ww) has_week.if-week-eq0.false,
+      unequal (fields.fits mode) other_weeks.if-f-eq-ISO_WEEKS.false,
+      first after_first at_day.in-Is.is,
+      back at_day.in-Is.ddd (search rules),
       to_z-of_z fits.year,
       to_z-of_z fits.month,
       to_z-of_z fits.day,
@@ -79,12 +79,12 @@ unfolding with_week
 returns-4 c =
     let refused = c in
     let after_first = refused.before in
-    let other-weeks = after_first.before in
-    let has-week = other-weeks.before.before in
+    let other_weeks = after_first.before in
+    let has_week = other_weeks.before.before in
     let fields = has (start after_first) in
     simp (
-      present (fields.fits ww) has-week.if-week-eq0.false,
-      unequal (fields.fits mode) other-weeks.if-f-eq-ISO_WEEKS.false,
+      present (fields.fits ww) has_week.if-week-eq0.false,
+      unequal (fields.fits mode) other_weeks.if-f-eq-ISO_WEEKS.false,
       first after_first refused.in-Not.is,
     )
 

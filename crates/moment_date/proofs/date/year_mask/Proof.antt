@@ -16,16 +16,16 @@ returns c = simp (present ((has c.before.before).fits year) c.if-f-ne0.true)
 -- a century alone
 returns-2 : tie.Need-returns-then-f-ne0-2
 returns-2 c =
-    let no-year = c.before.before in
-    let fields = has no-year.before.before in
-    simp (absent (fields.fits year) no-year.if-f-ne0.false, present (fields.fits cc) c.if-f-ne0-2.true)
+    let no_year = c.before.before in
+    let fields = has no_year.before.before in
+    simp (absent (fields.fits year) no_year.if-f-ne0.false, present (fields.fits cc) c.if-f-ne0-2.true)
 
 -- neither
 returns-3 : tie.Need-returns
 returns-3 c =
-    let no-year = c.before.before in
-    let fields = has no-year.before.before in
-    simp (absent (fields.fits year) no-year.if-f-ne0.false, absent (fields.fits cc) c.if-f-ne0-2.false)
+    let no_year = c.before.before in
+    let fields = has no_year.before.before in
+    simp (absent (fields.fits year) no_year.if-f-ne0.false, absent (fields.fits cc) c.if-f-ne0-2.false)
 
 pub year_mask_spec : {M : Type 1} → statement M
 year_mask_spec = tie.close (tie.spec (λ c. search rules) returns (λ c. search rules) returns-2 returns-3)

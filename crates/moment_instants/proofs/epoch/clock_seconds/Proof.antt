@@ -4,23 +4,23 @@ use mir.Facts.{to_z-of_z}
 use mir.Syntax.{w64}
 use mir.Val.{SFits}
 use Rattle.calendar_gregorian.proofs.Signed.{wide, wide_fits}
-use Rattle.moment_instants.proofs.Seconds.{hours-fit, minutes-fit, both-fit, clock-fits}
+use Rattle.moment_instants.proofs.Seconds.{hours_fit, minutes_fit, both_fit, clock_fits}
 use Rattle.moment_instants.proofs.epoch.clock_seconds.Statement.{statement}
 use Rattle.moment_instants.proofs.epoch.clock_seconds.Tie as tie
 
 -- the hours and the minutes in seconds, their sum, and the whole sum fit 64 bits
 module _ (c : tie.Start) where
   hours : SFits w64 (c.args.hour *ℤ pos 3600)
-  hours = hours-fit c.ranges.hour c.ranges.minute c.ranges.second
+  hours = hours_fit c.ranges.hour c.ranges.minute c.ranges.second
 
   minutes : SFits w64 (c.args.minute *ℤ pos 60)
-  minutes = minutes-fit c.ranges.hour c.ranges.minute c.ranges.second
+  minutes = minutes_fit c.ranges.hour c.ranges.minute c.ranges.second
 
   both : SFits w64 (c.args.hour *ℤ pos 3600 +ℤ c.args.minute *ℤ pos 60)
-  both = both-fit c.ranges.hour c.ranges.minute c.ranges.second
+  both = both_fit c.ranges.hour c.ranges.minute c.ranges.second
 
   clock : SFits w64 (c.args.hour *ℤ pos 3600 +ℤ c.args.minute *ℤ pos 60 +ℤ c.args.second)
-  clock = clock-fits c.ranges.hour c.ranges.minute c.ranges.second
+  clock = clock_fits c.ranges.hour c.ranges.minute c.ranges.second
 
 pub clock_seconds_spec : {M : Type 1} → statement M
 clock_seconds_spec =

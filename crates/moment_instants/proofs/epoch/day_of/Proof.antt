@@ -9,14 +9,14 @@ use mir.Facts.{to_z-of_z}
 use mir.Syntax.{w64}
 use mir.Val.{to_z, of_z}
 use Rattle.moment_instants.specs.Instant.{day_of}
-use Rattle.moment_instants.proofs.Range.{day-fits}
+use Rattle.moment_instants.proofs.Range.{day_fits}
 use Rattle.moment_instants.proofs.Seconds.{returned, days}
 use Rattle.moment_instants.proofs.epoch.day_of.Statement.{statement}
 use Rattle.moment_instants.proofs.epoch.day_of.Tie as tie
 
 -- what the call gives is the days of the parts
-days-are : (c : tie.After-days_of-days) → to_z w64 (of_z w64 c.days_of-days.result) ≡ days c.args.p
-days-are c = returned c.days_of-days.type_inv c.days_of-days.ensures
+days_are : (c : tie.After-days_of-days) → to_z w64 (of_z w64 c.days_of-days.result) ≡ days c.args.p
+days_are c = returned c.days_of-days.type_inv c.days_of-days.ensures
 
 -- after the first test
 module _ (c : tie.Then-days-gtminus2147483648) where
@@ -24,12 +24,12 @@ module _ (c : tie.Then-days-gtminus2147483648) where
   n = days c.args.p
 
   low : lt_z (negsuc 2147483647) n ≡ true
-  low = rw (days-are c.before) at c.if-days-gtminus2147483648.true
+  low = rw (days_are c.before) at c.if-days-gtminus2147483648.true
 
 -- the day is too early
 returns-3 : tie.Need-returns-else-days-gtminus2147483648
 unfolding day_of
-returns-3 c = rw (rw (days-are c.before) at c.if-days-gtminus2147483648.false)
+returns-3 c = rw (rw (days_are c.before) at c.if-days-gtminus2147483648.false)
 
 pub day_of_spec : {M : Type 1} → statement M
 unfolding day_of
@@ -38,16 +38,16 @@ day_of_spec =
     (tie.spec
     (λ c κs. search rules)
     (λ c.
-    let n-is = days-are c.before.before in
-    rw n-is (day-fits (n c.before) (low c.before) (rw (← n-is) (search rules))))
+    let n_is = days_are c.before.before in
+    rw n_is (day_fits (n c.before) (low c.before) (rw (← n_is) (search rules))))
     -- the day's number
     (λ c.
-    let n-is = days-are c.before.before in
-    let high : lt_z (n c.before) (pos 2147483647) ≡ true = rw (← n-is) (search rules) in
-    rw (n-is, to_z-of_z (day-fits (n c.before) (low c.before) high), low c.before, high))
+    let n_is = days_are c.before.before in
+    let high : lt_z (n c.before) (pos 2147483647) ≡ true = rw (← n_is) (search rules) in
+    rw (n_is, to_z-of_z (day_fits (n c.before) (low c.before) high), low c.before, high))
     -- the day is too late
     (λ c.
-    let n-is = days-are c.before.before in
-    let late : lt_z (n c.before) (pos 2147483647) ≡ false = rw (← n-is) (search rules) in
+    let n_is = days_are c.before.before in
+    let late : lt_z (n c.before) (pos 2147483647) ≡ false = rw (← n_is) (search rules) in
     rw (low c.before, late))
     returns-3)

@@ -13,8 +13,8 @@ ranged c = search rules
 
 returns : tie.Need-returns
 returns c =
-    let parts-fit = ranged c.before in
-    returned c.days_from_civil.type_inv (simp (to_z-of_z parts-fit.year, to_z-of_z parts-fit.month, to_z-of_z parts-fit.day) at c.days_from_civil.ensures)
+    let parts_fit = ranged c.before in
+    returned c.days_from_civil.type_inv (simp (to_z-of_z parts_fit.year, to_z-of_z parts_fit.month, to_z-of_z parts_fit.day) at c.days_from_civil.ensures)
 
 pub days_of_spec : {M : Type 1} → statement M
 days_of_spec = tie.close (tie.spec (λ c κs. search rules) returns)

@@ -14,45 +14,45 @@ use Rattle.moment_instants.proofs.epoch.instant_of.Tie as tie
 returns : tie.Need-returns-in_default
 unfolding instant_of
 returns c =
-    let after-wall = c.before in
+    let after_wall = c.before in
     let refused = c.in_default.is in
-    rw (refused, sym after-wall.wall_from_tm-wall.ensures ∙ refused)
+    rw (refused, sym after_wall.wall_from_tm-wall.ensures ∙ refused)
 
 -- the wall clock is in range
-wall-fits : (c : tie.In-Micros) → SFits w64 c.in-Micros.micros
-wall-fits c = search rules
+wall_fits : (c : tie.In-Micros) → SFits w64 c.in-Micros.micros
+wall_fits c = search rules
 
 wall : (c : tie.In-Micros) → wall_of c.args.p ≡ Micros c.in-Micros.micros
 wall c = sym c.wall_from_tm-wall.ensures ∙ c.in-Micros.is
 
 -- the instant less the offset
 less : (c : tie.After-less_offset-exact) → c.less_offset-exact.result ≡ less_offset c.args.p.offset c.in-Micros.micros
-less c = simp (to_z-of_z (wall-fits c.before)) at c.less_offset-exact.ensures
+less c = simp (to_z-of_z (wall_fits c.before)) at c.less_offset-exact.ensures
 
 -- out of range once the offset is subtracted
 returns-2 : tie.Need-returns-in_default-exact
 unfolding instant_of
 returns-2 c =
-    let after-less-offset = c.before in
+    let after_less_offset = c.before in
     let refused = c.in_default-exact.is in
-    rw (refused, wall after-less-offset.before, sym (less after-less-offset) ∙ refused)
+    rw (refused, wall after_less_offset.before, sym (less after_less_offset) ∙ refused)
 
 -- what is rounded, and the precision, fit their types
-exact-fits : (c : tie.After-struct_told-1) → SFits w64 c.in-Micros-exact.t
-exact-fits c = search rules
+exact_fits : (c : tie.After-struct_told-1) → SFits w64 c.in-Micros-exact.t
+exact_fits c = search rules
 
-precision-fits : (c : tie.After-struct_told-1) → SFits w32 c.args.p.precision
-precision-fits c = search rules
+precision_fits : (c : tie.After-struct_told-1) → SFits w32 c.args.p.precision
+precision_fits c = search rules
 
 -- rounded to the precision
 returns-3 : tie.Need-returns
 unfolding instant_of
 returns-3 c =
-    let at-precision = c.before in
-    let at_exact = at-precision.before in
-    let after-less-offset = at_exact.before in
-    rw (wall after-less-offset.before, sym (less after-less-offset) ∙ at_exact.in-Micros-exact.is)
-    (simp (to_z-of_z (exact-fits at-precision), to_z-of_z (precision-fits at-precision)) at c.round_to_precision.ensures)
+    let at_precision = c.before in
+    let at_exact = at_precision.before in
+    let after_less_offset = at_exact.before in
+    rw (wall after_less_offset.before, sym (less after_less_offset) ∙ at_exact.in-Micros-exact.is)
+    (simp (to_z-of_z (exact_fits at_precision), to_z-of_z (precision_fits at_precision)) at c.round_to_precision.ensures)
 
 pub instant_of_spec : {M : Type 1} → statement M
 instant_of_spec =

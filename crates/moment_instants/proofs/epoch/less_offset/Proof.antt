@@ -8,7 +8,7 @@ use mir.Syntax.{w32, w64}
 use mir.Val.{SFits}
 use Rattle.calendar_gregorian.proofs.Signed.{wide, wide_fits}
 use Rattle.moment_instants.specs.Instant.{within, less_offset}
-use Rattle.moment_instants.proofs.Seconds.{offset-fits, less-fits}
+use Rattle.moment_instants.proofs.Seconds.{offset_fits, less_fits}
 use Rattle.moment_instants.proofs.epoch.less_offset.Statement.{statement}
 use Rattle.moment_instants.proofs.epoch.less_offset.Tie as tie
 
@@ -20,24 +20,24 @@ east c = search rules
 returns : tie.Need-returns-in-Absent
 unfolding less_offset
 returns c =
-    let at-start = c.before.before in
-    rw c.in-Absent.is (simp (to_z-of_z at-start.ranges.wall, +ℤ_idr) at c.added.ensures)
+    let at_start = c.before.before in
+    rw c.in-Absent.is (simp (to_z-of_z at_start.ranges.wall, +ℤ_idr) at c.added.ensures)
 
 -- an offset: its negative is added
 returns-2 : tie.Need-returns-in-East
 unfolding less_offset
 returns-2 c =
     let at_offset = c.before in
-    let at-start = at_offset.before in
+    let at_start = at_offset.before in
     rw at_offset.in-East.is
-    (simp (to_z-of_z at-start.ranges.wall, wide (east at_offset), to_z-of_z (offset-fits (east at_offset)), +ℤ_idl, to_z-of_z (less-fits (east at_offset))) at c.added-in-East.ensures)
+    (simp (to_z-of_z at_start.ranges.wall, wide (east at_offset), to_z-of_z (offset_fits (east at_offset)), +ℤ_idl, to_z-of_z (less_fits (east at_offset))) at c.added-in-East.ensures)
 
 -- the product and the difference fit
 mul-added : tie.Need-overflow_mul-seconds
-mul-added c = rw (wide (east c)) (offset-fits (east c))
+mul-added c = rw (wide (east c)) (offset_fits (east c))
 
 sub-added : tie.Need-overflow_sub-seconds
-sub-added c = rw (wide (east c), to_z-of_z (offset-fits (east c)), +ℤ_idl) (less-fits (east c))
+sub-added c = rw (wide (east c), to_z-of_z (offset_fits (east c)), +ℤ_idl) (less_fits (east c))
 
 pub less_offset_spec : {M : Type 1} → statement M
 less_offset_spec =

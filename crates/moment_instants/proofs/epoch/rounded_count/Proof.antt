@@ -9,7 +9,7 @@ use mir.Facts.{to_z-of_z}
 use mir.Syntax.{w64}
 use mir.Val.{SFits, to_z, of_z}
 use Rattle.moment_instants.specs.Instant.{rounded}
-use Rattle.moment_instants.proofs.Rounding.{turned, away-before, kept, away-after, rounded-fits, turned-fits}
+use Rattle.moment_instants.proofs.Rounding.{turned, away_before, kept, away_after, rounded_fits, turned_fits}
 use Rattle.moment_instants.proofs.epoch.rounded_count.Statement.{statement}
 use Rattle.moment_instants.proofs.epoch.rounded_count.Tie as tie
 
@@ -22,10 +22,10 @@ module _ (c : tie.Start) where
   answer = rounded c.args.scale (nat_abs c.args.count)
 
   fits : SFits w64 (pos answer)
-  fits = rounded-fits c.args.scale (nat_abs c.args.count) c.requires.1
+  fits = rounded_fits c.args.scale (nat_abs c.args.count) c.requires.1
 
-  fits-turned : SFits w64 (neg_ℤ (pos answer))
-  fits-turned = turned-fits c.args.scale (nat_abs c.args.count) c.requires.1
+  fits_turned : SFits w64 (neg_ℤ (pos answer))
+  fits_turned = turned_fits c.args.scale (nat_abs c.args.count) c.requires.1
 
 -- a count before 2000 is turned positive
 before : (c : tie.Then-count-lt0) → pos 0 -ℤ to_z w64 (of_z w64 c.args.count) ≡ pos (nat_abs c.args.count)
@@ -45,15 +45,15 @@ result-2 c = rw (after c.before) at c.rounded_magnitude-else-count-lt0.ensures
 -- before 2000
 returns : tie.Need-returns-then-count-lt0
 returns c =
-    let at-start = c.before.before in
-    rw (result c, to_z-of_z (fits at-start), +ℤ_idl, to_z-of_z (fits-turned at-start))
-    (away-before at-start.args.scale at-start.args.count (rw (to_z-of_z at-start.ranges.count) at c.if-count-lt0.true))
+    let at_start = c.before.before in
+    rw (result c, to_z-of_z (fits at_start), +ℤ_idl, to_z-of_z (fits_turned at_start))
+    (away_before at_start.args.scale at_start.args.count (rw (to_z-of_z at_start.ranges.count) at c.if-count-lt0.true))
 
 -- from 2000 on
 returns-2 : tie.Need-returns-else-count-lt0
 returns-2 c =
-    let at-start = c.before.before in
-    rw (result-2 c, to_z-of_z (fits at-start)) (away-after at-start.args.scale at-start.args.count (rw (to_z-of_z at-start.ranges.count) at c.if-count-lt0.false))
+    let at_start = c.before.before in
+    rw (result-2 c, to_z-of_z (fits at_start)) (away_after at_start.args.scale at_start.args.count (rw (to_z-of_z at_start.ranges.count) at c.if-count-lt0.false))
 
 pub rounded_count_spec : {M : Type 1} → statement M
 rounded_count_spec =
@@ -63,7 +63,7 @@ rounded_count_spec =
     (λ c. rw (before c, to_z-of_z (magnitude c.before)) (tt, omega (arith, magnitude c.before)))
     (λ c κs. rw (before c, to_z-of_z (magnitude c.before)) c.requires)
     (λ c. rw (result c) (fits c.before.before))
-    (λ c. rw (result c, to_z-of_z (fits c.before.before), +ℤ_idl) (fits-turned c.before.before))
+    (λ c. rw (result c, to_z-of_z (fits c.before.before), +ℤ_idl) (fits_turned c.before.before))
     (λ c. rw (after c) (tt, omega (arith, magnitude c.before)))
     (λ c κs. search rules)
     (λ c. rw (result-2 c) (fits c.before.before))

@@ -11,7 +11,7 @@ use mir.Syntax.{w32, w64}
 use mir.Val.{SFits, to_z, of_z}
 use Rattle.calendar_gregorian.proofs.Signed.{wide, wide_fits}
 use Rattle.moment_instants.specs.Instant.{seconds_of, wall_of}
-use Rattle.moment_instants.proofs.Seconds.{returned, too_few, too_many, micros-fit}
+use Rattle.moment_instants.proofs.Seconds.{returned, too_few, too_many, micros_fit}
 use Rattle.moment_instants.proofs.epoch.wall_from_tm.Statement.{statement}
 use Rattle.moment_instants.proofs.epoch.wall_from_tm.Tie as tie
 
@@ -32,8 +32,8 @@ returns-2 c = rw (too_many (seconds_of c.args.p) (rw (seconds c.before.before) a
 -- past both tests the microseconds of the seconds fit 64 bits
 whole : (c : tie.Else-seconds-gt-MOST_SECONDS) → SFits w64 (seconds_of c.args.p *ℤ pos 1000000)
 whole c =
-    let after-seconds = c.before.before in
-    micros-fit (seconds_of after-seconds.args.p) (rw (seconds after-seconds) at c.if-seconds.false) (rw (seconds after-seconds) at c.if-seconds-gt-MOST_SECONDS.false)
+    let after_seconds = c.before.before in
+    micros_fit (seconds_of after_seconds.args.p) (rw (seconds after_seconds) at c.if-seconds.false) (rw (seconds after_seconds) at c.if-seconds-gt-MOST_SECONDS.false)
 
 mul-added : tie.Need-overflow_mul-seconds
 mul-added c = rw (seconds c.before.before) (whole c)
@@ -46,9 +46,9 @@ micros c = search rules
 returns-3 : tie.Need-returns
 unfolding wall_of
 returns-3 c =
-    let after-tests = c.before.before.before in
-    rw (lt-ltb (mag (seconds_of after-tests.args.p *ℤ pos 1000000)) (2 ^ 63) (whole after-tests).sfits)
-    (simp (seconds after-tests.before.before, to_z-of_z (whole after-tests), wide (micros c.before)) at c.added.ensures)
+    let after_tests = c.before.before.before in
+    rw (lt-ltb (mag (seconds_of after_tests.args.p *ℤ pos 1000000)) (2 ^ 63) (whole after_tests).sfits)
+    (simp (seconds after_tests.before.before, to_z-of_z (whole after_tests), wide (micros c.before)) at c.added.ensures)
 
 pub wall_from_tm_spec : {M : Type 1} → statement M
 wall_from_tm_spec =

@@ -3,7 +3,7 @@
 use borrow.Author.Rules.{rules}
 use mir.Facts.{to_z-of_z}
 use Rattle.base_wrapping.proofs.Fits.{returned}
-use Rattle.moment_sums.proofs.Within.{not-above}
+use Rattle.moment_sums.proofs.Within.{not_above}
 use Rattle.moment_parts.specs.Plain.{has_day}
 use Rattle.moment_parts.proofs.plain.has_day.Statement.{statement}
 use Rattle.moment_parts.proofs.plain.has_day.Tie as tie
@@ -17,18 +17,18 @@ returns c = simp (rw (to_z-of_z c.ranges.day) at c.if-day-lt1.true)
 returns-2 : tie.Need-returns
 unfolding has_day
 returns-2 c =
-    let after-leap = c.before in
-    let at-day = after-leap.before in
-    let at-start = at-day.before in
+    let after_leap = c.before in
+    let at_day = after_leap.before in
+    let at_start = at_day.before in
     simp (
-      rw (to_z-of_z at-start.ranges.day) at at-day.if-day-lt1.false,
+      rw (to_z-of_z at_start.ranges.day) at at_day.if-day-lt1.false,
       returned c.month_length.type_inv c.month_length.ensures,
-      to_z-of_z at-start.ranges.day,
-      to_z-of_z at-start.ranges.month,
-      to_z-of_z at-start.ranges.year,
-      after-leap.pg_is_leap.ensures,
+      to_z-of_z at_start.ranges.day,
+      to_z-of_z at_start.ranges.month,
+      to_z-of_z at_start.ranges.year,
+      after_leap.pg_is_leap.ensures,
     )
-    (not-above at-start.args.day _)
+    (not_above at_start.args.day _)
 
 pub has_day_spec : {M : Type 1} → statement M
 has_day_spec = tie.close (tie.spec returns (λ c κs. search rules) (λ c κs. search rules) returns-2)

@@ -21,38 +21,38 @@ plain : (c : tie.Else-not-is_plain) → is_plain (fields_of c.args.f.now) ≡ tr
 plain c = sym c.is_plain.ensures ∙ c.if-not-is_plain.false
 
 -- the test of the year
-year-test : (c : tie.After-get-year) {b : Bool} → lt_z (read c.get-year.result) (pos 1) ≡ b
+year_test : (c : tie.After-get-year) {b : Bool} → lt_z (read c.get-year.result) (pos 1) ≡ b
     → lt_z (get (fields_of c.args.f.now) year) (pos 1) ≡ b
-year-test c e = rw (returned c.get-year.type_inv c.get-year.ensures) at e
+year_test c e = rw (returned c.get-year.type_inv c.get-year.ensures) at e
 
 -- that of the day
-day-test : (c : tie.After-has_day) {b : Bool} → c.has_day.result ≡ b
+day_test : (c : tie.After-has_day) {b : Bool} → c.has_day.result ≡ b
     → let f = fields_of c.args.f.now in
     has_day (get f year) (or_first (get f mm)) (or_first (get f dd)) ≡ b
-day-test c e =
-    let after-day = c.before in
-    let after-month = after-day.before.before in
-    let year-read = after-month.get-year in
+day_test c e =
+    let after_day = c.before in
+    let after_month = after_day.before.before in
+    let year_read = after_month.get-year in
     sym (simp (
-      returned after-day.or_first-day.type_inv after-day.or_first-day.ensures,
-      returned after-day.get-2.type_inv after-day.get-2.ensures,
-      returned after-month.or_first-month.type_inv after-month.or_first-month.ensures,
-      returned after-month.get.type_inv after-month.get.ensures,
-      returned year-read.type_inv year-read.ensures,
+      returned after_day.or_first-day.type_inv after_day.or_first-day.ensures,
+      returned after_day.get-2.type_inv after_day.get-2.ensures,
+      returned after_month.or_first-month.type_inv after_month.or_first-month.ensures,
+      returned after_month.get.type_inv after_month.get.ensures,
+      returned year_read.type_inv year_read.ensures,
     ) at c.has_day.ensures)
     ∙ e
 
 -- the year is not above 0
 returns-2 : tie.Need-returns-then-year-lt1
 unfolding has_plain_moment
-returns-2 c = simp (plain c.before.before, year-test c.before c.if-year-lt1.true)
+returns-2 c = simp (plain c.before.before, year_test c.before c.if-year-lt1.true)
 
 -- the month does not have the day
 returns-3 : tie.Need-returns-then-not-has_day
 unfolding has_plain_moment
 returns-3 c =
     let above = c.before.before.before.before.before.before in
-    simp (plain above.before.before, year-test above.before above.if-year-lt1.false, day-test c.before c.if-not-has_day.true)
+    simp (plain above.before.before, year_test above.before above.if-year-lt1.false, day_test c.before c.if-not-has_day.true)
 
 -- the test of the time
 returns-4 : tie.Need-returns
@@ -66,8 +66,8 @@ returns-4 c =
     let above = dated.before.before.before.before.before.before in
     simp (
       plain above.before.before,
-      year-test above.before above.if-year-lt1.false,
-      day-test dated.before dated.if-not-has_day.false,
+      year_test above.before above.if-year-lt1.false,
+      day_test dated.before dated.if-not-has_day.false,
       c.time_in_range.ensures,
       returned g4.type_inv g4.ensures,
       returned g5.type_inv g5.ensures,

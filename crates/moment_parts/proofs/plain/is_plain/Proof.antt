@@ -6,7 +6,7 @@ use mathlib.Core.List.{[], ◌∷◌}
 use borrow.Author.Rules.{rules}
 use Rattle.read_fields.specs.Fields.{is_zero}
 use Rattle.moment_parts.specs.Plain.{is_plain}
-use Rattle.moment_parts.proofs.Absent.{all-zero}
+use Rattle.moment_parts.proofs.Absent.{all_zero_lem}
 use Rattle.moment_parts.proofs.plain.is_plain.Statement.{statement}
 use Rattle.moment_parts.proofs.plain.is_plain.Tie as tie
 
@@ -24,7 +24,7 @@ returns c =
     let g3 = fifth.get-3 in
     let g2 = fifth.get-2 in
     let g1 = fifth.get in
-    all-zero g1.result
+    all_zero_lem g1.result
     (g2.result ∷ g3.result ∷ g4.result ∷ g5.result ∷ g6.result ∷ g7.result ∷ g8.result ∷ g9.result ∷ g10.result ∷ [])
     (g1.type_inv, (g2.type_inv, (g3.type_inv, (g4.type_inv, (g5.type_inv, (g6.type_inv, (g7.type_inv, (g8.type_inv, (g9.type_inv, (g10.type_inv, tt))))))))))
     ∙ λ i.

@@ -12,22 +12,22 @@ returns c =
     let micros = c.get-5 in
     let second = c.get-4 in
     let minute = c.get-3 in
-    let after-hour = c.before.before.before.before.before in
-    let after-day = after-hour.before in
-    let after-month = after-day.before in
-    let after-year = after-month.before in
+    let after_hour = c.before.before.before.before.before in
+    let after_day = after_hour.before in
+    let after_month = after_day.before in
+    let after_year = after_month.before in
     simp (
       returned precision.type_inv precision.ensures,
       returned micros.type_inv micros.ensures,
       returned second.type_inv second.ensures,
       returned minute.type_inv minute.ensures,
-      returned after-hour.get-2.type_inv after-hour.get-2.ensures,
+      returned after_hour.get-2.type_inv after_hour.get-2.ensures,
       c.plain_marks.ensures,
-      returned after-day.or_first-2.type_inv after-day.or_first-2.ensures,
-      returned after-month.or_first.type_inv after-month.or_first.ensures,
-      returned after-year.get.type_inv after-year.get.ensures,
-      returned after-year.get-dd.type_inv after-year.get-dd.ensures,
-      returned after-year.get-mm.type_inv after-year.get-mm.ensures,
+      returned after_day.or_first-2.type_inv after_day.or_first-2.ensures,
+      returned after_month.or_first.type_inv after_month.or_first.ensures,
+      returned after_year.get.type_inv after_year.get.ensures,
+      returned after_year.get-dd.type_inv after_year.get-dd.ensures,
+      returned after_year.get-mm.type_inv after_year.get-mm.ensures,
     )
 
 pub plain_parts_spec : {M : Type 1} → statement M

@@ -15,9 +15,9 @@ returns c = rw c.if-new-eq-MODE_NONE.true
 -- it has one: whether another was set before
 returns-2 : tie.Need-returns
 returns-2 c =
-    let at-start = c.before.before in
+    let at_start = c.before.before in
     rw (ne_eqb _ _ c.if-new-eq-MODE_NONE.false)
-    (simp (to_z-of_z at-start.ranges.old, to_z_pos w32 {n = at-start.args.new} (omega arith)) at c.from_char_set_int.ensures)
+    (simp (to_z-of_z at_start.ranges.old, to_z_pos w32 {n = at_start.args.new} (omega arith)) at c.from_char_set_int.ensures)
 
 pub mixes_spec : {M : Type 1} → statement M
 mixes_spec =

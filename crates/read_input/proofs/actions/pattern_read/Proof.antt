@@ -4,23 +4,23 @@ use mathlib.Core.Path.{◌≡◌}
 use mathlib.Core.Bool.{not}
 use borrow.Author.Rules.{rules}
 use lib.Dec.{eqb}
-use Rattle.read_literals.proofs.Literals.{entered-within}
+use Rattle.read_literals.proofs.Literals.{entered_within}
 use Rattle.read_input.proofs.actions.pattern_read.Statement.{statement}
 use Rattle.read_input.proofs.actions.pattern_read.Tie as tie
 
 action-read-requires : tie.Need-action_read-requires
 action-read-requires c κs =
-    let after-spaces = c.before in
-    let after-task = after-spaces.before.before in
-    let at-start = after-task.before.before.before in
-    let args = at-start.args in
-    let within = entered-within args.s.now args.p (not (eqb after-task.task_at-task.result.kind 1)) at-start.requires.1 in
-    (after-task.task_at-task.ensures, rw after-spaces.entered-q.ensures within, search rules)
+    let after_spaces = c.before in
+    let after_task = after_spaces.before.before in
+    let at_start = after_task.before.before.before in
+    let args = at_start.args in
+    let within = entered_within args.s.now args.p (not (eqb after_task.task_at-task.result.kind 1)) at_start.requires.1 in
+    (after_task.task_at-task.ensures, rw after_spaces.entered-q.ensures within, search rules)
 
 returns : tie.Need-returns
 returns c =
-    let after-spaces = c.before.before in
-    rw (← after-spaces.task_at-task.ensures.is, ← after-spaces.entered-q.ensures) c.action_read.ensures
+    let after_spaces = c.before.before in
+    rw (← after_spaces.task_at-task.ensures.is, ← after_spaces.entered-q.ensures) c.action_read.ensures
 
 pub pattern_read_spec : {M : Type 1} → statement M
 pattern_read_spec =

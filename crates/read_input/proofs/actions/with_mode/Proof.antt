@@ -11,8 +11,8 @@ use Rattle.read_input.proofs.actions.with_mode.Tie as tie
 -- the pattern has a date mode
 returns : tie.Need-returns-then-new-ne-MODE_NONE
 returns c =
-    let at-start = c.before.before.before in
-    rw (ne_eqb _ _ c.if-new-ne-MODE_NONE.true) (simp (to_z_pos w32 {n = at-start.args.new} (omega arith)) at c.put.ensures)
+    let at_start = c.before.before.before in
+    rw (ne_eqb _ _ c.if-new-ne-MODE_NONE.true) (simp (to_z_pos w32 {n = at_start.args.new} (omega arith)) at c.put.ensures)
 
 -- it has none
 returns-2 : tie.Need-returns-else-new-ne-MODE_NONE

@@ -9,7 +9,7 @@ use borrow.Author.Rules.{rules}
 use borrow.Author.Tests.{ne_eqb}
 use lib.ListN.{length}
 use Rattle.template_nodes.specs.Bytes.{nodes_in}
-use Rattle.template_nodes.proofs.Encoding.{nodes-length}
+use Rattle.template_nodes.proofs.Encoding.{nodes_length}
 use Rattle.read_fields.specs.declared.Fields.{Fields}
 use Rattle.read_fields.specs.declared.Place.{Place}
 use Rattle.read_fields.specs.declared.Reading.{Reading}
@@ -17,7 +17,7 @@ use Rattle.read_literals.specs.Literals.{place}
 use Rattle.read_input.specs.Lane.{CharsRead, passed_at}
 use Rattle.read_input.specs.Turn.{Turned}
 use Rattle.read_input.specs.declared.lane.Passed.{Passed}
-use Rattle.read_input.proofs.Plainly.{of-character, settled}
+use Rattle.read_input.proofs.Plainly.{of_character, settled}
 use Rattle.read_input.proofs.lane.chars_passed.Statement.{statement}
 use Rattle.read_input.proofs.lane.chars_passed.Tie as tie
 
@@ -36,27 +36,27 @@ loop-holds c = (omega arith, c.requires.0, λ t f whole turned. turned)
 ends : (c : tie.At-loop-i invariant-loop decreases-loop) {r : Passed} → r ≡ passed_at c.loop-i.i c.loop-i.at
     → let args = c.args in CharsRead args.s.now (nodes_in args.c.now) args.from args.place r
 ends c e =
-    let at-start = c.before.before.before in
+    let at_start = c.before.before.before in
     let inv = c.loop-i.invariant in
-    let from_place = settled at-start.args.place at-start.requires.2 at-start.requires.3 in
+    let from_place = settled at_start.args.place at_start.requires.2 at_start.requires.3 in
     rw e (record { on = inv.0; turned = λ t f whole turned. inv.2 t f whole (rw (← from_place) turned) })
 
 loop-again : tie.Need-loop-i-preserved invariant-loop decreases-loop
 loop-again c =
-    let a-character = c.before in
-    let at-node = a-character.before.before in
-    let here = at-node.before in
-    let at-loop = here.before.before in
-    let at-start = at-loop.before.before.before in
-    let nodes = nodes_in at-start.args.c.now in
-    let one_left : at-loop.loop-i.i < length nodes = omega (arith, here.loop-i-test.true, nodes-length at-start.args.c.now) in
-    let later : at-loop.loop-i.i ≡ 0 → ⊥ = λ z. at-start.requires.1 (omega (arith, at-loop.loop-i.invariant.0, z)) in (
-      omega (arith, at-loop.loop-i.invariant.0),
+    let a_character = c.before in
+    let at_node = a_character.before.before in
+    let here = at_node.before in
+    let at_loop = here.before.before in
+    let at_start = at_loop.before.before.before in
+    let nodes = nodes_in at_start.args.c.now in
+    let one_left : at_loop.loop-i.i < length nodes = omega (arith, here.loop-i-test.true, nodes_length at_start.args.c.now) in
+    let later : at_loop.loop-i.i ≡ 0 → ⊥ = λ z. at_start.requires.1 (omega (arith, at_loop.loop-i.invariant.0, z)) in (
+      omega (arith, at_loop.loop-i.invariant.0),
       omega arith,
       λ t f whole turned.
           rw c.measure_usual-at.ensures.is
-          (of-character t at-start.args.s.now nodes whole at-loop.loop-i.i f _ (at-loop.loop-i.invariant.2 t f whole turned) one_left (omega (arith, here.if-s-at.false))
-          _ at-node.node_at-n.ensures at-loop.loop-i.at refl a-character.if-n-ne-FN_CHAR.false later),
+          (of_character t at_start.args.s.now nodes whole at_loop.loop-i.i f _ (at_loop.loop-i.invariant.2 t f whole turned) one_left (omega (arith, here.if-s-at.false))
+          _ at_node.node_at-n.ensures at_loop.loop-i.at refl a_character.if-n-ne-FN_CHAR.false later),
     )
 
 pub chars_passed_spec : {M : Type 1} → statement M

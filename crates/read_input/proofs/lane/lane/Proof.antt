@@ -7,7 +7,7 @@ use borrow.Author.Rules.{rules}
 use lib.Dec.{eqb}
 use lib.ListN.{length, drop}
 use Rattle.template_nodes.specs.Bytes.{nodes_in}
-use Rattle.template_nodes.proofs.Encoding.{nodes-length}
+use Rattle.template_nodes.proofs.Encoding.{nodes_length}
 use Rattle.read_fields.specs.Fields.{fields_of}
 use Rattle.read_input.specs.Reader.{read_from}
 use Rattle.read_input.specs.Turn.{Turned}
@@ -34,31 +34,31 @@ returns c =
 
 -- one node is left, and some input
 module _ (c : tie.Else-s-at invariant-loop decreases-loop) where
-  abbrev at-loop : tie.At-loop-i invariant-loop decreases-loop
-  at-loop = c.before.before
+  abbrev at_loop : tie.At-loop-i invariant-loop decreases-loop
+  at_loop = c.before.before
 
-  one_left : at-loop.loop-i.i < length (nodes_in at-loop.before.before.before.before.args.c.now)
-  one_left = omega (arith, c.loop-i-test.true, nodes-length at-loop.before.before.before.before.args.c.now)
+  one_left : at_loop.loop-i.i < length (nodes_in at_loop.before.before.before.before.args.c.now)
+  one_left = omega (arith, c.loop-i-test.true, nodes_length at_loop.before.before.before.before.args.c.now)
 
 node-taken-requires : tie.Need-node_taken-r-requires invariant-loop decreases-loop
 node-taken-requires c κs =
     let here = c.before in
-    let inv = (at-loop here).loop-i.invariant in
+    let inv = (at_loop here).loop-i.invariant in
     (one_left here, inv.1.none, inv.1.payable, omega (arith, here.if-s-at.false), search rules)
 
 -- a pattern that is left
 returns-2 : tie.Need-returns-then-r-i invariant-loop decreases-loop
 returns-2 c =
-    let after-node = c.before.before in
-    let inv = (at-loop after-node.before.before).loop-i.invariant in
-    let took = after-node.node_taken-r.ensures in
+    let after_node = c.before.before in
+    let inv = (at_loop after_node.before.before).loop-i.invariant in
+    let took = after_node.node_taken-r.ensures in
     record { on = omega (arith, inv.0, took.on); turned = took.turned _ inv.1; stops = λ h l. rw c.if-r-i.true (took.left c.if-r-i.true) }
 
 loop-again : tie.Need-loop-i-preserved invariant-loop decreases-loop
 loop-again c =
-    let after-node = c.before.before.before in
-    let inv = (at-loop after-node.before.before).loop-i.invariant in
-    let took = after-node.node_taken-r.ensures in
+    let after_node = c.before.before.before in
+    let inv = (at_loop after_node.before.before).loop-i.invariant in
+    let took = after_node.node_taken-r.ensures in
     (omega (arith, inv.0, took.on), took.turned _ inv.1)
 
 -- the template ended
@@ -69,15 +69,15 @@ returns-3 c =
     record {
       on = inv.0;
       turned = inv.1;
-      stops = λ h l. absurd (omega (arith, c.loop-i-test.false, nodes-length args.c.now, h));
+      stops = λ h l. absurd (omega (arith, c.loop-i-test.false, nodes_length args.c.now, h));
     }
 
 loop-less : tie.Need-loop-i-smaller invariant-loop decreases-loop
 loop-less c =
     let not_left = c.before in
-    let after-node = not_left.before.before in
-    let in-loop = after-node.before.before.before in
-    omega (arith, not_left.if-r-i.false, after-node.node_taken-r.ensures.on, in-loop.loop-i-test.true)
+    let after_node = not_left.before.before in
+    let in_loop = after_node.before.before.before in
+    omega (arith, not_left.if-r-i.false, after_node.node_taken-r.ensures.on, in_loop.loop-i-test.true)
 
 pub lane_spec : {M : Type 1} → statement M
 lane_spec =

@@ -2,7 +2,7 @@
 use mathlib.Core.Path.{◌≡◌, subst}
 use native.Mathlib.Omega.{arith}
 use borrow.Author.Rules.{rules}
-use Rattle.template_nodes.proofs.Encoding.{nodes-length}
+use Rattle.template_nodes.proofs.Encoding.{nodes_length}
 use Rattle.read_input.proofs.lane.literal_taken.Statement.{statement}
 use Rattle.read_input.proofs.lane.literal_taken.Tie as tie
 
@@ -10,16 +10,16 @@ use Rattle.read_input.proofs.lane.literal_taken.Tie as tie
 chars-passed-requires : tie.Need-chars_passed-requires
 chars-passed-requires c κs =
     let spent = c.before.before in
-    let at-start = spent.before.before.before.before.before.before.before in
-    (omega (arith, at-start.requires.0), (λ z. absurd (omega arith)), spent.if-q-eq0.true, c.if-q-eq0-2.true)
+    let at_start = spent.before.before.before.before.before.before.before in
+    (omega (arith, at_start.requires.0), (λ z. absurd (omega arith)), spent.if-q-eq0.true, c.if-q-eq0-2.true)
 
 pub literal_taken_spec : {M : Type 1} → statement M
 literal_taken_spec =
     tie.close
     (tie.spec
     (λ c κs. search rules)
-    (λ c. let count-is = nodes-length c.args.c.now in search rules)
+    (λ c. let count_is = nodes_length c.args.c.now in search rules)
     chars-passed-requires
     (λ c. rw (← c.literal_read-q.ensures) c.chars_passed.ensures)
-    (λ c. let count-is = nodes-length c.args.c.now in search rules)
+    (λ c. let count_is = nodes_length c.args.c.now in search rules)
     (λ c. rw (← c.literal_read-q.ensures) (record { on = omega arith; turned = λ t f whole turned. turned })))

@@ -4,8 +4,8 @@ use mathlib.Core.Path.{◌≡◌, ◌∙◌, refl, sym, ap}
 use native.Mathlib.Omega.{arith}
 use borrow.Author.Rules.{rules}
 use Rattle.template_nodes.specs.declared.Node.{Node}
-use Rattle.template_nodes.proofs.Encoding.{nodes-length}
-use Rattle.read_input.proofs.Plainly.{of-literal, of-pattern}
+use Rattle.template_nodes.proofs.Encoding.{nodes_length}
+use Rattle.read_input.proofs.Plainly.{of_literal, of_pattern}
 use Rattle.read_input.proofs.lane.node_taken.Statement.{statement}
 use Rattle.read_input.proofs.lane.node_taken.Tie as tie
 
@@ -13,24 +13,24 @@ use Rattle.read_input.proofs.lane.node_taken.Tie as tie
 returns : tie.Need-returns-then-r
 returns c =
     let taken = c.before in
-    let after-pattern = taken.before in
-    let pattern = after-pattern.before.before in
-    let at-node = pattern.before.before in
-    let pre = at-node.requires in
+    let after_pattern = taken.before in
+    let pattern = after_pattern.before.before in
+    let at_node = pattern.before.before in
+    let pre = at_node.requires in
     record {
       on = omega arith;
       left = λ z. absurd (omega (arith, z));
       turned = λ whole turned.
-          of-pattern _ _ _ whole _ _ _ turned pre.0 pre.3 _ at-node.node_at-n.ensures pattern.if-n-eq-FN_ACTION.true
-          (after-pattern.pattern_taken-r.ensures.taken taken.if-r.true);
+          of_pattern _ _ _ whole _ _ _ turned pre.0 pre.3 _ at_node.node_at-n.ensures pattern.if-n-eq-FN_ACTION.true
+          (after_pattern.pattern_taken-r.ensures.taken taken.if-r.true);
     }
 
 -- a pattern that is left
 returns-2 : tie.Need-returns-then-n-eq-FN_ACTION
 returns-2 c =
-    let after-pattern = c.before in
-    let pattern = after-pattern.before.before in
-    let same = after-pattern.pattern_taken-r.ensures.left c.if-r.false in
+    let after_pattern = c.before in
+    let pattern = after_pattern.before.before in
+    let same = after_pattern.pattern_taken-r.ensures.left c.if-r.false in
     record {
       on = omega arith;
       left = λ z. ap (λ (n : Node). n.kind) (sym pattern.node_at-n.ensures) ∙ pattern.if-n-eq-FN_ACTION.true;
@@ -41,13 +41,13 @@ returns-2 c =
 returns-3 : tie.Need-returns
 returns-3 c =
     let literal = c.before in
-    let at-node = literal.before.before in
-    let pre = at-node.requires in
+    let at_node = literal.before.before in
+    let pre = at_node.requires in
     let chars = c.literal_taken.ensures in
     record {
       on = omega (arith, chars.on);
       left = λ z. absurd (omega (arith, chars.on, z));
-      turned = λ whole turned. chars.turned _ _ whole (of-literal _ _ _ whole _ _ _ turned pre.0 pre.3 _ at-node.node_at-n.ensures literal.if-n-eq-FN_ACTION.false);
+      turned = λ whole turned. chars.turned _ _ whole (of_literal _ _ _ whole _ _ _ turned pre.0 pre.3 _ at_node.node_at-n.ensures literal.if-n-eq-FN_ACTION.false);
     }
 
 pub node_taken_spec : {M : Type 1} → statement M
@@ -56,7 +56,7 @@ node_taken_spec =
     (tie.spec
     (λ c κs. search rules)
     (λ c κs. search rules)
-    (λ c. let count-is = nodes-length c.args.c.now in search rules)
+    (λ c. let count_is = nodes_length c.args.c.now in search rules)
     returns
     returns-2
     (λ c κs. search rules)

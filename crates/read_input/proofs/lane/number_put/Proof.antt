@@ -30,40 +30,40 @@ plain task z n f e = rw e
 
 -- both tests passed, and the mode is put
 module _ (c : tie.After-with_mode) where
-  abbrev not-other : tie.Else-holds_other
-  not-other = c.before.before
+  abbrev not_other : tie.Else-holds_other
+  not_other = c.before.before
 
-  abbrev not-mixed : tie.Else-mixes
-  not-mixed = not-other.before.before
+  abbrev not_mixed : tie.Else-mixes
+  not_mixed = not_other.before.before
 
-  abbrev at-start : tie.Start
-  at-start = not-mixed.before.before.before
+  abbrev at_start : tie.Start
+  at_start = not_mixed.before.before.before
 
-  then-number : {after : List ℤ} → fields_of after ≡ with_number at-start.args.task at-start.args.z at-start.args.n (fields_of c.with_mode.new.f)
-      → NumberPut at-start.args.mode at-start.args.task at-start.args.z at-start.args.n at-start.args.f.now true after
-  then-number is =
+  then_number : {after : List ℤ} → fields_of after ≡ with_number at_start.args.task at_start.args.z at_start.args.n (fields_of c.with_mode.new.f)
+      → NumberPut at_start.args.mode at_start.args.task at_start.args.z at_start.args.n at_start.args.f.now true after
+  then_number is =
       record {
         left = λ e. absurd (true≢false e);
-        unmixed = λ e. sym (tested not-mixed.before) ∙ not-mixed.if-mixes.false;
-        alone = λ e. answered at-start.args.f.now at-start.args.task.field at-start.ranges.z not-other.before.holds_other.ensures not-other.if-holds_other.false;
-        put = λ e. is ∙ ap (with_number at-start.args.task at-start.args.z at-start.args.n) c.with_mode.ensures;
+        unmixed = λ e. sym (tested not_mixed.before) ∙ not_mixed.if-mixes.false;
+        alone = λ e. answered at_start.args.f.now at_start.args.task.field at_start.ranges.z not_other.before.holds_other.ensures not_other.if-holds_other.false;
+        put = λ e. is ∙ ap (with_number at_start.args.task at_start.args.z at_start.args.n) c.with_mode.ensures;
       }
 
 -- a plain number
 returns-3 : tie.Need-returns-then-task-eq-PLAIN
 returns-3 c =
     let is_plain = c.before.before in
-    let after-mode = is_plain.before.before in
-    let args = (at-start after-mode).args in
-    then-number after-mode
-    (rw (to_z-of_z (at-start after-mode).ranges.z) at c.put.ensures
-    ∙ plain args.task args.z args.n (fields_of after-mode.with_mode.new.f) is_plain.if-task-eq-PLAIN.true)
+    let after_mode = is_plain.before.before in
+    let args = (at_start after_mode).args in
+    then_number after_mode
+    (rw (to_z-of_z (at_start after_mode).ranges.z) at c.put.ensures
+    ∙ plain args.task args.z args.n (fields_of after_mode.with_mode.new.f) is_plain.if-task-eq-PLAIN.true)
 
 -- any other
 returns-4 : tie.Need-returns
 returns-4 c =
-    let after-mode = c.before.before.before.before in
-    then-number after-mode (rw (to_z-of_z (at-start after-mode).ranges.z) at c.put_number.ensures)
+    let after_mode = c.before.before.before.before in
+    then_number after_mode (rw (to_z-of_z (at_start after_mode).ranges.z) at c.put_number.ensures)
 
 pub number_put_spec : {M : Type 1} → statement M
 number_put_spec =

@@ -24,26 +24,26 @@ test k f e = rw (to_z-of_z f) at e
 returns : tie.Need-returns-then-year-lt70
 unfolding near2020
 returns c =
-    let at-start = c.before in
-    let fits = at-start.ranges.year in
-    rw (raised_is at-start.args.year 70 2000 fits c.if-year-lt70.true (omega arith), test 70 fits c.if-year-lt70.true)
+    let at_start = c.before in
+    let fits = at_start.ranges.year in
+    rw (raised_is at_start.args.year 70 2000 fits c.if-year-lt70.true (omega arith), test 70 fits c.if-year-lt70.true)
 
 -- below 100: by 1900
 returns-2 : tie.Need-returns-then-year-lt100
 unfolding near2020
 returns-2 c =
-    let at-start = c.before.before in
-    let fits = at-start.ranges.year in
-    rw (raised_is at-start.args.year 100 1900 fits c.if-year-lt100.true (omega arith), test 70 fits c.if-year-lt70.false, test 100 fits c.if-year-lt100.true)
+    let at_start = c.before.before in
+    let fits = at_start.ranges.year in
+    rw (raised_is at_start.args.year 100 1900 fits c.if-year-lt100.true (omega arith), test 70 fits c.if-year-lt70.false, test 100 fits c.if-year-lt100.true)
 
 -- below 1000: by 1000
 returns-4 : tie.Need-returns-then-year-lt1000
 unfolding near2020
 returns-4 c =
-    let at-start = c.before.before.before.before in
-    let fits = at-start.ranges.year in
+    let at_start = c.before.before.before.before in
+    let fits = at_start.ranges.year in
     rw (
-      raised_is at-start.args.year 1000 1000 fits c.if-year-lt1000.true (omega arith),
+      raised_is at_start.args.year 1000 1000 fits c.if-year-lt1000.true (omega arith),
       test 70 fits c.if-year-lt70.false,
       test 100 fits c.if-year-lt100.false,
       test 520 {t = false} fits (search rules),
@@ -54,8 +54,8 @@ returns-4 c =
 returns-5 : tie.Need-returns
 unfolding near2020
 returns-5 c =
-    let at-start = c.before.before.before.before in
-    let fits = at-start.ranges.year in
+    let at_start = c.before.before.before.before in
+    let fits = at_start.ranges.year in
     rw (
       to_z-of_z fits,
       test 70 fits c.if-year-lt70.false,
@@ -76,10 +76,10 @@ adjust_partial_year_spec =
     (λ c. raised c.args.year 520 2000 c.ranges.year (search rules) (omega arith))
     -- below 520: by 2000
     (λ c.
-    let at-start = c.before.before.before in
-    let fits = at-start.ranges.year in
+    let at_start = c.before.before.before in
+    let fits = at_start.ranges.year in
     rw (
-      raised_is at-start.args.year 520 2000 fits (search rules) (omega arith),
+      raised_is at_start.args.year 520 2000 fits (search rules) (omega arith),
       test 70 fits c.if-year-lt70.false,
       test 100 fits c.if-year-lt100.false,
       test 520 {t = true} fits (search rules),

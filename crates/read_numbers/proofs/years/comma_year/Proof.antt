@@ -10,7 +10,7 @@ use mir.Facts.{to_z-of_z}
 use mir.Syntax.{w32}
 use mir.Val.{SFits}
 use Rattle.read_numbers.specs.Year.{scanned}
-use Rattle.read_numbers.proofs.CommaYears.{Ends, ends, found-year}
+use Rattle.read_numbers.proofs.CommaYears.{Ends, ends, found_year}
 use Rattle.read_numbers.proofs.years.comma_year.Statement.{statement}
 use Rattle.read_numbers.proofs.years.comma_year.Tie as tie
 
@@ -24,31 +24,31 @@ rest c =
 -- the end of the year is a place in the input
 add-joined : tie.Need-overflow_add-at
 add-joined c =
-    let after-scan = c.before in
-    let args = after-scan.args in
-    let ends-within = subst (Ends (drop args.at args.s.now)) (sym (rest after-scan) ∙ c.in-Both.is) (ends _) in
-    omega (arith, ends-within, length-drop args.at args.s.now)
+    let after_scan = c.before in
+    let args = after_scan.args in
+    let ends_within = subst (Ends (drop args.at args.s.now)) (sym (rest after_scan) ∙ c.in-Both.is) (ends _) in
+    omega (arith, ends_within, length-drop args.at args.s.now)
 
 -- both numbers have 32 bits
-thousands-fit : (c : tie.In-Both) → SFits w32 c.in-Both.thousands
-thousands-fit c = search rules
+thousands_fit : (c : tie.In-Both) → SFits w32 c.in-Both.thousands
+thousands_fit c = search rules
 
-years-fit : (c : tie.In-Both) → SFits w32 c.in-Both.years
-years-fit c = search rules
+years_fit : (c : tie.In-Both) → SFits w32 c.in-Both.years
+years_fit c = search rules
 
 -- both numbers, joined
 returns : tie.Need-returns-in-Both
 returns c =
     let at_both = c.before in
-    let after-scan = at_both.before in
-    found-year _ _ _ after-scan.requires _ _ (sym at_both.in-Both.is ∙ rest after-scan)
-    (simp (to_z-of_z (thousands-fit at_both), to_z-of_z (years-fit at_both)) at c.joined.ensures)
+    let after_scan = at_both.before in
+    found_year _ _ _ after_scan.requires _ _ (sym at_both.in-Both.is ∙ rest after_scan)
+    (simp (to_z-of_z (thousands_fit at_both), to_z-of_z (years_fit at_both)) at c.joined.ensures)
 
 -- not two numbers
 returns-2 : tie.Need-returns-in-Missing
 returns-2 c =
-    let after-scan = c.before in
-    found-year _ _ _ after-scan.requires _ _ (sym c.in-Missing.is ∙ rest after-scan) refl
+    let after_scan = c.before in
+    found_year _ _ _ after_scan.requires _ _ (sym c.in-Missing.is ∙ rest after_scan) refl
 
 pub comma_year_spec : {M : Type 1} → statement M
 comma_year_spec =

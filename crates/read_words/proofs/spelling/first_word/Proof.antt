@@ -8,8 +8,8 @@ use lib.ListN.{length}
 use Rattle.template_patterns.specs.Words.{word_table}
 use Rattle.template_patterns.specs.declared.tables.WordList.{WordList}
 use Rattle.read_words.specs.FoldOnce.{word_in}
-use Rattle.read_words.proofs.Letters.{other-first}
-use Rattle.read_words.proofs.Words.{no-space, from, over, found, next}
+use Rattle.read_words.proofs.Letters.{other_first}
+use Rattle.read_words.proofs.Words.{no_space, from, over, found, next}
 use Rattle.read_words.proofs.spelling.first_word.Lts.{then-table-k+else-n-gt0, else-table-k}
 use Rattle.read_words.proofs.spelling.first_word.Statement.{statement}
 use Rattle.read_words.proofs.spelling.first_word.Tie as tie
@@ -22,7 +22,7 @@ decreases-loop table start first k₀ k = 12 - k
 
 -- no word begins with a space
 returns : tie.Need-returns-then-first-eq32 invariant-loop decreases-loop
-returns c list e = no-space _ list c.if-first-eq32.true
+returns c list e = no_space _ list c.if-first-eq32.true
 
 loop-holds : tie.Need-loop-k-init invariant-loop decreases-loop
 unfolding word_in
@@ -31,30 +31,30 @@ loop-holds c = (search rules, λ list e. refl)
 -- the word of row k is there
 returns-2 : tie.Need-returns-then-n-gt0 invariant-loop decreases-loop
 returns-2 c list e =
-    let in-loop = c.before.before.before.before.before in
-    found _ list _ _ in-loop.loop-k-test.true (rw e at c.spelled-n.ensures) c.if-n-gt0.true (in-loop.loop-k.invariant.1 list e)
+    let in_loop = c.before.before.before.before.before in
+    found _ list _ _ in_loop.loop-k-test.true (rw e at c.spelled-n.ensures) c.if-n-gt0.true (in_loop.loop-k.invariant.1 list e)
 
 -- the word is not there, or its first byte is another: on to the next row
 loop-again : tie.Need-loop-k-preserved invariant-loop decreases-loop
 loop-again c =
-    let in-loop = c.before.before.before in
-    let at-loop = in-loop.before in
-    let args = at-loop.args in
-    let in_table : 9 * at-loop.loop-k.k < length args.table.now = omega arith in
-    let other = other-first args.table.now at-loop.loop-k.k args.start.now in_table in (
+    let in_loop = c.before.before.before in
+    let at_loop = in_loop.before in
+    let args = at_loop.args in
+    let in_table : 9 * at_loop.loop-k.k < length args.table.now = omega arith in
+    let other = other_first args.table.now at_loop.loop-k.k args.start.now in_table in (
       search rules,
-      λ list e. at-loop.loop-k.invariant.1 list e ∙ (elim c.if-table-k.branch [
-        | then-table-k+else-n-gt0 w ↦ next _ list _ _ in-loop.loop-k-test.true (rw e at w.spelled-n.ensures) w.if-n-gt0.false
-        | else-table-k w ↦ next _ list _ _ in-loop.loop-k-test.true (rw e at (other w.if-table-k.false)) (omega arith)
+      λ list e. at_loop.loop-k.invariant.1 list e ∙ (elim c.if-table-k.branch [
+        | then-table-k+else-n-gt0 w ↦ next _ list _ _ in_loop.loop-k-test.true (rw e at w.spelled-n.ensures) w.if-n-gt0.false
+        | else-table-k w ↦ next _ list _ _ in_loop.loop-k-test.true (rw e at (other w.if-table-k.false)) (omega arith)
       ]),
     )
 
 -- all rows are tried
 returns-3 : tie.Need-returns invariant-loop decreases-loop
 returns-3 c list e =
-    let at-loop = c.before in
-    let all-rows : at-loop.loop-k.k ≡ 12 = omega arith in
-    over _ _ (rw all-rows at (at-loop.loop-k.invariant.1 list e))
+    let at_loop = c.before in
+    let all_rows : at_loop.loop-k.k ≡ 12 = omega arith in
+    over _ _ (rw all_rows at (at_loop.loop-k.invariant.1 list e))
 
 pub first_word_spec : {M : Type 1} → statement M
 first_word_spec =

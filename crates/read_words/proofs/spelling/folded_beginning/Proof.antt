@@ -5,7 +5,7 @@ use Prim.Native.Nat.{◌-◌, ◌≤◌}
 use native.Mathlib.Omega.{arith}
 use borrow.Author.Rules.{rules}
 use Rattle.read_words.specs.FoldOnce.{beginning, in_nine}
-use Rattle.read_words.proofs.Beginning.{put_next, all-put}
+use Rattle.read_words.proofs.Beginning.{put_next, all_put}
 use Rattle.read_words.proofs.spelling.folded_beginning.Statement.{statement}
 use Rattle.read_words.proofs.spelling.folded_beginning.Tie as tie
 
@@ -23,7 +23,7 @@ ended : (c : tie.At-loop-j invariant-loop decreases-loop) → c.loop-j.j ≡ c.f
     → let args = c.args in c.loop-j.start ≡ in_nine (beginning args.most args.s.now args.at)
 ended c e =
     let args = c.args in
-    c.loop-j.invariant.1 ∙ all-put args.s.now args.at _ _ c.loop-j.j c.fitting-n.ensures e
+    c.loop-j.invariant.1 ∙ all_put args.s.now args.at _ _ c.loop-j.j c.fitting-n.ensures e
 
 -- the input ends, or no word of the list is longer
 returns : tie.Need-returns-then-n-j invariant-loop decreases-loop
@@ -32,11 +32,11 @@ returns c = ended c.before.before (omega arith)
 -- one more byte
 loop-again : tie.Need-loop-j-preserved invariant-loop decreases-loop
 loop-again c =
-    let at-loop = c.before.before.before.before in
-    let args = at-loop.args in (
+    let at_loop = c.before.before.before.before in
+    let args = at_loop.args in (
       search rules,
-      put_next args.s.now args.at at-loop.loop-j.j (omega arith) at-loop.loop-j.start c.folded.result (omega arith)
-          at-loop.loop-j.invariant.1 c.folded.ensures,
+      put_next args.s.now args.at at_loop.loop-j.j (omega arith) at_loop.loop-j.start c.folded.result (omega arith)
+          at_loop.loop-j.invariant.1 c.folded.ensures,
     )
 
 -- nine bytes: no list needs more

@@ -10,19 +10,19 @@ use Rattle.read_words.proofs.spelling.seq_search_ascii.Tie as tie
 -- the full names of the months, whose table is at hand
 returns : tie.Need-returns-in-MonthsFull
 returns c =
-    let after-months = c.before.before.before in
-    let is-months = after-months.before in
-    let after-fold = is-months.before in
-    searched _ _ _ _ _ _ after-fold.longest.ensures after-fold.folded_beginning-start.ensures
-    (rw is-months.in-MonthsFull.is (c.first_word.ensures _ after-months.months_full-months.ensures))
+    let after_months = c.before.before.before in
+    let is_months = after_months.before in
+    let after_fold = is_months.before in
+    searched _ _ _ _ _ _ after_fold.longest.ensures after_fold.folded_beginning-start.ensures
+    (rw is_months.in-MonthsFull.is (c.first_word.ensures _ after_months.months_full-months.ensures))
 
 -- any other list
 returns-2 : tie.Need-returns
 returns-2 c =
-    let after-words = c.before.before.before in
-    let after-fold = after-words.before.before in
-    searched _ _ _ _ _ _ after-fold.longest.ensures after-fold.folded_beginning-start.ensures
-    (c.first_word-2.ensures _ after-words.words-table.ensures)
+    let after_words = c.before.before.before in
+    let after_fold = after_words.before.before in
+    searched _ _ _ _ _ _ after_fold.longest.ensures after_fold.folded_beginning-start.ensures
+    (c.first_word-2.ensures _ after_words.words-table.ensures)
 
 pub seq_search_ascii_spec : {M : Type 1} → statement M
 seq_search_ascii_spec =

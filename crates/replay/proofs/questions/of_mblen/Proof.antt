@@ -7,7 +7,7 @@ use mir.Syntax.{w64}
 use mir.Facts.{to_z_pos}
 use mir.Val.{to_z}
 use Rattle.replay.specs.Answers.{of_mblen}
-use Rattle.replay.proofs.Texts.{read_as, part-is, part-fits}
+use Rattle.replay.proofs.Texts.{read_as, part_is, part_fits}
 use Rattle.replay.proofs.questions.of_mblen.Statement.{statement}
 use Rattle.replay.proofs.questions.of_mblen.Tie as tie
 
@@ -23,7 +23,7 @@ returns-2 c = rw (← c.read_place-place.ensures, c.if-place.false, read_as c.re
 
 -- the text is within the buffer
 part-pg-mblen-end : tie.Need-slice_bounds-pg_mblen-end
-part-pg-mblen-end c = part-fits c.read_bytes-bytes.ensures c.if-bytes.false
+part-pg-mblen-end c = part_fits c.read_bytes-bytes.ensures c.if-bytes.false
 
 -- a length, of at most 4
 returns-3 : tie.Need-returns
@@ -33,7 +33,7 @@ returns-3 c =
     let ok = c.if-bytes.false in
     let measured = c.pg_mblen.ensures in
     let small : to_z w64 c.pg_mblen.result ≡ pos c.pg_mblen.result = to_z_pos w64 (omega (arith, measured.most)) in
-    rw (← c.read_place-place.ensures, c.if-place.false, read_as read ok, small, measured.is, part-is read ok)
+    rw (← c.read_place-place.ensures, c.if-place.false, read_as read ok, small, measured.is, part_is read ok)
 
 pub of_mblen_spec : {M : Type 1} → statement M
 of_mblen_spec =

@@ -12,9 +12,9 @@ use Rattle.replay.proofs.questions.put_field.Tie as tie
 -- the number, cast
 returns : tie.Need-returns
 returns c =
-    let at-start = c.before.before.before.before.before in
-    let n-is : to_z w64 at-start.args.n ≡ pos at-start.args.n = to_z_pos w64 (omega (arith, at-start.ranges.n)) in
-    simp n-is at c.put_after.ensures
+    let at_start = c.before.before.before.before.before in
+    let n_is : to_z w64 at_start.args.n ≡ pos at_start.args.n = to_z_pos w64 (omega (arith, at_start.ranges.n)) in
+    simp n_is at c.put_after.ensures
 
 pub put_field_spec : {M : Type 1} → statement M
 put_field_spec = tie.close (tie.spec (λ c. search rules) (λ c κs. search rules) (λ c. search rules) returns)

@@ -11,8 +11,8 @@ use Rattle.replay.proofs.questions.put_node.Statement.{statement}
 use Rattle.replay.proofs.questions.put_node.Tie as tie
 
 -- the kind, cast
-kind-is : (c : tie.After-struct_known-1) → let kind = c.args.node.kind in to_z w64 kind ≡ pos kind
-kind-is c =
+kind_is : (c : tie.After-struct_known-1) → let kind = c.args.node.kind in to_z w64 kind ≡ pos kind
+kind_is c =
     let fits : Fits w8 c.args.node.kind = search rules in
     to_z_pos w64 (omega arith)
 
@@ -21,14 +21,14 @@ returns : tie.Need-returns-then-first
 returns c =
     let at_test = c.before.before.before.before.before.before.before.before in
     rw at_test.if-first.true
-    (put_then _ _ (simp (kind-is at_test.before) at c.put_decimal-next.ensures) c.put_fields.ensures)
+    (put_then _ _ (simp (kind_is at_test.before) at c.put_decimal-next.ensures) c.put_fields.ensures)
 
 -- a node after a space
 returns-2 : tie.Need-returns
 returns-2 c =
     let at_test = c.before.before.before.before.before.before.before.before in
     rw at_test.if-first.false
-    (put_then _ _ (simp (kind-is at_test.before) at c.put_after-next.ensures) c.put_fields-2.ensures)
+    (put_then _ _ (simp (kind_is at_test.before) at c.put_after-next.ensures) c.put_fields-2.ensures)
 
 pub put_node_spec : {M : Type 1} → statement M
 put_node_spec =

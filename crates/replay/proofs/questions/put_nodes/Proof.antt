@@ -6,9 +6,9 @@ use Prim.Native.Nat.{◌-◌}
 use native.Mathlib.Omega.{arith}
 use borrow.Author.Rules.{rules}
 use Rattle.template_nodes.specs.Template.{nodes_of}
-use Rattle.template_nodes.proofs.Nodes.{small-nodes}
-use Rattle.line_buffers.proofs.Puts.{put-size}
-use Rattle.replay.proofs.Nodes.{Listed, begun, ended, more, node-is}
+use Rattle.template_nodes.proofs.Nodes.{small_nodes}
+use Rattle.line_buffers.proofs.Puts.{put_size}
+use Rattle.replay.proofs.Nodes.{Listed, begun, ended, more, node_is}
 use Rattle.replay.proofs.questions.put_nodes.Statement.{statement}
 use Rattle.replay.proofs.questions.put_nodes.Tie as tie
 
@@ -20,10 +20,10 @@ decreases-loop t out₀ at nodes count next₀ i₀ out next i = count - i
 
 loop-again : tie.Need-loop-i-preserved invariant-loop decreases-loop
 loop-again c =
-    let after-node = c.before.before.before.before in
-    let at-loop = after-node.before.before.before in
-    let parsed = at-loop.parse_format-count.ensures in
-    more at-loop.loop-i.invariant _ (omega (arith, parsed.count)) (after-node.node_at.ensures ∙ node-is (small-nodes false _) parsed _ (omega arith)) c.put_node-next.ensures
+    let after_node = c.before.before.before.before in
+    let at_loop = after_node.before.before.before in
+    let parsed = at_loop.parse_format-count.ensures in
+    more at_loop.loop-i.invariant _ (omega (arith, parsed.count)) (after_node.node_at.ensures ∙ node_is (small_nodes false _) parsed _ (omega arith)) c.put_node-next.ensures
 
 -- no node is left
 returns : tie.Need-returns invariant-loop decreases-loop
@@ -46,5 +46,5 @@ put_nodes_spec =
     (λ c. omega (arith, c.parse_format-count.ensures.few))
     (λ c. omega arith)
     loop-again
-    (λ c. put-size _ _ c.loop-i.invariant.put)
+    (λ c. put_size _ _ c.loop-i.invariant.put)
     returns)

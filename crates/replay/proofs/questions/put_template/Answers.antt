@@ -1,6 +1,6 @@
 -- `replay::questions::put_template` meets its contract: what is parsed is the text that the item is.
 use Rattle.replay.specs.Answers.{template_text}
-use Rattle.replay.proofs.Texts.{read_as, part-is, part-fits}
+use Rattle.replay.proofs.Texts.{read_as, part_is, part_fits}
 use Rattle.replay.proofs.questions.put_template.Goals as goal
 
 -- no text
@@ -12,7 +12,7 @@ returns-then-bytes c =
 -- the text is within the buffer
 pub slice_bounds-put_nodes-end : goal.slice_bounds-put_nodes-end
 slice_bounds-put_nodes-end c =
-    part-fits c.read_bytes-bytes.ensures c.if-bytes.false
+    part_fits c.read_bytes-bytes.ensures c.if-bytes.false
 
 -- a template
 pub returns : goal.returns
@@ -20,4 +20,4 @@ unfolding template_text
 returns c =
     let read = c.read_bytes-bytes.ensures in
     let ok = c.if-bytes.false in
-    rw (read_as read ok) (rw (part-is read ok) at c.put_nodes.ensures)
+    rw (read_as read ok) (rw (part_is read ok) at c.put_nodes.ensures)

@@ -4,7 +4,7 @@ use mathlib.Core.Path.{sym}
 use native.Mathlib.Omega.{arith}
 use borrow.Author.Rules.{rules}
 use lib.ListN.{get_or-eq_default}
-use Rattle.template_patterns.proofs.Names.{at-space, at-letter}
+use Rattle.template_patterns.proofs.Names.{at_space, at_letter}
 use Rattle.template_patterns.specs.Patterns.{name_of}
 use Rattle.sorbilgan.proofs.names.letter.Statement.{statement}
 use Rattle.sorbilgan.proofs.names.letter.Tie as tie
@@ -18,10 +18,10 @@ letter_spec =
     (λ c. search rules)
     -- a space: 0
     (λ c.
-    let at-start = c.before.before in
-    let k = at-start.args.number in
-    sym (get_or-eq_default (name_of k) 0 (at-space k at-start.requires.1 at-start.args.j at-start.requires.2 (rw (← at-start.requires.0) (omega arith)))))
+    let at_start = c.before.before in
+    let k = at_start.args.number in
+    sym (get_or-eq_default (name_of k) 0 (at_space k at_start.requires.1 at_start.args.j at_start.requires.2 (rw (← at_start.requires.0) (omega arith)))))
     -- a letter
     (λ c.
-    let at-start = c.before.before in
-    rw at-start.requires.0 (at-letter at-start.args.number at-start.requires.1 at-start.args.j at-start.requires.2 (rw (← at-start.requires.0) (omega arith))).1))
+    let at_start = c.before.before in
+    rw at_start.requires.0 (at_letter at_start.args.number at_start.requires.1 at_start.args.j at_start.requires.2 (rw (← at_start.requires.0) (omega arith))).1))

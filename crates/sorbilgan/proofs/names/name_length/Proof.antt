@@ -4,7 +4,7 @@ use Prim.Native.Nat.{◌-◌, ◌≤◌}
 use native.Mathlib.Omega.{arith}
 use borrow.Author.Rules.{rules}
 use lib.ListN.{length}
-use Rattle.template_patterns.proofs.Names.{name-length, at-space, at-letter}
+use Rattle.template_patterns.proofs.Names.{name_length, at_space, at_letter}
 use Rattle.template_patterns.specs.Patterns.{name_of}
 use Rattle.sorbilgan.proofs.names.name_length.Statement.{statement}
 use Rattle.sorbilgan.proofs.names.name_length.Tie as tie
@@ -19,22 +19,22 @@ decreases-loop names number len₀ len = 5 - len
 returns : tie.Need-returns-then-names-number-eq32 invariant-loop decreases-loop
 returns c =
     let after_test_lem = c.before.before in
-    let at-loop = after_test_lem.before in
-    let at-start = at-loop.before in
-    omega (arith, at-space at-start.args.number at-start.requires.1 at-loop.loop-len.len after_test_lem.loop-len-test.true (rw at-start.requires.0 at c.if-names-number-eq32.true))
+    let at_loop = after_test_lem.before in
+    let at_start = at_loop.before in
+    omega (arith, at_space at_start.args.number at_start.requires.1 at_loop.loop-len.len after_test_lem.loop-len-test.true (rw at_start.requires.0 at c.if-names-number-eq32.true))
 
 loop-again : tie.Need-loop-len-preserved invariant-loop decreases-loop
 loop-again c =
     let after_test_lem = c.before.before in
-    let at-loop = after_test_lem.before in
-    let at-start = at-loop.before in
-    omega (arith, (at-letter at-start.args.number at-start.requires.1 at-loop.loop-len.len after_test_lem.loop-len-test.true (rw at-start.requires.0 at c.if-names-number-eq32.false)).0)
+    let at_loop = after_test_lem.before in
+    let at_start = at_loop.before in
+    omega (arith, (at_letter at_start.args.number at_start.requires.1 at_loop.loop-len.len after_test_lem.loop-len-test.true (rw at_start.requires.0 at c.if-names-number-eq32.false)).0)
 
 -- a name of five letters
 returns-2 : tie.Need-returns invariant-loop decreases-loop
 returns-2 c =
-    let at-start = c.before.before in
-    omega (arith, name-length at-start.args.number at-start.requires.1)
+    let at_start = c.before.before in
+    omega (arith, name_length at_start.args.number at_start.requires.1)
 
 pub name_length_spec : {M : Type 1} → statement M
 name_length_spec =

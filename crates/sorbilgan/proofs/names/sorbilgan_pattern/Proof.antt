@@ -10,31 +10,31 @@ use Rattle.sorbilgan.proofs.names.sorbilgan_pattern.Statement.{statement}
 use Rattle.sorbilgan.proofs.names.sorbilgan_pattern.Tie as tie
 
 -- past the table there is no name
-none-past : (k : ℕ) → 112 ≤ k → name_of k ≡ []
-none-past k h = ap (λ (p : Pattern). p.name) (get_or-eq_default patterns _ h)
+none_past : (k : ℕ) → 112 ≤ k → name_of k ≡ []
+none_past k h = ap (λ (p : Pattern). p.name) (get_or-eq_default patterns _ h)
 
 -- past the table
 returns : tie.Need-returns-then-number-ge-NO_PATTERN
 returns c =
-    let no_name = none-past c.args.number c.if-number-ge-NO_PATTERN.true in
+    let no_name = none_past c.args.number c.if-number-ge-NO_PATTERN.true in
     record { is = rw no_name; name = rw no_name }
 
 -- a pattern of the table
 returns-2 : tie.Need-returns
 returns-2 c =
-    let at-fifth = c.before.before.before in
-    let at-fourth = at-fifth.before.before in
-    let at-third = at-fourth.before.before in
-    let at_second = at-third.before.before in
+    let at_fifth = c.before.before.before in
+    let at_fourth = at_fifth.before.before in
+    let at_third = at_fourth.before.before in
+    let at_second = at_third.before.before in
     let at_first = at_second.before.before in
     record {
       is = c.name_length.ensures;
       name = λ i.
           at_first.letter.ensures i
           ∷ at_second.letter-2.ensures i
-          ∷ at-third.letter-3.ensures i
-          ∷ at-fourth.letter-4.ensures i
-          ∷ at-fifth.letter-5.ensures i
+          ∷ at_third.letter-3.ensures i
+          ∷ at_fourth.letter-4.ensures i
+          ∷ at_fifth.letter-5.ensures i
           ∷ 0
           ∷ [];
     }

@@ -8,8 +8,8 @@ use borrow.Author.Tests.{not-true, not-false}
 use lib.ListN.{length}
 use Rattle.base_settings.specs.Bits.{settings_of}
 use Rattle.base_settings.specs.Limits.{template_limit}
-use Rattle.base_settings.proofs.Most.{template-most}
-use Rattle.sorbilgan.proofs.Compiling.{long, ill-formed, parsed}
+use Rattle.base_settings.proofs.Most.{template_most}
+use Rattle.sorbilgan.proofs.Compiling.{long, ill_formed, parsed}
 use Rattle.sorbilgan.proofs.with_settings.sorbilgan_compile_with.Statement.{statement}
 use Rattle.sorbilgan.proofs.with_settings.sorbilgan_compile_with.Tie as tie
 
@@ -28,22 +28,22 @@ returns c = long _ _ _ (omega (arith, limit c.before))
 -- not UTF-8: -2
 returns-2 : tie.Need-returns-then-not-is_utf8
 returns-2 c =
-    let after-utf8 = c.before in
-    ill-formed _ _ _ (short after-utf8.before) (sym after-utf8.is_utf8.ensures ∙ c.if-not-is_utf8.true)
+    let after_utf8 = c.before in
+    ill_formed _ _ _ (short after_utf8.before) (sym after_utf8.is_utf8.ensures ∙ c.if-not-is_utf8.true)
 
 -- within its limit a template has at most 256 bytes
 parse-format-requires : tie.Need-parse_format-requires
 parse-format-requires c κs =
-    let within-limit = c.before.before.before in
-    (omega (arith, short within-limit, template-most (settings_of within-limit.args.settings)), omega arith)
+    let within_limit = c.before.before.before in
+    (omega (arith, short within_limit, template_most (settings_of within_limit.args.settings)), omega arith)
 
 -- the bytes of the nodes
 returns-3 : tie.Need-returns
 returns-3 c =
     let at_test = c.before.before in
-    let after-utf8 = at_test.before in
-    let set_is = after-utf8.settings_of-set.ensures in
-    parsed _ _ _ (short after-utf8.before) (sym after-utf8.is_utf8.ensures ∙ at_test.if-not-is_utf8.false)
+    let after_utf8 = at_test.before in
+    let set_is = after_utf8.settings_of-set.ensures in
+    parsed _ _ _ (short after_utf8.before) (sym after_utf8.is_utf8.ensures ∙ at_test.if-not-is_utf8.false)
     (rw set_is at c.parse_format.ensures)
 
 pub sorbilgan_compile_with_spec : {M : Type 1} → statement M

@@ -6,8 +6,8 @@ use Rattle.sorbilgan.proofs.with_settings.sorbilgan_date_with.Tie as tie
 
 returns : tie.Need-returns
 returns c =
-    let after-reading = c.before.before in
-    rw (after-reading.to_date_text.ensures, after-reading.settings_of.ensures) at c.put_day.ensures
+    let after_reading = c.before.before in
+    rw (after_reading.to_date_text.ensures, after_reading.settings_of.ensures) at c.put_day.ensures
 
 pub sorbilgan_date_with_spec : {M : Type 1} → statement M
 sorbilgan_date_with_spec = tie.close (tie.spec (λ c κs. search rules) (λ c κs. search rules) (λ c κs. search rules) returns)

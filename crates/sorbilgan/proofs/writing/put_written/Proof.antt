@@ -5,7 +5,7 @@ use native.Mathlib.Omega.{arith}
 use borrow.Author.Rules.{rules}
 use mir.Facts.{to_z_pos}
 use mir.Syntax.{w64}
-use Rattle.sorbilgan_records.proofs.Values.{value-recorded}
+use Rattle.sorbilgan_records.proofs.Values.{value_recorded}
 use Rattle.sorbilgan.specs.Writing.{written_record}
 use Rattle.sorbilgan.proofs.writing.put_written.Statement.{statement}
 use Rattle.sorbilgan.proofs.writing.put_written.Tie as tie
@@ -14,16 +14,16 @@ use Rattle.sorbilgan.proofs.writing.put_written.Tie as tie
 returns : tie.Need-returns-in-Length
 unfolding written_record
 returns c =
-    let after-alone = c.before.before in
-    let at_length = after-alone.before in
-    value-recorded after-alone.alone.ensures (to_z_pos w64 (at_length.requires _ at_length.in-Length.is)) (ap written_record at_length.in-Length.is) c.put_value.ensures
+    let after_alone = c.before.before in
+    let at_length = after_alone.before in
+    value_recorded after_alone.alone.ensures (to_z_pos w64 (at_length.requires _ at_length.in-Length.is)) (ap written_record at_length.in-Length.is) c.put_value.ensures
 
 -- a refusal
 returns-2 : tie.Need-returns-in-Refused
 unfolding written_record
 returns-2 c =
-    let after-report = c.before.before in
-    value-recorded after-report.report_of.ensures refl (ap written_record after-report.in-Refused.is) c.put_value-in-Refused.ensures
+    let after_report = c.before.before in
+    value_recorded after_report.report_of.ensures refl (ap written_record after_report.in-Refused.is) c.put_value-in-Refused.ensures
 
 pub put_written_spec : {M : Type 1} → statement M
 put_written_spec =

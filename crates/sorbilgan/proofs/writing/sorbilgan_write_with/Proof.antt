@@ -5,8 +5,8 @@ use Prim.Native.Nat.{◌<◌, ◌^◌}
 use native.Mathlib.Omega.{arith}
 use borrow.Author.Rules.{rules}
 use lib.ListN.{length}
-use Rattle.write_text.proofs.Room.{to-measured}
-use Rattle.sorbilgan.proofs.Passed.{moment-passed}
+use Rattle.write_text.proofs.Room.{to_measured}
+use Rattle.sorbilgan.proofs.Passed.{moment_passed}
 use Rattle.sorbilgan.proofs.writing.sorbilgan_write_with.Statement.{statement}
 use Rattle.sorbilgan.proofs.writing.sorbilgan_write_with.Tie as tie
 
@@ -18,17 +18,17 @@ room c = omega arith
 put-written-requires : tie.Need-put_written-requires
 put-written-requires c κs n e =
     let after_write = c.before.before.before in
-    let at-start = after_write.before.before.before.before.before.before in
-    omega (arith, room at-start, (to-measured _ _ _ _ n (sym after_write.write.ensures.is ∙ e)).1)
+    let at_start = after_write.before.before.before.before.before.before in
+    omega (arith, room at_start, (to_measured _ _ _ _ n (sym after_write.write.ensures.is ∙ e)).1)
 
 returns : tie.Need-returns
 returns c =
     let after_write = c.before.before.before.before in
     let fits = after_write.ranges in
-    let moment-is =
+    let moment_is =
     after_write.seven_numbers-m.ensures
-    ∙ moment-passed fits.year fits.month fits.day fits.hour fits.minute fits.second fits.micros in
-    let wrote = rw (moment-is, after_write.settings_of.ensures) at after_write.write.ensures in
+    ∙ moment_passed fits.year fits.month fits.day fits.hour fits.minute fits.second fits.micros in
+    let wrote = rw (moment_is, after_write.settings_of.ensures) at after_write.write.ensures in
     record { buffer = rw wrote.is at wrote.buffer; recorded = rw wrote.is at c.put_written.ensures }
 
 pub sorbilgan_write_with_spec : {M : Type 1} → statement M

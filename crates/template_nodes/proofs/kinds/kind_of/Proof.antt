@@ -14,15 +14,15 @@ returns c = simp (sym c.is_separator_char.ensures ∙ c.if-is_separator_char.tru
 returns-2 : tie.Need-returns-then-is_space_c
 unfolding kind_of
 returns-2 c =
-    let no-separator = c.before.before in
-    simp (sym no-separator.is_separator_char.ensures ∙ no-separator.if-is_separator_char.false, sym c.is_space_c.ensures ∙ c.if-is_space_c.true)
+    let no_separator = c.before.before in
+    simp (sym no_separator.is_separator_char.ensures ∙ no_separator.if-is_separator_char.false, sym c.is_space_c.ensures ∙ c.if-is_space_c.true)
 
 -- any other character
 returns-3 : tie.Need-returns
 unfolding kind_of
 returns-3 c =
-    let no-separator = c.before.before in
-    simp (sym no-separator.is_separator_char.ensures ∙ no-separator.if-is_separator_char.false, sym c.is_space_c.ensures ∙ c.if-is_space_c.false)
+    let no_separator = c.before.before in
+    simp (sym no_separator.is_separator_char.ensures ∙ no_separator.if-is_separator_char.false, sym c.is_space_c.ensures ∙ c.if-is_space_c.false)
 
 pub kind_of_spec : {M : Type 1} → statement M
 kind_of_spec = tie.close (tie.spec (λ c κs. search rules) returns (λ c κs. search rules) returns-2 returns-3)

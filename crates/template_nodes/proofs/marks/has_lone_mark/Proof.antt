@@ -13,7 +13,7 @@ use Rattle.template_nodes.specs.Bytes.{nodes_in}
 use Rattle.template_nodes.specs.Joined.{has_lone_mark, is_mark}
 use Rattle.template_nodes.specs.Template.{end_node}
 use Rattle.template_nodes.specs.declared.Node.{Node}
-use Rattle.template_nodes.proofs.Encoding.{nodes-length}
+use Rattle.template_nodes.proofs.Encoding.{nodes_length}
 use Rattle.template_nodes.proofs.marks.has_lone_mark.Statement.{statement}
 use Rattle.template_nodes.proofs.marks.has_lone_mark.Tie as tie
 
@@ -25,9 +25,9 @@ decreases-loop c t count i₀ i = count - i
 
 -- the node at i, and those after it
 module _ (t : List ℕ) (ns : List Node) (i : ℕ) (h : i < length ns) where
-  this-one : is_mark t (get_or ns i end_node) ≡ true → has_lone_mark t (drop i ns) ≡ true
+  this_one : is_mark t (get_or ns i end_node) ≡ true → has_lone_mark t (drop i ns) ≡ true
   unfolding has_lone_mark
-  this-one e = rw (drop-cons ns i end_node h, e)
+  this_one e = rw (drop-cons ns i end_node h, e)
 
   another : is_mark t (get_or ns i end_node) ≡ false → has_lone_mark t (drop i ns) ≡ has_lone_mark t (drop (suc i) ns)
   unfolding has_lone_mark
@@ -40,31 +40,31 @@ none_left t ns i h = rw (drop_of_length-le ns h)
 -- a mark
 returns : tie.Need-returns-then-is_lone_mark invariant-loop decreases-loop
 returns c =
-    let at-loop = c.before.before.before.before in
-    let args = at-loop.args in
+    let at_loop = c.before.before.before.before in
+    let args = at_loop.args in
     let ns = nodes_in args.c.now in
-    let i = at-loop.loop-i.i in
-    let inside : i < length ns = omega (arith, nodes-length args.c.now) in
-    sym (sym at-loop.loop-i.invariant ∙ this-one args.t.now ns i inside (rw (← c.node_at.ensures) (sym c.is_lone_mark.ensures ∙ c.if-is_lone_mark.true)))
+    let i = at_loop.loop-i.i in
+    let inside : i < length ns = omega (arith, nodes_length args.c.now) in
+    sym (sym at_loop.loop-i.invariant ∙ this_one args.t.now ns i inside (rw (← c.node_at.ensures) (sym c.is_lone_mark.ensures ∙ c.if-is_lone_mark.true)))
 
 -- none yet
 loop-again : tie.Need-loop-i-preserved invariant-loop decreases-loop
 loop-again c =
-    let at-loop = c.before.before.before.before in
-    let args = at-loop.args in
+    let at_loop = c.before.before.before.before in
+    let args = at_loop.args in
     let ns = nodes_in args.c.now in
-    let i = at-loop.loop-i.i in
-    let inside : i < length ns = omega (arith, nodes-length args.c.now) in
-    rw add-one (sym (another args.t.now ns i inside (rw (← c.node_at.ensures) (sym c.is_lone_mark.ensures ∙ c.if-is_lone_mark.false))) ∙ at-loop.loop-i.invariant)
+    let i = at_loop.loop-i.i in
+    let inside : i < length ns = omega (arith, nodes_length args.c.now) in
+    rw add-one (sym (another args.t.now ns i inside (rw (← c.node_at.ensures) (sym c.is_lone_mark.ensures ∙ c.if-is_lone_mark.false))) ∙ at_loop.loop-i.invariant)
 
 -- none at all
 returns-2 : tie.Need-returns invariant-loop decreases-loop
 returns-2 c =
-    let at-loop = c.before in
-    let args = at-loop.args in
+    let at_loop = c.before in
+    let args = at_loop.args in
     let ns = nodes_in args.c.now in
-    let i = at-loop.loop-i.i in
-    sym (sym at-loop.loop-i.invariant ∙ none_left args.t.now ns i (omega (arith, nodes-length args.c.now)))
+    let i = at_loop.loop-i.i in
+    sym (sym at_loop.loop-i.invariant ∙ none_left args.t.now ns i (omega (arith, nodes_length args.c.now)))
 
 pub has_lone_mark_spec : {M : Type 1} → statement M
 has_lone_mark_spec =

@@ -4,7 +4,7 @@ use mathlib.Core.Path.{◌≡◌, ◌∙◌, refl, sym, ap}
 use Prim.Native.Nat.{ℕ}
 use Rattle.base_notation.proofs.Table.{past_all}
 use Rattle.template_patterns.specs.Numbers.{name_number}
-use Rattle.template_patterns.proofs.Keys.{past-numbers}
+use Rattle.template_patterns.proofs.Keys.{past_numbers}
 use Rattle.template_patterns.proofs.numbers.name_of.Statement.{statement}
 use Rattle.template_patterns.proofs.numbers.name_of.Tie as tie
 
@@ -129,4 +129,4 @@ name_of_spec =
     (λ c. arm 109 c.in-109.is refl)
     (λ c. arm 110 c.in-110.is refl)
     (λ c. arm 111 c.in-111.is refl)
-    (λ c. sym (past-numbers _ (past_all _ 112 c.in_default.in_default-own.rest))))
+    (λ c. sym (past_numbers _ (past_all _ 112 c.in_default.in_default-own.rest))))

@@ -74,28 +74,28 @@ returns c = rw (said (year c.before) c.if-not-in_range.true)
 returns-2 : tie.Need-returns-then-not-in_range-2
 unfolding is_moment
 returns-2 c =
-    let at-year = c.before.before.before.before.before.before.before in
-    rw (said (year at-year.before) at-year.if-not-in_range.false, said (day c.before) c.if-not-in_range-2.true)
+    let at_year = c.before.before.before.before.before.before.before in
+    rw (said (year at_year.before) at_year.if-not-in_range.false, said (day c.before) c.if-not-in_range-2.true)
 
 -- the hour is out of range
 returns-3 : tie.Need-returns-then-not-in_range-3
 unfolding is_moment
 returns-3 c =
-    let at-day = c.before.before.before in
-    let at-year = at-day.before.before.before.before.before.before.before in
-    rw (said (year at-year.before) at-year.if-not-in_range.false, said (day at-day.before) at-day.if-not-in_range-2.false, said (hour c.before) c.if-not-in_range-3.true)
+    let at_day = c.before.before.before in
+    let at_year = at_day.before.before.before.before.before.before.before in
+    rw (said (year at_year.before) at_year.if-not-in_range.false, said (day at_day.before) at_day.if-not-in_range-2.false, said (hour c.before) c.if-not-in_range-3.true)
 
 -- the minute is out of range
 returns-4 : tie.Need-returns-then-not-in_range-4
 unfolding is_moment
 returns-4 c =
-    let at-hour = c.before.before.before in
-    let at-day = at-hour.before.before.before in
-    let at-year = at-day.before.before.before.before.before.before.before in
+    let at_hour = c.before.before.before in
+    let at_day = at_hour.before.before.before in
+    let at_year = at_day.before.before.before.before.before.before.before in
     rw (
-      said (year at-year.before) at-year.if-not-in_range.false,
-      said (day at-day.before) at-day.if-not-in_range-2.false,
-      said (hour at-hour.before) at-hour.if-not-in_range-3.false,
+      said (year at_year.before) at_year.if-not-in_range.false,
+      said (day at_day.before) at_day.if-not-in_range-2.false,
+      said (hour at_hour.before) at_hour.if-not-in_range-3.false,
       said (minute c.before) c.if-not-in_range-4.true,
     )
 
@@ -103,15 +103,15 @@ returns-4 c =
 returns-5 : tie.Need-returns-then-not-in_range-5
 unfolding is_moment
 returns-5 c =
-    let at-minute = c.before.before.before in
-    let at-hour = at-minute.before.before.before in
-    let at-day = at-hour.before.before.before in
-    let at-year = at-day.before.before.before.before.before.before.before in
+    let at_minute = c.before.before.before in
+    let at_hour = at_minute.before.before.before in
+    let at_day = at_hour.before.before.before in
+    let at_year = at_day.before.before.before.before.before.before.before in
     rw (
-      said (year at-year.before) at-year.if-not-in_range.false,
-      said (day at-day.before) at-day.if-not-in_range-2.false,
-      said (hour at-hour.before) at-hour.if-not-in_range-3.false,
-      said (minute at-minute.before) at-minute.if-not-in_range-4.false,
+      said (year at_year.before) at_year.if-not-in_range.false,
+      said (day at_day.before) at_day.if-not-in_range-2.false,
+      said (hour at_hour.before) at_hour.if-not-in_range-3.false,
+      said (minute at_minute.before) at_minute.if-not-in_range-4.false,
       said (second c.before) c.if-not-in_range-5.true,
     )
 
@@ -120,15 +120,15 @@ returns-6 : tie.Need-returns
 unfolding is_moment
 returns-6 c =
     let at_second = c.before.before in
-    let at-minute = at_second.before.before.before in
-    let at-hour = at-minute.before.before.before in
-    let at-day = at-hour.before.before.before in
-    let at-year = at-day.before.before.before.before.before.before.before in
+    let at_minute = at_second.before.before.before in
+    let at_hour = at_minute.before.before.before in
+    let at_day = at_hour.before.before.before in
+    let at_year = at_day.before.before.before.before.before.before.before in
     rw (
-      said (year at-year.before) at-year.if-not-in_range.false,
-      said (day at-day.before) at-day.if-not-in_range-2.false,
-      said (hour at-hour.before) at-hour.if-not-in_range-3.false,
-      said (minute at-minute.before) at-minute.if-not-in_range-4.false,
+      said (year at_year.before) at_year.if-not-in_range.false,
+      said (day at_day.before) at_day.if-not-in_range-2.false,
+      said (hour at_hour.before) at_hour.if-not-in_range-3.false,
+      said (minute at_minute.before) at_minute.if-not-in_range-4.false,
       said (second at_second.before) at_second.if-not-in_range-5.false,
     ) (micros c)
 

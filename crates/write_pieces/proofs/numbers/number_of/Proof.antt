@@ -6,7 +6,7 @@ use native.Mathlib.Omega.{arith}
 use borrow.Author.Rules.{rules}
 use mir.Syntax.{w32, w64}
 use Rattle.write_pieces.specs.Pieces.{number_of}
-use Rattle.write_pieces.proofs.Moments.{Numbers, cast, dates, last-number, numbers, result, value}
+use Rattle.write_pieces.proofs.Moments.{Numbers, cast, dates, last_number, numbers, result, value}
 use Rattle.write_pieces.proofs.numbers.number_of.Statement.{statement}
 use Rattle.write_pieces.proofs.numbers.number_of.Tie as tie
 
@@ -26,47 +26,47 @@ number_of_spec =
     (λ c. cast (given c.before.before.before).day w32 tt)
     -- YEAR_DAY
     (λ c κs. search rules)
-    (λ c. cast (result c.day_of_year.ensures (dates (given c.before.before.before.before.before)).year-day) w64 tt)
+    (λ c. cast (result c.day_of_year.ensures (dates (given c.before.before.before.before.before)).year_day) w64 tt)
     -- WEEK_YEAR
     (λ c κs. search rules)
-    (λ c. cast (result c.pg_date2isoyear.ensures (dates (given c.before.before.before.before.before)).week-year) w32 tt)
+    (λ c. cast (result c.pg_date2isoyear.ensures (dates (given c.before.before.before.before.before)).week_year) w32 tt)
     -- WEEK
     (λ c κs. search rules)
     (λ c. cast (result c.pg_date2isoweek.ensures (dates (given c.before.before.before.before.before)).week) w32 tt)
     -- WEEKDAY
     (λ c κs. search rules)
-    (λ c. cast (result c.pg_date2j.ensures (dates (given c.before.before.before.before.before)).day-number) w32 tt)
+    (λ c. cast (result c.pg_date2j.ensures (dates (given c.before.before.before.before.before)).day_number_lem) w32 tt)
     (λ c. search rules)
     -- HOUR24
     (λ c. cast (given c.before.before.before).hour w32 tt)
     -- HOUR12
     (λ c. cast (given c.before.before.before).hour w32 tt)
-    (λ c. let known = given c.before.before.before in omega (arith, value known.hour w32 tt, known.hour-to))
+    (λ c. let known = given c.before.before.before in omega (arith, value known.hour w32 tt, known.hour_to))
     (λ c. search rules)
     -- MINUTE, SECOND
     (λ c. cast (given c.before.before.before).minute w32 tt)
     (λ c. cast (given c.before.before.before).second w32 tt)
     -- DAY_SECOND
     (λ c. cast (given c.before.before.before).hour w32 tt)
-    (λ c. let known = given c.before.before.before in omega (arith, value known.hour w32 tt, known.hour-to))
+    (λ c. let known = given c.before.before.before in omega (arith, value known.hour w32 tt, known.hour_to))
     (λ c. cast (given c.before.before.before.before.before).minute w32 tt)
-    (λ c. let known = given c.before.before.before.before.before in omega (arith, value known.minute w32 tt, known.minute-to))
-    (λ c. let known = given c.before.before.before.before.before in omega (arith, value known.hour w32 tt, value known.minute w32 tt, known.hour-to, known.minute-to))
+    (λ c. let known = given c.before.before.before.before.before in omega (arith, value known.minute w32 tt, known.minute_to))
+    (λ c. let known = given c.before.before.before.before.before in omega (arith, value known.hour w32 tt, value known.minute w32 tt, known.hour_to, known.minute_to))
     (λ c. cast (given c.before.before.before.before.before.before.before).second w32 tt)
-    (λ c. let known = given c.before.before.before.before.before.before.before in omega (arith, value known.hour w32 tt, value known.minute w32 tt, value known.second w32 tt, known.hour-to, known.minute-to, known.second-to))
+    (λ c. let known = given c.before.before.before.before.before.before.before in omega (arith, value known.hour w32 tt, value known.minute w32 tt, value known.second w32 tt, known.hour_to, known.minute_to, known.second_to))
     -- any other: the microsecond
     (λ c. cast (given c.before.before.before).micros w32 tt)
     -- what each arm returns, in the same order
     (λ c. rw c.in-1.is (value (given c.before.before.before).year w32 tt))
     (λ c. rw c.in-2.is (value (given c.before.before.before).month w32 tt))
     (λ c. rw c.in-3.is (value (given c.before.before.before).day w32 tt))
-    (λ c. rw c.in-4.is (value (result c.day_of_year.ensures (dates (given c.before.before.before.before.before)).year-day) w64 tt))
-    (λ c. rw c.in-5.is (value (result c.pg_date2isoyear.ensures (dates (given c.before.before.before.before.before)).week-year) w32 tt))
+    (λ c. rw c.in-4.is (value (result c.day_of_year.ensures (dates (given c.before.before.before.before.before)).year_day) w64 tt))
+    (λ c. rw c.in-5.is (value (result c.pg_date2isoyear.ensures (dates (given c.before.before.before.before.before)).week_year) w32 tt))
     (λ c. rw c.in-6.is (value (result c.pg_date2isoweek.ensures (dates (given c.before.before.before.before.before)).week) w32 tt))
-    (λ c. rw (c.in-7.is, value (result c.pg_date2j.ensures (dates (given c.before.before.before.before.before)).day-number) w32 tt))
+    (λ c. rw (c.in-7.is, value (result c.pg_date2j.ensures (dates (given c.before.before.before.before.before)).day_number_lem) w32 tt))
     (λ c. rw c.in-8.is (value (given c.before.before.before).hour w32 tt))
     (λ c. rw c.in-9.is (ap (λ (h : ℕ). (h + 11) % 12 + 1) (value (given c.before.before.before).hour w32 tt)))
     (λ c. rw c.in-10.is (value (given c.before.before.before).minute w32 tt))
     (λ c. rw c.in-11.is (value (given c.before.before.before).second w32 tt))
-    (λ c. let at-arm = c.before.before.before.before.before.before in let known = given at-arm.before in rw (at-arm.in-12.is, value known.hour w32 tt, value known.minute w32 tt, value known.second w32 tt))
-    (λ c. let at-start = c.before.before.before in value (given at-start).micros w32 tt ∙ sym (last-number at-start.args.piece at-start.args.m c.in_default.in_default-own.rest)))
+    (λ c. let at_arm = c.before.before.before.before.before.before in let known = given at_arm.before in rw (at_arm.in-12.is, value known.hour w32 tt, value known.minute w32 tt, value known.second w32 tt))
+    (λ c. let at_start = c.before.before.before in value (given at_start).micros w32 tt ∙ sym (last_number at_start.args.piece at_start.args.m c.in_default.in_default-own.rest)))

@@ -7,7 +7,7 @@ use native.Mathlib.Nat.{add-zero}
 use borrow.Author.Rules.{rules}
 use lib.ListN.{length, drop}
 use lib.Seq.{sets}
-use Rattle.write_pieces.proofs.Puts.{next-byte, no_byte, one_byte}
+use Rattle.write_pieces.proofs.Puts.{next_byte, no_byte, one_byte}
 use Rattle.write_pieces.proofs.output.put_bytes.Statement.{statement}
 use Rattle.write_pieces.proofs.output.put_bytes.Tie as tie
 
@@ -27,18 +27,18 @@ returns c =
 -- the next byte is put
 loop-again : tie.Need-loop-i-preserved invariant-loop decreases-loop
 loop-again c =
-    let at-loop = c.before.before in
-    let args = at-loop.args in
-    (omega arith, search rules, next-byte at-loop.loop-i.out args.at args.text.now at-loop.loop-i.i (omega arith) ∙ at-loop.loop-i.invariant.2)
+    let at_loop = c.before.before in
+    let args = at_loop.args in
+    (omega arith, search rules, next_byte at_loop.loop-i.out args.at args.text.now at_loop.loop-i.i (omega arith) ∙ at_loop.loop-i.invariant.2)
 
 -- all bytes are put
 returns-2 : tie.Need-returns invariant-loop decreases-loop
 returns-2 c =
-    let at-loop = c.before in
-    let args = at-loop.args in
-    let done : at-loop.loop-i.i ≡ length args.text.now = omega arith in
+    let at_loop = c.before in
+    let args = at_loop.args in
+    let done : at_loop.loop-i.i ≡ length args.text.now = omega arith in
     record {
-      is = sym (no_byte at-loop.loop-i.out args.at args.text.now at-loop.loop-i.i done) ∙ at-loop.loop-i.invariant.2;
+      is = sym (no_byte at_loop.loop-i.out args.at args.text.now at_loop.loop-i.i done) ∙ at_loop.loop-i.invariant.2;
       next = ap (λ (n : ℕ). args.at + n) done;
     }
 

@@ -8,7 +8,7 @@ use lib.ListN.{length}
 use lib.Seq.{sets}
 use Rattle.base_strtol.specs.Decimal.{decimal}
 use Rattle.base_strtol.proofs.Decimals.{decimal-length}
-use Rattle.write_pieces.proofs.Puts.{last-digit, no_digit}
+use Rattle.write_pieces.proofs.Puts.{last_digit, no_digit}
 use Rattle.write_pieces.proofs.output.put_number.Statement.{statement}
 use Rattle.write_pieces.proofs.output.put_number.Tie as tie
 
@@ -21,17 +21,17 @@ decreases-loop n width out₀ at rest₀ i₀ out rest i = i
 -- the last digit of those left is put
 loop-again : tie.Need-loop-i-preserved invariant-loop decreases-loop
 loop-again c =
-    let at-loop = c.before in
-    let args = at-loop.args in
-    (omega arith, search rules, last-digit at-loop.loop-i.out args.at at-loop.loop-i.i at-loop.loop-i.rest (omega arith) ∙ at-loop.loop-i.invariant.2)
+    let at_loop = c.before in
+    let args = at_loop.args in
+    (omega arith, search rules, last_digit at_loop.loop-i.out args.at at_loop.loop-i.i at_loop.loop-i.rest (omega arith) ∙ at_loop.loop-i.invariant.2)
 
 -- all digits are put
 returns : tie.Need-returns invariant-loop decreases-loop
 returns c =
-    let at-loop = c.before in
-    let args = at-loop.args in
+    let at_loop = c.before in
+    let args = at_loop.args in
     record {
-      is = sym (no_digit at-loop.loop-i.out args.at at-loop.loop-i.i at-loop.loop-i.rest (omega arith)) ∙ at-loop.loop-i.invariant.2;
+      is = sym (no_digit at_loop.loop-i.out args.at at_loop.loop-i.i at_loop.loop-i.rest (omega arith)) ∙ at_loop.loop-i.invariant.2;
       next = ap (λ (k : ℕ). args.at + k) (sym (decimal-length args.width args.n));
     }
 

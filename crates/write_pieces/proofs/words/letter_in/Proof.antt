@@ -13,11 +13,11 @@ use Rattle.write_pieces.proofs.words.letter_in.Tie as tie
 
 -- title case, where r is the letter that is returned
 module _ (case : Case) (title : case ≡ Title) (first : Bool) (b r : ℕ) where
-  first-letter : first ≡ true → r ≡ raised b → r ≡ letter_in case first b
-  first-letter e is = rw (title, e) is
+  first_letter : first ≡ true → r ≡ raised b → r ≡ letter_in case first b
+  first_letter e is = rw (title, e) is
 
-  other-letter : first ≡ false → r ≡ folded b → r ≡ letter_in case first b
-  other-letter e is = rw (title, e) is
+  other_letter : first ≡ false → r ≡ folded b → r ≡ letter_in case first b
+  other_letter e is = rw (title, e) is
 
 pub letter_in_spec : {M : Type 1} → statement M
 letter_in_spec =
@@ -31,10 +31,10 @@ letter_in_spec =
     (λ c κs. search rules)
     -- title case, the first letter
     (λ c.
-    let at-arm = c.before.before in
-    let args = at-arm.args in
+    let at_arm = c.before.before in
+    let args = at_arm.args in
     let first : args.first ≡ true = search rules in
-    first-letter args.case at-arm.in-Title.is args.first args.b _ first (search rules))
+    first_letter args.case at_arm.in-Title.is args.first args.b _ first (search rules))
     (λ c κs. search rules)
     -- capitals
     (λ c. let capitals : c.args.case ≡ Capitals = search rules in rw capitals (search rules))
@@ -42,7 +42,7 @@ letter_in_spec =
     (λ c. let small : c.args.case ≡ Small = search rules in rw small (search rules))
     -- title case, another letter
     (λ c.
-    let at-arm = c.before.before in
-    let args = at-arm.args in
+    let at_arm = c.before.before in
+    let args = at_arm.args in
     let other : args.first ≡ false = search rules in
-    other-letter args.case at-arm.in-Title.is args.first args.b _ other (search rules)))
+    other_letter args.case at_arm.in-Title.is args.first args.b _ other (search rules)))

@@ -8,7 +8,7 @@ use borrow.Author.Rules.{rules}
 use lib.ListN.{length, length-set}
 use Rattle.base_notation.specs.Choice.{when◌then◌else◌}
 use Rattle.write_pieces.specs.Words.{letter_in}
-use Rattle.write_pieces.proofs.Markers.{half, marker-size, marker-some, plain-put, dotted-put}
+use Rattle.write_pieces.proofs.Markers.{half, marker_size, marker_some, plain_put, dotted_put}
 use Rattle.write_pieces.proofs.words.put_marker.Statement.{statement}
 use Rattle.write_pieces.proofs.words.put_marker.Lts.{then-morning, else-morning}
 use Rattle.write_pieces.proofs.words.put_marker.Tie as tie
@@ -26,15 +26,15 @@ first c =
 -- there is room for two bytes
 two : (c : tie.After-letter_in) → let args = c.args in args.at + 1 < length args.out.now
 two c =
-    let at-start = c.before.before.before.before in
-    omega (arith, marker-some at-start.args.case at-start.args.dotted at-start.args.morning, at-start.requires)
+    let at_start = c.before.before.before.before in
+    omega (arith, marker_some at_start.args.case at_start.args.dotted at_start.args.morning, at_start.requires)
 
 -- and for four where there are dots
 four : (c : tie.Then-dotted) → let args = c.args in args.at + 3 < length args.out.now
 four c =
-    let at-start = c.before.before.before.before.before in
-    let size = marker-size at-start.args.case true at-start.args.morning in
-    omega (arith, size, rw c.if-dotted.true at at-start.requires)
+    let at_start = c.before.before.before.before.before in
+    let size = marker_size at_start.args.case true at_start.args.morning in
+    omega (arith, size, rw c.if-dotted.true at at_start.requires)
 
 -- a marker with dots
 returns : tie.Need-returns-then-dotted
@@ -42,8 +42,8 @@ returns c =
     let after_letters = c.before in
     let args = after_letters.args in
     rw c.if-dotted.true (record {
-      is = dotted-put args.case args.out.now args.at _ _ args.morning (first after_letters) after_letters.letter_in-m.ensures;
-      next = omega (arith, marker-size args.case true args.morning);
+      is = dotted_put args.case args.out.now args.at _ _ args.morning (first after_letters) after_letters.letter_in-m.ensures;
+      next = omega (arith, marker_size args.case true args.morning);
     })
 
 -- a marker without dots
@@ -52,8 +52,8 @@ returns-2 c =
     let after_letters = c.before in
     let args = after_letters.args in
     rw c.if-dotted.false (record {
-      is = plain-put args.case args.out.now args.at _ _ args.morning (first after_letters) after_letters.letter_in-m.ensures;
-      next = omega (arith, marker-size args.case false args.morning);
+      is = plain_put args.case args.out.now args.at _ _ args.morning (first after_letters) after_letters.letter_in-m.ensures;
+      next = omega (arith, marker_size args.case false args.morning);
     })
 
 pub put_marker_spec : {M : Type 1} → statement M

@@ -7,8 +7,8 @@ use native.Mathlib.Omega.{arith}
 use borrow.Author.Rules.{rules}
 use lib.ListN.{length, take, drop}
 use Rattle.write_pieces.specs.Words.{in_case, month_text}
-use Rattle.write_pieces.proofs.Cased.{cased-size}
-use Rattle.write_pieces.proofs.Months.{name-part}
+use Rattle.write_pieces.proofs.Cased.{cased_size}
+use Rattle.write_pieces.proofs.Months.{name_part}
 use Rattle.write_pieces.proofs.Puts.{put_same}
 use Rattle.write_pieces.proofs.words.put_month.Statement.{statement}
 use Rattle.write_pieces.proofs.words.put_month.Tie as tie
@@ -23,23 +23,23 @@ part c =
 named : (c : tie.After-name_length) → let args = c.args in
     in_case args.case (part c) ≡ month_text args.case args.full args.month
 named c =
-    let at-start = c.before.before.before in
-    let args = at-start.args in
-    name-part args.case args.month at-start.requires.0 at-start.requires.1 args.full _ c.months_full-names.ensures
+    let at_start = c.before.before.before in
+    let args = at_start.args in
+    name_part args.case args.month at_start.requires.0 at_start.requires.1 args.full _ c.months_full-names.ensures
     _ (c.name_length.ensures.0 args.case)
 
 -- there is room for the name
 put-word-requires : tie.Need-put_word-requires
 put-word-requires c κs =
-    let after-length = c.before.before in
-    let at-start = after-length.before.before in
-    omega (arith, cased-size at-start.args.case (part after-length), ap length (named after-length), at-start.requires.2)
+    let after_length = c.before.before in
+    let at_start = after_length.before.before in
+    omega (arith, cased_size at_start.args.case (part after_length), ap length (named after_length), at_start.requires.2)
 
 -- the name is put
 returns : tie.Need-returns
 returns c =
-    let after-put = c.before.before in
-    put_same (named after-put.before.before.before) after-put.put_word.ensures
+    let after_put = c.before.before in
+    put_same (named after_put.before.before.before) after_put.put_word.ensures
 
 pub put_month_spec : {M : Type 1} → statement M
 put_month_spec =

@@ -8,7 +8,7 @@ use borrow.Author.Rules.{rules}
 use lib.ListN.{length, drop}
 use lib.Seq.{sets}
 use Rattle.write_pieces.specs.Words.{in_case}
-use Rattle.write_pieces.proofs.Cased.{cased-size, next-letter}
+use Rattle.write_pieces.proofs.Cased.{cased_size, next_letter}
 use Rattle.write_pieces.proofs.Puts.{no_byte}
 use Rattle.write_pieces.proofs.words.put_word.Statement.{statement}
 use Rattle.write_pieces.proofs.words.put_word.Tie as tie
@@ -23,20 +23,20 @@ decreases-loop word case out₀ at i₀ out i = length word - i
 -- the next letter is put
 loop-again : tie.Need-loop-i-preserved invariant-loop decreases-loop
 loop-again c =
-    let at-loop = c.before.before.before in
-    let args = at-loop.args in
-    let turn = next-letter args.case at-loop.loop-i.out args.at args.word.now at-loop.loop-i.i (omega arith) _ c.letter_in.ensures in
-    (omega arith, search rules, turn ∙ at-loop.loop-i.invariant.2)
+    let at_loop = c.before.before.before in
+    let args = at_loop.args in
+    let turn = next_letter args.case at_loop.loop-i.out args.at args.word.now at_loop.loop-i.i (omega arith) _ c.letter_in.ensures in
+    (omega arith, search rules, turn ∙ at_loop.loop-i.invariant.2)
 
 -- all letters are put
 returns : tie.Need-returns invariant-loop decreases-loop
 returns c =
-    let at-loop = c.before in
-    let args = at-loop.args in
+    let at_loop = c.before in
+    let args = at_loop.args in
     let text = in_case args.case args.word.now in
-    let done : at-loop.loop-i.i ≡ length text = omega (arith, cased-size args.case args.word.now) in
+    let done : at_loop.loop-i.i ≡ length text = omega (arith, cased_size args.case args.word.now) in
     record {
-      is = sym (no_byte at-loop.loop-i.out args.at text at-loop.loop-i.i done) ∙ at-loop.loop-i.invariant.2;
+      is = sym (no_byte at_loop.loop-i.out args.at text at_loop.loop-i.i done) ∙ at_loop.loop-i.invariant.2;
       next = ap (λ (n : ℕ). args.at + n) done;
     }
 
