@@ -17,7 +17,7 @@ use moment_sums::Value;
 use moment_time::{
     Offset, Zoned, clock_hour, micros_of, minute_of, offset_of, second_of, time_in_range,
 };
-pub use plain::{has_plain_moment, plain_parts};
+pub use plain::{has_plain_moment, is_plain, plain_parts};
 use read_fields::{Fields, Verdict, field};
 use template_nodes::{NODE, NODES};
 

@@ -11,7 +11,7 @@ use read_fields::field;
 use read_fields::state::get;
 
 // Whether the fields of all other steps are 0.
-fn is_plain(f: &[i32; 24]) -> bool
+pub fn is_plain(f: &[i32; 24]) -> bool
     ensures { result ≡ is_plain (fields_of f.now) }
 {
     get(f, field::J)

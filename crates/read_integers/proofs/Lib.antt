@@ -7,5 +7,7 @@ pub mod Ranges
 pub mod Numbers
 -- few digits right at a place
 pub mod FewDigits
+-- where no number begins
+pub mod NoNumber
 -- a number that is refused names its own pattern
 pub mod Own

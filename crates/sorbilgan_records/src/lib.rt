@@ -101,14 +101,26 @@ pub fn put_parts(answer: Answer, out: &mut [i64; 15]) -> u8
     }
 }
 
-// The moment that fields make. Plain fields need no answer in between.
+// The moment that any fields make. It has a function of its own so that plain fields save no registers for it.
+fn put_made(strict: bool, f: &[i32; 24], out: &mut [i64; 15]) -> u8
+    ensures { Recorded (parts_record (moment_of strict (fields_of f.now))) out.new result }
+{
+    put_parts(moment_parts::moment_of(strict, Fields { values: *f }), out)
+}
+
+// The moment that fields make. Plain fields need no answer in between. The store before them has them read once more,
+// which is cheaper than to keep them all from the test on.
 fn put_fields(strict: bool, f: &[i32; 24], out: &mut [i64; 15]) -> u8
     ensures { Recorded (parts_record (moment_of strict (fields_of f.now))) out.new result }
 {
+    if !moment_parts::is_plain(f) {
+        return put_made(strict, f, out);
+    }
     if moment_parts::has_plain_moment(f) {
+        out[0] = 0;
         return put_moment(moment_parts::plain_parts(f), 0, 0, out);
     }
-    put_parts(moment_parts::moment_of(strict, Fields { values: *f }), out)
+    put_made(strict, f, out)
 }
 
 // What a verdict and the fields that were read make.

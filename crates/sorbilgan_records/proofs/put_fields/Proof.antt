@@ -3,23 +3,27 @@
 use mathlib.Core.Path.{◌∙◌, sym}
 use borrow.Author.Rules.{rules}
 use Rattle.moment_parts.specs.Plain.{plain_parts}
-use Rattle.moment_parts.proofs.PlainMoment.{plain-moment}
+use Rattle.moment_parts.proofs.PlainMoment.{plain_moment}
 use Rattle.sorbilgan_records.specs.Records.{parts_record}
 use Rattle.sorbilgan_records.proofs.put_fields.Statement.{statement}
 use Rattle.sorbilgan_records.proofs.put_fields.Tie as tie
 
--- plain fields in range
-returns : tie.Need-returns-then-has_plain_moment
-unfolding parts_record plain_parts
-returns c =
-    let after-parts = c.before.before in
-    let plain = after-parts.before in
-    rw (plain-moment _ _ (sym plain.has_plain_moment.ensures ∙ plain.if-has_plain_moment.true))
-    (rw after-parts.plain_parts.ensures at c.put_moment.ensures)
+-- fields that are not plain
+returns : tie.Need-returns-then-not-is_plain
+returns c = c.put_made.ensures
 
--- any others
-returns-2 : tie.Need-returns
-returns-2 c = rw c.moment_of.ensures at c.put_parts.ensures
+-- plain fields in range
+returns-2 : tie.Need-returns-then-has_plain_moment
+unfolding parts_record plain_parts
+returns-2 c =
+    let after_parts = c.before.before in
+    let plain = after_parts.before in
+    rw (plain_moment _ _ (sym plain.has_plain_moment.ensures ∙ plain.if-has_plain_moment.true))
+    (rw after_parts.plain_parts.ensures at c.put_moment.ensures)
+
+-- plain fields out of range, or without a year
+returns-3 : tie.Need-returns
+returns-3 c = c.put_made-2.ensures
 
 pub put_fields_spec : {M : Type 1} → statement M
 put_fields_spec =
@@ -27,8 +31,11 @@ put_fields_spec =
     (tie.spec
     (λ c κs. search rules)
     (λ c κs. search rules)
-    (λ c κs. search rules)
     returns
     (λ c κs. search rules)
+    (λ c. search rules)
     (λ c κs. search rules)
-    returns-2)
+    (λ c κs. search rules)
+    returns-2
+    (λ c κs. search rules)
+    returns-3)
