@@ -7,5 +7,7 @@ mod Beginning
 mod Letters
 -- the words of a list, searched in the rows of its table
 pub mod Words
+-- the month at a place, by its letters as a number
+pub mod MonthLetters
 -- a pattern that reads a word and is refused names itself
 pub mod Own

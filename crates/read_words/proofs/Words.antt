@@ -1,6 +1,8 @@
 -- The words of a list, searched in the rows of its table. Assumes nothing.
 -- `laid`: a list's table has 108 bytes and a row for each of its words: at most twelve words of at most nine bytes.
 -- `inside`: a word that the search of the input finds is inside the input.
+-- `found_at`: a word that equals what the search finds is found at that place, inside the input.
+-- `past_end`, `no_space_there`: no word is past the end, and no space is where a word is.
 -- `from`: what the search of the beginning finds from row k on.
 -- `no_space`, `over`: no word begins with a space, nor is any word past the last row.
 -- `searched`: what is found in the folded beginning, in nine bytes, is what is found in the input.
@@ -16,6 +18,8 @@ use lib.Dec.{eqb, leb, ltb}
 use lib.ListN.{length, get_or, drop, replicate, drop_of_length-le, length-map, get_or-eq_default}
 use lib.Seq.{drop-cons}
 use Rattle.base_chars.specs.Fold.{folded}
+use Rattle.base_chars.specs.Range.{◌‥◌, ◌∈◌}
+use Rattle.base_chars.proofs.Ranges.{bounds}
 use Rattle.base_notation.specs.Text.{byte_at}
 use Rattle.base_notation.proofs.Bytes.{byte_within}
 use Rattle.base_notation.proofs.Cases.{both, by_if}
@@ -31,13 +35,13 @@ use Rattle.read_words.specs.declared.spelling.Word.TheVariants.{At, Nothing}
 use Rattle.read_words.proofs.FoldOnce.{fold_once, same_word}
 
 -- two words are the same
-abbrev same : List ℕ → List ℕ → Bool
+abbrev pub same : List ℕ → List ℕ → Bool
 same [] [] = true
 same [] (b ∷ t) = false
 same (a ∷ s) [] = false
 same (a ∷ s) (b ∷ t) = eqb a b && same s t
 
-same_is : (s t : List ℕ) → same s t ≡ true → s ≡ t
+pub same_is : (s t : List ℕ) → same s t ≡ true → s ≡ t
 same_is [] [] e = refl
 same_is [] (b ∷ t) e = absurd (false≢true e)
 same_is (a ∷ s) [] e = absurd (false≢true e)
@@ -137,6 +141,36 @@ module _ (s : List ℕ) where
     unfolding word_at
     inside list = first_inside (words_of list) 0 (omega (arith, (laid list).few)) (laid list).words
 
+    -- no word is past the end
+    pub past_end : (list : WordList) → length s ≤ at → Nothing ≡ word_at list s at
+    past_end list h = past (word_at list s at) (inside list)
+      where
+        past : (r : Word) → Inside s at r → Nothing ≡ r
+        past (At k len) within = absurd (omega (arith, within.1, within.2))
+        past Nothing within = refl
+
+    -- a word that is there begins with a byte above the space
+    begins_above : (w : List ℕ) → 32 < byte_at (map folded w) 0 → spelled_at w s at ≡ true → 32 < folded (byte_at s at)
+    begins_above [] h e = absurd (omega arith)
+    begins_above (c ∷ w) h e = rw (eqb-true (folded (byte_at s at)) (folded c) (both _ _ e).0) h
+
+    first_above
+        : (ws : List (List ℕ)) (k j len : ℕ) → all_from begins k (map (map folded) ws) ≡ true
+        → first_word k ws s at ≡ At j len → 32 < folded (byte_at s at)
+    first_above [] k j len p = λ e. absurd (let z : ◌≡◌ {A = ℕ} 0 1 = cc in omega arith)
+    first_above (w ∷ ws) k j len p =
+        let on_word = both (begins k (map folded w)) _ p in
+        by_if (λ (r : Word). r ≡ At j len → 32 < folded (byte_at s at)) (spelled_at w s at) _ _
+        (λ there e. begins_above w (ltb-true _ _ on_word.0) there)
+        (λ there e. first_above ws (suc k) j len on_word.1 e)
+
+    pub no_space_there : (list : WordList) (k len : ℕ) → word_at list s at ≡ At k len → 32 < byte_at s at
+    unfolding word_at
+    no_space_there list k len e =
+        let above = first_above (words_of list) 0 k len (laid list).small e in
+        by_if (λ (b : ℕ). 32 < b → 32 < byte_at s at) (byte_at s at ∈ 65 ‥ 90) _ _
+        (λ capital h. omega (arith, bounds (65 ‥ 90) (byte_at s at) capital)) (λ other h. h) above
+
 -- ---- the search of its beginning
 module _ (t : List ℕ) where
   -- no word begins with a space
@@ -205,10 +239,15 @@ module _ (t : List ℕ) where
           by_row (λ l e m. absurd (omega (arith, a_word l))) (λ l e m. rw (drop-cons (small_words list) k [] l, e, add-one k))
           (λ l m. rw (drop_of_length-le (small_words list) l, drop_of_length-le (small_words list) {i = k + 1} (omega arith)))
 
+-- a word that is found, and that it is inside the input
+pub found_at
+    : (list : WordList) (s : List ℕ) (at : ℕ) {r : Word} → r ≡ word_at list s at → Found s at (word_at list s at) r
+found_at list s at e = record { is = e; inside = subst (Inside s at) (sym e) (inside s at list) }
+
 -- what is found in the folded beginning, in nine bytes, is what is found in the input
 pub searched
     : (list : WordList) (s : List ℕ) (at n : ℕ) (start : List ℕ) (r : Word) → n ≡ longest (words_of list) → start ≡ in_nine (beginning n s at) → r ≡ word_in list start
     → Found s at (word_at list s at) r
 searched list s at n start r m b e =
     let is : r ≡ word_at list s at = e ∙ ap (word_in list) (b ∙ ap (λ (k : ℕ). in_nine (beginning k s at)) m) ∙ same_word list _ ∙ fold_once.same list s at in
-    record { is = is; inside = subst (Inside s at) (sym is) (inside s at list) }
+    found_at list s at is

@@ -1,6 +1,7 @@
 // Patterns that read a word.
 #![tactic(auto)]
 
+mod months;
 mod spelling;
 
 ghost use Rattle.std.specs.Prelude.{◌≡◌, ◌<◌, ◌≤◌};
@@ -8,8 +9,9 @@ ghost use Rattle.read_fields.specs.Fields.{fields_of, read_into};
 ghost use Rattle.read_words.specs.Words.{kept_word, list_of, meant, noted_word, read_word, word_stored};
 
 use base_refusals::Refusal;
+pub use months::month_at;
 use read_fields::{Outcome, Place, Task, field, state, table};
-use spelling::Word;
+pub use spelling::Word;
 use template_nodes::Node;
 use template_patterns::WordList;
 

@@ -1,4 +1,5 @@
 -- A name and the bytes at a place compared as numbers. Assumes nothing.
+-- `same_parts`: numbers with a lowest byte each are the same exactly if both parts are.
 -- `number_parts`: what the number of a name says: its first byte, how many bits and bytes it has, and its bytes.
 -- `key_begins`: the lowest bits of the bytes at a place are those of a name exactly if the name is there.
 -- `key_first`: the lowest byte of the bytes at a place is the first.
@@ -95,7 +96,7 @@ unfolding start_of
 no_start c none = none_from c 0 names none refl
 
 -- two numbers with a lowest byte each are the same exactly if both parts are
-same_parts : (b c x y : ℕ) → b < 256 → c < 256 → eqb (x * 256 + b) (c + 256 * y) ≡ (eqb b c && eqb x y)
+pub same_parts : (b c x y : ℕ) → b < 256 → c < 256 → eqb (x * 256 + b) (c + 256 * y) ≡ (eqb b c && eqb x y)
 same_parts b c x y p q = split (eqb b c) refl (eqb x y) refl
   where
     split : (u : Bool) → eqb b c ≡ u → (v : Bool) → eqb x y ≡ v → eqb (x * 256 + b) (c + 256 * y) ≡ (u && v)
