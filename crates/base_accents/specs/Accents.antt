@@ -32,6 +32,14 @@ measure_of accents s at =
     let n = char_length s at in
     when accents && letter_at s at then n + marks (drop (at + n) s) else n
 
+-- 1 or 2 where the first byte and the byte after the character leave no doubt that it has so many in both modes; else 0
+unfoldable pub usual_length : List ℕ → ℕ → ℕ
+usual_length s at =
+    let b = byte_at s at in
+    when ltb b 0x80 then (when ltb (byte_at s (at + 1)) 0xcc then 1 else 0)
+    else when b ∈ 0xc0 ‥ 0xcb then (when ltb (byte_at s (at + 2)) 0xcc then 2 else 0)
+    else 0
+
 -- r is that length: at least 1 where a byte is left, and within the text
 pub record Counted (accents : Bool) (s : List ℕ) (at r : ℕ) : Type 0 where
   pub is : r ≡ measure_of accents s at
@@ -77,3 +85,10 @@ alone = (refl, refl)
 pub letters : map (λ s. measure_of true (s ++ acute ++ utf8 "a") 0) (utf8 "日" ∷ utf8 "𝄞" ∷ encoded 0xa0 ∷ []) ≡ 5 ∷ 6 ∷ 4 ∷ []
 unfolding measure_computes
 letters = refl
+
+-- g and à are usual; a letter before a mark, a mark and a character of three bytes are not
+pub usual
+    : (map (usual_length (utf8 "ngà")) (1 ∷ 2 ∷ []) ≡ 1 ∷ 2 ∷ [])
+    × (map (λ s. usual_length s 0) ((utf8 "u" ++ horn) ∷ (utf8 "ú" ++ horn) ∷ acute ∷ utf8 "ứ" ∷ []) ≡ 0 ∷ 0 ∷ 0 ∷ 0 ∷ [])
+unfolding usual_length
+usual = (refl, refl)

@@ -1,9 +1,9 @@
 // Characters of a text in the accents mode: a letter with its accents is one.
 #![tactic(auto)]
 
-ghost use Rattle.std.specs.Prelude.{true, ◌≡◌, ◌+◌, drop};
+ghost use Rattle.std.specs.Prelude.{true, ◌≡◌, ◌+◌, ◌<◌, length, drop};
 ghost use Rattle.base_chars.specs.Range.{◌‥◌, ◌∈◌};
-ghost use Rattle.base_accents.specs.Accents.{Counted, letter_at, mark_at, marks};
+ghost use Rattle.base_accents.specs.Accents.{Counted, letter_at, mark_at, marks, usual_length};
 
 // The bytes of U+0300 and U+036F, and of those between them at which the first byte changes.
 const FIRST_LOW: u8 = 0xcc;
@@ -97,4 +97,29 @@ pub fn measure_usual(s: &[u8], at: usize, accents: bool) -> usize
         }
     }
     measure(s, at, accents)
+}
+
+// The length of a character below U+0300 before a byte that begins no mark, the same in both modes: 1 for ASCII, and 2
+// for another. For any other character it is 0, and `measure` says.
+#[tactic(auto, unfolding(crate::specs::Accents::usual_length))]
+pub fn usual_length(s: &[u8], at: usize) -> usize
+    requires { at + 1 < length s.now }
+    ensures { result ≡ usual_length s.now at }
+{
+    let first = s[at];
+    if first < 0x80 {
+        if s[at + 1] < FIRST_LOW {
+            return 1;
+        }
+        return 0;
+    }
+    if first < 0xc0 {
+        return 0;
+    }
+    if first < FIRST_LOW {
+        if base_notation::byte_at(s, at + 2) < FIRST_LOW {
+            return 2;
+        }
+    }
+    0
 }

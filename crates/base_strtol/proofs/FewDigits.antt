@@ -1,25 +1,26 @@
 -- Laws of a number of few digits right at a place (`short_at`). Assumes nothing.
 -- `short_read`: digits that were all read, of a number below 1,000,000,000, are such a number.
 -- `short_not`: where nine digits that matter are followed by one more, there is none.
--- `short_pair`: two digits are such a number.
+-- `short_pair`: two digits are such a number. `pair_bytes`: where the test passes, there are two digits.
+-- `pair_short`, `pair_ends`: where the place moves, a pair is read as such a number, and ends after two digits.
 -- `short_small`: such a number is below 1,000,000,000.
 -- `short_from`: it ends at its place or after it.
 -- `short_strtol`: where the place moves, it is what strtol reads there.
 use mathlib.Core.Path.{◌≡◌, ◌∙◌, refl, sym, ap}
-use mathlib.Core.Bool.{true, false}
+use mathlib.Core.Bool.{true, false, not}
 use mathlib.Core.List.{List, [], ◌∷◌}
 use Prim.Native.Nat.{ℕ, ◌+◌, ◌-◌, ◌*◌, ◌<◌, ◌≤◌}
 use native.Mathlib.Omega.{arith}
-use borrow.Author.Tests.{lt-ltb, le-ltb, ltb-true}
+use borrow.Author.Tests.{lt-ltb, le-ltb, ltb-true, not-true}
 use lib.Dec.{ltb}
 use lib.IntN.{pos}
 use lib.ListN.{length, drop}
 use Rattle.base_notation.specs.Text.{byte_at}
-use Rattle.base_notation.proofs.Cases.{by_if}
+use Rattle.base_notation.proofs.Cases.{both, by_if}
 use Rattle.base_chars.specs.Class.{is_digit}
 use Rattle.base_chars.proofs.Classes.{digit_bounds}
 use Rattle.base_strtol.specs.Runs.{digits, number, number_from}
-use Rattle.base_strtol.specs.Strtol.{Pair, answer, digits_read, limit, short_at, strtol}
+use Rattle.base_strtol.specs.Strtol.{Pair, answer, digits_read, is_pair, limit, pair_at, short_at, strtol}
 use Rattle.base_strtol.specs.declared.Run.{Run}
 use Rattle.base_strtol.specs.declared.Short.{Short}
 use Rattle.base_strtol.proofs.Digits.{Reading}
@@ -67,6 +68,26 @@ module _ (s : List ℕ) (at : ℕ) where
       let d_stop = leading_stop is_digit s (at + 1 + 1) room stops in
       let end_is : at + 1 + 1 ≡ at + digits (drop at s) = omega (arith, d_first, d_second, d_stop) in
       rw (lt-ltb (number (drop at s)) 1000000000 (omega (arith, value_is, bounds_first, bounds_second))) (λ i. record { value = value_is i; end = end_is i })
+
+  pub pair_bytes : is_pair s at ≡ true → Pair s at
+  unfolding is_pair
+  pair_bytes e =
+      let ends = both _ (not (is_digit (byte_at s (at + 2)))) e in
+      let digits_two = both _ (is_digit (byte_at s (at + 1))) ends.0 in
+      let begins = both _ (is_digit (byte_at s at)) digits_two.0 in
+      let two : at + 1 + 1 ≡ at + 2 = omega arith in
+      (omega (arith, ltb-true _ _ begins.0), begins.1, digits_two.1, rw two (not-true _ ends.1))
+
+  -- where the place moves, a pair was read
+  pub pair_short : ((pair_at s at).end ≡ at → ⊥) → pair_at s at ≡ short_at s at
+  unfolding pair_at
+  pair_short = by_if (λ (r : Short). (r.end ≡ at → ⊥) → r ≡ short_at s at) (is_pair s at) _ _ (λ e moved. refl) (λ e moved. absurd (moved refl))
+
+  pub pair_ends : ((pair_at s at).end ≡ at → ⊥) → (pair_at s at).end ≡ at + 2
+  unfolding pair_at
+  pair_ends =
+      by_if (λ (r : Short). (r.end ≡ at → ⊥) → r.end ≡ at + 2) (is_pair s at) _ _
+      (λ e moved. omega (arith, ap (λ (r : Short). r.end) (short_pair (pair_bytes e)))) (λ e moved. absurd (moved refl))
 
   pub short_small : (short_at s at).value < 1000000000
   unfolding short_at

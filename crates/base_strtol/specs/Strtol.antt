@@ -1,5 +1,5 @@
 -- C's strtol in base 10, with a `long` of 64 bits, on the text from a place on.
-use Rattle.std.specs.Prelude.{◌≡◌, refl, Bool, true, false, ◌||◌, List, [], ℕ, ◌+◌, ◌-◌, ◌^◌, ◌<◌, min, eqb, ltb, ℤ, pos, negsuc, neg_ℤ, length, drop}
+use Rattle.std.specs.Prelude.{◌≡◌, refl, Bool, true, false, not, ◌&&◌, ◌||◌, List, [], ℕ, ◌+◌, ◌-◌, ◌^◌, ◌<◌, min, eqb, ltb, ℤ, pos, negsuc, neg_ℤ, length, drop}
 use Prim.Native.Char.{code}
 use Rattle.base_notation.specs.Choice.{when◌then◌else◌}
 use Rattle.base_notation.specs.Text.{byte_at, utf8}
@@ -62,6 +62,15 @@ abbrev pub Pair : List ℕ → ℕ → Type 0
 Pair s at =
     (at + 1 + 1 < length s) × (is_digit (byte_at s at) ≡ true) × (is_digit (byte_at s (at + 1)) ≡ true) × (is_digit (byte_at s (at + 1 + 1)) ≡ false)
 
+-- the same as a test
+unfoldable pub is_pair : List ℕ → ℕ → Bool
+is_pair s at =
+    ltb (at + 2) (length s) && is_digit (byte_at s at) && is_digit (byte_at s (at + 1)) && not (is_digit (byte_at s (at + 2)))
+
+-- the number of two digits at a place, where no third follows but another byte does; otherwise none
+unfoldable pub pair_at : List ℕ → ℕ → Short
+pair_at s at = when is_pair s at then short_at s at else record { value = 0; end = at }
+
 -- unfolds all that a number is computed by, for worked examples
 unfoldable pub strtol_computes : ℕ
 unfolding strtol leading number_from class_of
@@ -87,6 +96,15 @@ pub short
     × (short_at (utf8 " 1") 0 ≡ record { value = 0; end = 0 })
 unfolding short_at strtol_computes
 short = (refl, refl, refl, refl)
+
+-- two digits before a dot; at the end of the text, three of them, or one: none
+pub pairs
+    : (pair_at (utf8 "x07.") 1 ≡ record { value = 7; end = 3 })
+    × (pair_at (utf8 "x07") 1 ≡ record { value = 0; end = 1 })
+    × (pair_at (utf8 "070.") 0 ≡ record { value = 0; end = 0 })
+    × (pair_at (utf8 "7.0") 0 ≡ record { value = 0; end = 0 })
+unfolding pair_at is_pair short_at strtol_computes
+pairs = (refl, refl, refl, refl)
 
 -- the signed 64-bit numbers end at 2 ^ 63 - 1 and at -2 ^ 63
 pub ends

@@ -3,7 +3,7 @@
 
 ghost use Rattle.std.specs.Prelude.{true, ◌≡◌, ◌+◌, ◌≤◌, drop};
 ghost use Rattle.base_strtol.specs.Runs.{spaces};
-ghost use Rattle.base_strtol.specs.Strtol.{Pair, minus, signs, limit, signed, digits_read, strtol, short_at};
+ghost use Rattle.base_strtol.specs.Strtol.{Pair, is_pair, minus, signs, limit, signed, digits_read, strtol, pair_at, short_at};
 
 // What is read: the number, the place after it, and whether it was outside 64 bits.
 #[derive(Clone, Copy)]
@@ -112,7 +112,8 @@ pub struct Short {
 
 // Whether two digits are at a place, and then a byte that is no digit.
 fn is_pair(s: &[u8], at: usize) -> bool
-    ensures { result ≡ true → Pair s.now at }
+    ensures bytes { result ≡ true → Pair s.now at }
+    ensures test { result ≡ is_pair s.now at }
 {
     if s.len() <= at {
         return false;
@@ -172,6 +173,18 @@ pub fn short_number(s: &[u8], at: usize) -> Short
         return pair(s, at);
     }
     few_digits(s, at)
+}
+
+// The number of two digits at a place before a byte that is no digit; otherwise 0, and the place stays.
+#[tactic(auto, unfolding(crate::specs::Strtol::pair_at))]
+pub fn pair_number(s: &[u8], at: usize) -> Short
+    ensures { result ≡ pair_at s.now at }
+{
+    if is_pair(s, at) {
+        pair(s, at)
+    } else {
+        Short { value: 0, end: at }
+    }
 }
 
 // A number with its sign. 2 ^ 63 is no i64, so the negative number is made of one less.

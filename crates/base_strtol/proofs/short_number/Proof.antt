@@ -8,7 +8,7 @@ short_number_spec =
     tie.close
     (tie.spec
     (λ c κs. search rules)
-    (λ c κs. c.is_pair.ensures c.if-is_pair.true)
+    (λ c κs. c.is_pair.ensures.0 c.if-is_pair.true)
     (λ c. c.pair.ensures)
     (λ c κs. search rules)
     (λ c. c.few_digits.ensures))
