@@ -89,6 +89,10 @@ def main():
     table = dict(line.split("\t") for line in read(os.path.join(HERE, "respell.tsv")).splitlines())
     names = any_of((name for name in table if "-" not in name), NOT_IN_A_NAME)
     dashed = any_of((name for name in table if "-" in name), NOT_IN_A_DASHED_NAME)
+
+    def with_dashes(text):
+        return dashed.sub(lambda it: table[it.group(1)], text)
+
     is_new = any(names.search(read(os.path.join(crates, file))) for _, files in LEMMAS for file in files)
     if is_new:
         lemmas_apart(crates)
@@ -101,7 +105,7 @@ def main():
             text = read(path)
             turned = outside_quotes(text, lambda part: names.sub(lambda it: table[it.group(1)], part))
             turned = choice(path, turned)
-            turned = outside_comments(turned, lambda part: dashed.sub(lambda it: table[it.group(1)], part))
+            turned = outside_comments(turned, lambda part: outside_quotes(part, with_dashes))
             if turned != text:
                 write(path, turned)
 

@@ -99,8 +99,8 @@ pub fn measure_usual(s: &[u8], at: usize, accents: bool) -> usize
     measure(s, at, accents)
 }
 
-// The length of a character below U+0300 before a byte that begins no mark, the same in both modes: 1 for ASCII, and 2
-// for another. For any other character it is 0, and `measure` says.
+// The length of a character below U+0300 before a byte below 0xcc, which begins no mark. It is the same in both modes: 1
+// for ASCII, and 2 for another. Otherwise it is 0, and `measure` says.
 #[tactic(auto, unfolding(crate::specs::Accents::usual_length))]
 pub fn usual_length(s: &[u8], at: usize) -> usize
     requires { at + 1 < length s.now }

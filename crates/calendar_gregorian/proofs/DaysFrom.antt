@@ -20,7 +20,7 @@ use Rattle.calendar_gregorian.proofs.Closed.{before_bound}
 use Rattle.calendar_gregorian.proofs.Cycles.{cycles, back}
 use Rattle.calendar_gregorian.proofs.Lengths.{sum-take-le}
 use Rattle.calendar_gregorian.proofs.Shift.{start_small}
-use Rattle.base_notation.proofs.Magnitudes.{add-mag, sub_mag}
+use Rattle.base_notation.proofs.Magnitudes.{add_mag, sub_mag}
 use Rattle.calendar_gregorian.proofs.Signed.{sub_same, sub_sub, swap}
 
 -- a year has at most 366 days before a month
@@ -32,7 +32,7 @@ days_before-le false m = omega (arith, sum-take-le (month_of m - 1) (lengths 0))
 pub day_of_year_mag : (y m d : ℤ) → mag (day_of_year_ℤ y m d) ≤ 367 + mag d
 unfolding day_of_year_ℤ
 day_of_year_mag y m d =
-    omega (arith, add-mag (pos (days_before (is_leap (nat_abs y)) m)) d, days_before-le (is_leap (nat_abs y)) m)
+    omega (arith, add_mag (pos (days_before (is_leap (nat_abs y)) m)) d, days_before-le (is_leap (nat_abs y)) m)
 
 pub day_of_year_fits : (y m : ℤ) {d : ℤ} → SFits w32 d → SFits w64 (day_of_year_ℤ y m d)
 day_of_year_fits y m {d} f = omega (arith, day_of_year_mag y m d)
@@ -78,7 +78,7 @@ module _ {y : ℤ} (f : SFits w32 y) where
       rw (← from_start y m d f)
       (omega (
         arith,
-        add-mag (pos (since_start y) -ℤ pos to1970) (day_of_year_ℤ y m d),
+        add_mag (pos (since_start y) -ℤ pos to1970) (day_of_year_ℤ y m d),
         sub_mag (since_start y) to1970,
         since_start_le f,
         day_of_year_mag y m d,

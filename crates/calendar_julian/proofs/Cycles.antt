@@ -36,8 +36,8 @@ recast {t} e f r = subst₂ (λ (n y : ℕ). Found n y t) e f r
 in_four : (g v k t : ℕ) → v < 1461 → year_of_four v ≡ k → day_from_march v ≡ t → Found (1461 * g + v) (k + g * 4) t
 in_four g v k t h e f =
     let which_four : (1461 * g + v) / 1461 ≡ g = omega arith in
-    let day_of_four_lem : 1461 * g + v - g * 1461 ≡ v = omega arith in
-    record { year = rw (which_four, day_of_four_lem, e); day = rw (which_four, day_of_four_lem, f) }
+    let day_of_the_four : 1461 * g + v - g * 1461 ≡ v = omega arith in
+    record { year = rw (which_four, day_of_the_four, e); day = rw (which_four, day_of_the_four, f) }
 
 -- the day from March 1 in the first of four years, and in the others
 leap_year : (v : ℕ) → year_of_four v ≡ 0 → day_from_march v ≡ (v + 306) % 366 + 123

@@ -6,7 +6,7 @@
 use Rattle.std.proofs.Common.{◌≡◌, ℕ, zero, suc, ◌+◌, ◌-◌, ◌*◌, ◌/◌, ◌≤◌, Bool, true, false, ltb, pos, sym, refl, ap, ◌∙◌, add-one, arith, ltb-false, ltb-true}
 use Rattle.base_notation.specs.Choice.{when◌then◌else◌}
 use Rattle.base_wrapping.specs.Wrap.{◌⊕◌}
-use Rattle.base_wrapping.proofs.Small.{wrap_pos, sub-pos}
+use Rattle.base_wrapping.proofs.Small.{wrap_pos, sub_pos}
 use Rattle.calendar_gregorian.specs.Gregorian.{leap, before_year, day_number, Valid}
 use Rattle.calendar_gregorian.proofs.Closed.{centuries_le, closed, next_year}
 use Rattle.calendar_gregorian.proofs.Dates.{each, length_range}
@@ -27,10 +27,10 @@ module _ (y m d : ℕ) (from : 4799 ≤ y) (to : y ≤ 1004800) (month : m ≤ 1
       let month_days : 7834 * m / 256 ≤ 460 = omega arith in
       rw (
         wrap_pos (y * 365) (omega arith),
-        sub-pos (y * 365) 32167 (omega arith),
+        sub_pos (y * 365) 32167 (omega arith),
         wrap_pos (y * 365 - 32167) (omega arith),
         wrap_pos (y * 365 - 32167 + y / 4) (omega arith),
-        sub-pos (y * 365 - 32167 + y / 4) (y / 100) (omega arith),
+        sub_pos (y * 365 - 32167 + y / 4) (y / 100) (omega arith),
         wrap_pos (y * 365 - 32167 + y / 4 - y / 100) (omega arith),
         wrap_pos (y * 365 - 32167 + y / 4 - y / 100 + y / 100 / 4) (omega arith),
         wrap_pos (7834 * m) (omega arith),

@@ -5,7 +5,7 @@
 use Rattle.std.proofs.Common.{◌≡◌, ℕ, ◌+◌, ◌-◌, ◌*◌, ◌/◌, ◌%◌, ◌^◌, ◌<◌, eqb, pos, ◌-ℤ◌, neg_ℤ, arith, to_z-of_z, w32, SFits, to_z}
 use mir.Facts.{to_z_pos}
 use Rattle.base_notation.proofs.Cases.{by_if}
-use Rattle.base_notation.proofs.Magnitudes.{add-mag}
+use Rattle.base_notation.proofs.Magnitudes.{add_mag}
 use Rattle.base_wrapping.proofs.Fits.{read}
 use Rattle.calendar_julian.specs.ToDate.{day_of_four, year_of_four, day_from_march, month_of, day_of, date}
 
@@ -26,7 +26,7 @@ module _ (days : ℕ) (h : days < 2 ^ 32) where
   year_is = to_z_pos w32 {n = year_of days} (omega (arith, year_lt))
 
   pub year_fits : SFits w32 (pos (year_of days) -ℤ pos 4800)
-  year_fits = omega (arith, year_lt, add-mag (pos (year_of days)) (neg_ℤ (pos 4800)))
+  year_fits = omega (arith, year_lt, add_mag (pos (year_of days)) (neg_ℤ (pos 4800)))
 
   -- as the code makes them, and as the definition does
   pub fields : (day : ℕ) → day < 489

@@ -5,7 +5,7 @@
 use Rattle.std.proofs.Common.{◌≡◌, ℕ, ◌+◌, ◌-◌, ◌*◌, ◌/◌, ◌%◌, ◌<◌, ◌≤◌, Bool, true, false, not, ◌&&◌, ◌||◌, ltb, pos, nat_abs, sym, refl, ap, ◌∙◌, subst, arith, ltb-false, ltb-true, eqb-true}
 use borrow.Author.Tests.{eqb-false}
 use Rattle.base_notation.specs.Choice.{when◌then◌else◌}
-use Rattle.base_wrapping.proofs.Small.{sub-pos}
+use Rattle.base_wrapping.proofs.Small.{sub_pos}
 use Rattle.calendar_gregorian.specs.Gregorian.{multiple, leap, month_length, day_number, Valid}
 use Rattle.calendar_gregorian.proofs.Closed.{leap-le}
 use Rattle.calendar_gregorian.proofs.Dates.{Dated, dated, valid as in_range, each}
@@ -96,7 +96,7 @@ date_is j y m n d h k i e f =
     let year_back : y + 4800 - 4800 ≡ y = omega arith in
     let day_back : 7834 * n / 256 + d - 7834 * n / 256 ≡ d = omega arith in
     let month_back : (7834 * n / 256 + d) * 2141 / 65536 ≡ n = omega arith in
-    rw (f.year, f.day, month_back, e, day_back, sub-pos (y + 4800) 4800 (omega arith), year_back)
+    rw (f.year, f.day, month_back, e, day_back, sub_pos (y + 4800) 4800 (omega arith), year_back)
 
 module _ {y m d : ℕ} (v : Valid y m d) where
   pub j2date_is : j2date (pos (day_number y m d)) ≡ date (pos y) (pos m) (pos d)

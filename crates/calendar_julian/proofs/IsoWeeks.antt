@@ -6,7 +6,7 @@ use Rattle.std.proofs.Common.{◌≡◌, ℕ, ◌+◌, ◌-◌, ◌*◌, ◌/◌
 use lib.Signed.{lt_z}
 use Rattle.base_notation.specs.Choice.{when◌then◌else◌}
 use Rattle.base_wrapping.specs.Wrap.{◌⊖◌}
-use Rattle.base_wrapping.proofs.Small.{wrap_pos, sub-pos}
+use Rattle.base_wrapping.proofs.Small.{wrap_pos, sub_pos}
 use Rattle.calendar_gregorian.specs.Gregorian.{day_number, Valid}
 use Rattle.calendar_gregorian.specs.IsoWeek.{iso_weekday, monday, iso_monday, iso_year, iso_week}
 use Rattle.calendar_gregorian.proofs.Closed.{before_bound}
@@ -25,11 +25,11 @@ monday_is : (n : ℕ) → 1 ≤ n → n < 2147483647 → pos n ⊖ j2day (pos n 
 monday_is n h k =
     let yesterday : iso_weekday (n - 1) % 7 ≡ n % 7 = omega arith in
     rw (
-      sub-pos n 1 h,
+      sub_pos n 1 h,
       wrap_pos (n - 1) (omega arith),
       j2day_is (n - 1) (omega arith),
       yesterday,
-      sub-pos n (n % 7) (omega arith),
+      sub_pos n (n % 7) (omega arith),
       wrap_pos (n - n % 7) (omega arith),
     )
 
@@ -51,7 +51,7 @@ module _ (y : ℕ) (to : y ≤ 1000000) where
   unfolding isoweek2j
   isoweek2j_is w h k =
       rw (
-        sub-pos w 1 h,
+        sub_pos w 1 h,
         wrap_pos (w - 1) (omega arith),
         wrap_pos ((w - 1) * 7) (omega arith),
         week_one_is,
@@ -61,7 +61,7 @@ module _ (y : ℕ) (to : y ≤ 1000000) where
   -- the week of a day, from week 1 on
   week_of_is : (j : ℕ) → iso_monday y 1 ≤ j → j < 2147483648 → week_of (pos j) (pos y) ≡ pos ((j - iso_monday y 1) / 7 + 1)
   unfolding week_of
-  week_of_is j h k = rw (week_one_is, sub-pos j (iso_monday y 1) h, wrap_pos (j - iso_monday y 1) (omega arith))
+  week_of_is j h k = rw (week_one_is, sub_pos j (iso_monday y 1) h, wrap_pos (j - iso_monday y 1) (omega arith))
 
   -- the year that a day is counted from
   from_year : (j : ℕ) → iso_monday y 1 ≤ j → counted_from (pos j) (pos y) ≡ pos y
@@ -70,7 +70,7 @@ module _ (y : ℕ) (to : y ≤ 1000000) where
 
   from_before : (j : ℕ) → 1 ≤ y → j < iso_monday y 1 → counted_from (pos j) (pos y) ≡ pos (y - 1)
   unfolding counted_from
-  from_before j f h = rw (week_one_is, lt-ltb j (iso_monday y 1) h, sub-pos y 1 f, wrap_pos (y - 1) (omega arith))
+  from_before j f h = rw (week_one_is, lt-ltb j (iso_monday y 1) h, sub_pos y 1 f, wrap_pos (y - 1) (omega arith))
 
 -- a day before week 1 of the next year, whatever its week
 not_yet : (j k : ℕ) (from : ℤ) → k ≤ 1000000 → j < iso_monday k 1 → week_year (pos j) from (pos k) ≡ from

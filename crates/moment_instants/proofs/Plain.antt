@@ -10,7 +10,7 @@ use native.Mathlib.Omega.{arith}
 use borrow.Author.Tests.{lt-ltb, le-ltb}
 use lib.IntN.{ℤ, pos, negsuc, neg_ℤ, ◌+ℤ◌, ◌-ℤ◌, ◌*ℤ◌}
 use lib.Signed.{lt_z, mag}
-use Rattle.base_notation.proofs.Magnitudes.{add-mag, sub_mag}
+use Rattle.base_notation.proofs.Magnitudes.{add_mag, sub_mag}
 use Rattle.calendar_gregorian.specs.Civil.{days_from_civil}
 use Rattle.calendar_gregorian.specs.Gregorian.{Valid, day_number, day_number_ℤ}
 use Rattle.calendar_gregorian.proofs.Dates.{first_to_last}
@@ -102,7 +102,7 @@ module _ {y m d : ℕ} (v : Valid y m d) where
           arith,
           days_mag,
           times_mag (days_since_1970 y m d) 86400,
-          add-mag (days_since_1970 y m d *ℤ pos 86400) (pos time),
+          add_mag (days_since_1970 y m d *ℤ pos 86400) (pos time),
           times_mag (days_since_1970 y m d *ℤ pos 86400 +ℤ pos time) 1000000,
         )
 
@@ -113,7 +113,7 @@ module _ {y m d : ℕ} (v : Valid y m d) where
     sum_mag : mag (micros_since_1970 y m d h mi s us) < 2 ^ 62
     sum_mag =
         rw (← sum_is)
-        (omega (arith, whole_mag, add-mag ((days_since_1970 y m d *ℤ pos 86400 +ℤ pos time) *ℤ pos 1000000) (pos us)))
+        (omega (arith, whole_mag, add_mag ((days_since_1970 y m d *ℤ pos 86400 +ℤ pos time) *ℤ pos 1000000) (pos us)))
 
     wall_is : wall_of (plain_parts y m d h mi s us) ≡ Micros (micros_since_1970 y m d h mi s us)
     unfolding wall_of

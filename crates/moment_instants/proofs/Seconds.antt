@@ -18,7 +18,7 @@ use lib.Signed.{lt_z, mag}
 use mir.Syntax.{w32, w64}
 use mir.Val.{SFits, to_z, of_z}
 use mir.Facts.{to_z-of_z}
-use Rattle.base_notation.proofs.Magnitudes.{add-mag, neg_mag}
+use Rattle.base_notation.proofs.Magnitudes.{add_mag, neg_mag}
 use Rattle.calendar_gregorian.specs.Civil.{days_from_civil}
 use Rattle.calendar_gregorian.proofs.DaysFrom.{days_from_mag}
 use Rattle.moment_parts.specs.declared.Parts.{Parts}
@@ -41,13 +41,13 @@ module _ {h m s : ℤ} (f : SFits w32 h) (g : SFits w32 m) (e : SFits w32 s) whe
   minutes_fit = omega (arith, times_mag m 60)
 
   hours_minutes : mag (h *ℤ pos 3600 +ℤ m *ℤ pos 60) < 2 ^ 44
-  hours_minutes = omega (arith, times_mag h 3600, times_mag m 60, add-mag (h *ℤ pos 3600) (m *ℤ pos 60))
+  hours_minutes = omega (arith, times_mag h 3600, times_mag m 60, add_mag (h *ℤ pos 3600) (m *ℤ pos 60))
 
   pub both_fit : SFits w64 (h *ℤ pos 3600 +ℤ m *ℤ pos 60)
   both_fit = omega (arith, hours_minutes)
 
   pub clock_mag : mag (h *ℤ pos 3600 +ℤ m *ℤ pos 60 +ℤ s) < 2 ^ 45
-  clock_mag = omega (arith, hours_minutes, add-mag (h *ℤ pos 3600 +ℤ m *ℤ pos 60) s)
+  clock_mag = omega (arith, hours_minutes, add_mag (h *ℤ pos 3600 +ℤ m *ℤ pos 60) s)
 
   pub clock_fits : SFits w64 (h *ℤ pos 3600 +ℤ m *ℤ pos 60 +ℤ s)
   clock_fits = omega (arith, clock_mag)
@@ -78,7 +78,7 @@ module _ {p : Parts} (r : Ranged p) where
   days_fit = omega (arith, days_mag)
 
   pub seconds_fit : SFits w64 (days p *ℤ pos 86400 +ℤ clock p)
-  seconds_fit = omega (arith, days_mag, clock_mag r.hour r.minute r.second, add-mag (days p *ℤ pos 86400) (clock p))
+  seconds_fit = omega (arith, days_mag, clock_mag r.hour r.minute r.second, add_mag (days p *ℤ pos 86400) (clock p))
 
 -- the seconds whose microseconds fit 64 bits
 pub too_few : (s : ℤ) → lt_z s (negsuc 9223372036853) ≡ true → fits64 (s *ℤ pos 1000000) ≡ false

@@ -17,7 +17,7 @@ use lib.Signed.{mag, lt_z, rem_z, mag_rem}
 use mir.Facts.{to_z-of_z}
 use mir.Syntax.{w32}
 use mir.Val.{SFits, to_z, of_z}
-use Rattle.base_notation.proofs.Magnitudes.{neg_mag-le}
+use Rattle.base_notation.proofs.Magnitudes.{neg_mag_le}
 use Rattle.base_wrapping.specs.Wrap.{low32, wrap32}
 use Rattle.base_wrapping.proofs.Fits.{read, wrap_fits}
 
@@ -40,7 +40,7 @@ neg_fits (negsuc n) h = omega arith
 
 rem_le : (z : ℤ) (k : ℕ) → 0 < k → mag (rem_z z (pos k)) ≤ k
 rem_le (pos a) k h = omega (arith, mod-lt a h)
-rem_le (negsuc a) k h = neg_mag-le (suc a % k) k (omega (arith, mod-lt (suc a) h))
+rem_le (negsuc a) k h = neg_mag_le (suc a % k) k (omega (arith, mod-lt (suc a) h))
 
 pub neg_rem_fits : (z : ℤ) (k : ℕ) → 0 < k → k < 2147483647 → SFits w32 (neg_ℤ (rem_z z (pos k)))
 neg_rem_fits z k h l = neg_fits (rem_z z (pos k)) (omega (arith, rem_le z k h))

@@ -12,7 +12,7 @@ use lib.IntN.{ℤ, pos, negsuc, neg_ℤ, ◌*ℤ◌}
 use lib.Signed.{mag, lt_z, quot_z}
 use mir.Syntax.{w32}
 use mir.Val.{SFits}
-use Rattle.base_notation.proofs.Magnitudes.{neg_mag-le}
+use Rattle.base_notation.proofs.Magnitudes.{neg_mag_le}
 use Rattle.read_integers.specs.Number.{fits32}
 
 -- n is at most one more than the magnitude of its negative
@@ -39,7 +39,7 @@ module _ (k : ℕ) (h : 0 < k) where
   most_fits = omega (arith, div-le_self 2147483647 k)
 
   pub least_fits : SFits w32 (quot_z (negsuc 2147483647) (pos k))
-  least_fits = omega (arith, neg_mag-le (2147483648 / k) 2147483647 (div-le_self 2147483648 k))
+  least_fits = omega (arith, neg_mag_le (2147483648 / k) 2147483647 (div-le_self 2147483648 k))
 
   pub too_large : (z : ℤ) → lt_z (quot_z (pos 2147483647) (pos k)) z ≡ true → fits32 (z *ℤ pos k) ≡ false
   too_large (pos n) e =
@@ -60,4 +60,4 @@ module _ (k : ℕ) (h : 0 < k) where
       omega arith
   product_fits (negsuc n) e f =
       let l : suc n * k ≤ 2147483648 = (le-div_iff_mul-le h).0 (not_below_neg (2147483648 / k) n f) in
-      omega (arith, neg_mag-le (suc n * k) 2147483647 l)
+      omega (arith, neg_mag_le (suc n * k) 2147483647 l)

@@ -13,7 +13,7 @@ use lib.Signed.{mag, lt_z}
 use mir.Syntax.{w32}
 use mir.Val.{SFits}
 use Rattle.read_integers.specs.Number.{fits32}
-use Rattle.base_wrapping.proofs.Small.{sub-pos}
+use Rattle.base_wrapping.proofs.Small.{sub_pos}
 use Rattle.moment_sums.proofs.Fits.{mixed_fits}
 
 pub fits : {z : ℤ} → SFits w32 z → fits32 z ≡ true
@@ -41,7 +41,7 @@ upper (negsuc a) b f h = record {
 -- the largest number less b, which is not negative
 pub at_most : (a b : ℤ) → SFits w32 a → SFits w32 b → lt_z b (pos 0) ≡ false
     → Limit (lt_z (pos 2147483647 -ℤ b) a) (pos 2147483647 -ℤ b) (a +ℤ b)
-at_most a (pos b) f g e = rw (sub-pos 2147483647 b (omega arith)) (upper a b f (omega arith))
+at_most a (pos b) f g e = rw (sub_pos 2147483647 b (omega arith)) (upper a b f (omega arith))
 at_most a (negsuc b) f g e = absurd (false≢true (sym e))
 
 -- b + 1 is taken away

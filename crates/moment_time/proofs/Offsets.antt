@@ -10,7 +10,7 @@ use native.Mathlib.Omega.{arith}
 use lib.IntN.{ℤ, pos, neg_ℤ, nat_abs, ◌+ℤ◌, ◌*ℤ◌}
 use mir.Syntax.{w32}
 use mir.Val.{SFits}
-use Rattle.base_notation.proofs.Magnitudes.{neg_mag-le}
+use Rattle.base_notation.proofs.Magnitudes.{neg_mag_le}
 use Rattle.moment_sums.specs.Within.{Within}
 
 -- the offset in minutes and in seconds, without its sign
@@ -31,7 +31,7 @@ neg_abs zero = refl
 neg_abs (suc n) = refl
 
 neg_fits : (n : ℕ) → n ≤ 57540 → SFits w32 (neg_ℤ (pos n))
-neg_fits n h = omega (arith, neg_mag-le n 57540 (omega arith))
+neg_fits n h = omega (arith, neg_mag_le n 57540 (omega arith))
 
 -- of 0 to 15 hours and 0 to 59 minutes
 module _ {h m : ℤ} (p : Within 0 15 h) (q : Within 0 59 m) where

@@ -1,8 +1,8 @@
 -- All that is promised of the date reader and its writer, in one file: a record for each demand, one for the change
--- requests, and in the end one of them all. `kept` in proofs/Promises.antt proves it. What the contract of `read` promises,
--- demands 1 and 2 together, is beside it in Reading.antt. set is the settings of a caller,
--- t a template, s an input, c the bytes of a compiled template, ns nodes: any numbers of any length. What a name means
--- is in the file that it is taken from.
+-- requests, and in the end one of them all. `kept` in proofs/Promises.antt proves it. What the contract of `read`
+-- promises, demands 1 and 2 together, is beside it in Reading.antt. set is the settings of a caller, t a template, s an
+-- input, c the bytes of a compiled template, ns nodes: any numbers of any length. What a name means is in the file that
+-- it is taken from.
 use Rattle.std.specs.Prelude.{◌≡◌, Bool, true, List, ℕ, length}
 use Rattle.base_settings.specs.declared.Settings.{Settings}
 use Rattle.read_words.specs.FoldOnce.{FoldOnce}

@@ -1,5 +1,5 @@
--- What the contract of `read` promises. It is one of the promises of Promises.antt, in a file of its own: that file names the
--- theorems of functions, which no clause may rest on.
+-- What the contract of `read` promises. It is one of the promises of Promises.antt, in a file of its own: that file
+-- names the theorems of functions, which no clause may rest on.
 use Rattle.std.specs.Prelude.{◌≡◌, List, ℕ}
 use Rattle.base_settings.specs.declared.Settings.{Settings}
 use Rattle.template_nodes.specs.Template.{nodes_by}

@@ -17,7 +17,7 @@ use lib.IntN.{ℤ, pos, negsuc, ◌+ℤ◌, ◌-ℤ◌}
 use lib.Signed.{lt_z, le_z}
 use mir.Syntax.{w32}
 use mir.Val.{SFits}
-use Rattle.base_wrapping.proofs.Small.{sub-pos}
+use Rattle.base_wrapping.proofs.Small.{sub_pos}
 use Rattle.read_integers.specs.Number.{fits32}
 
 -- outside of 32 bits, and within them
@@ -82,7 +82,7 @@ least m f = by (ltb (suc m) 2147483648) refl
 
 -- the largest that can be added to any other
 pub largest : (m : ℕ) → m < 2 ^ 31 → let d = pos 2147483647 -ℤ pos m in Limit (pos m) d (λ b. le_z b d)
-largest m f = rw (sub-pos 2147483647 m (omega arith)) (record { fits = omega arith; tells = tell })
+largest m f = rw (sub_pos 2147483647 m (omega arith)) (record { fits = omega arith; tells = tell })
   where
     tell : (b : ℤ) → SFits w32 b → le_z b (pos (2147483647 - m)) ≡ fits32 (pos m +ℤ b)
     tell (pos n) g = same_test n (2147483647 - m) (m + n) (2 ^ 31) (λ q. omega arith) (λ q. omega arith)

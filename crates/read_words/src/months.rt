@@ -105,13 +105,14 @@ fn same_below(left: u64, x: u64, y: u64) -> bool
     x << left == y << left
 }
 
-// How many bits the letters that are compared leave: a short name has three.
+// How many of 64 bits are not compared: of a short name the first three letters are.
 fn left_in(row: u64, short: bool) -> u64
     ensures { result ≡ (when short then 40 else row / 2 ^ 8) }
 {
     if short { 40 } else { row / 0x100 }
 }
 
+// How many letters the name has.
 fn length_in(row: u64, short: bool) -> usize
     ensures { result ≡ (when short then 3 else row % 16) }
 {

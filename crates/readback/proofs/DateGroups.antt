@@ -7,7 +7,7 @@ use native.Mathlib.Omega.{arith}
 use borrow.Author.Tests.{lt-ltb, ltb-true, ltb-false, ne_eqb}
 use lib.Dec.{ltb, lit<}
 use lib.IntN.{ℤ, pos}
-use Rattle.base_wrapping.proofs.Small.{wrap_pos, sub-pos}
+use Rattle.base_wrapping.proofs.Small.{wrap_pos, sub_pos}
 use Rattle.calendar_gregorian.specs.Gregorian.{day_number, day_of_year, Valid}
 use Rattle.calendar_gregorian.specs.IsoWeek.{iso_monday, iso_week, iso_weekday, iso_year}
 use Rattle.calendar_gregorian.proofs.Dates.{real, first_to_last, length_range}
@@ -41,7 +41,7 @@ weekday monday k h l = by (ltb k 6) refl
           number,
           ne_eqb (k + 2) 0 (λ z. omega arith),
           lt-ltb 1 (k + 2) (omega arith),
-          sub-pos (k + 2) 2 (omega arith),
+          sub_pos (k + 2) 2 (omega arith),
           wrap_pos (k + 2 - 2) (omega arith),
           wrap_pos (monday + (k + 2 - 2)) (omega arith),
         )

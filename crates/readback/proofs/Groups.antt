@@ -20,7 +20,7 @@ use Rattle.write_pieces.specs.Pieces.{micros, piece_of}
 use Rattle.write_pieces.specs.declared.Moment.{Moment}
 use Rattle.readback.proofs.FieldSettings.{expected}
 use Rattle.readback.proofs.Filled.{order_free}
-use Rattle.readback.proofs.Sound.{Sound, a_literal, a_pattern, AllSound, pieces_literal, pieces-pattern}
+use Rattle.readback.proofs.Sound.{Sound, a_literal, a_pattern, AllSound, pieces_literal, pieces_pattern}
 
 -- a property of each of the lists
 abbrev pub AllOf : (List ℕ → Type 0) → List (List ℕ) → Type 0
@@ -110,7 +110,7 @@ pieces_below t (n ∷ ns) i a = by a.0 (λ j. pieces_below t ns j a.1)
   where
     by : Sound t n → ((j : ℕ) → all_from (λ (i p : ℕ). ltb p 18) j (pieces ns) ≡ true) → all_from (λ (i p : ℕ). ltb p 18) i (pieces (n ∷ ns)) ≡ true
     by (a_literal l) ih = rw (pieces_literal t n ns l) (ih i)
-    by (a_pattern k) ih = rw (pieces-pattern t n ns k, lt-ltb (piece_of n.pattern) 18 k.reads.piece) (ih (suc i))
+    by (a_pattern k) ih = rw (pieces_pattern t n ns k, lt-ltb (piece_of n.pattern) 18 k.reads.piece) (ih (suc i))
 
 pub expected_same : (m : Moment) (ps qs : List ℕ) → ((q : ℕ) → times q ps ≡ times q qs) → expected ps m ≡ expected qs m
 unfolding expected

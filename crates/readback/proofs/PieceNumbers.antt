@@ -39,7 +39,7 @@ module _ {y mo d h mi s us : ℕ} (is : IsMoment y mo d h mi s us) where
   unfolding number_of
   number_small =
       let date = is.date in
-      let month_length_lem = length_range y mo date.month_from date.month_to in
+      let length_of_month = length_range y mo date.month_from date.month_to in
       each (λ p. (number_of p now < 10 ^ width_of p) × (number_of p now < 2 ^ 31)) 1 12
       (omega arith, (omega arith, (omega arith, (omega (arith, ordinal_range date), (omega (arith, year_range date), (omega (arith, week_range (real date)), omega arith))))))
 

@@ -35,7 +35,7 @@ use Rattle.readback.proofs.Compatible.{together, absent, unmixed, stored, fits_n
 use Rattle.readback.proofs.Groups.{expected_same}
 use Rattle.readback.proofs.Literals.{Left, left_length, left_past, literal_step}
 use Rattle.readback.proofs.Nodes.{Alike, Literal}
-use Rattle.readback.proofs.Sound.{Pattern, bare, pieces_literal, pieces-pattern}
+use Rattle.readback.proofs.Sound.{Pattern, bare, pieces_literal, pieces_pattern}
 use Rattle.readback.proofs.Spells.{Spells, as_literal, as_pattern, AllSpelled, stops, blank_left}
 use Rattle.readback.proofs.Texts.{SpellsPiece, spelled_written}
 
@@ -120,7 +120,7 @@ module _ (t s : List ℕ) {y mo d h mi sec us : ℕ} (is : IsMoment y mo d h mi 
         let y = piece_of n.pattern in
         let ps = pieces ns in
         let level : e ≡ 0 = ink_ahead x u (spelled_written is p.some w).ink e k in
-        let all_fit : Fits done (y ∷ ps) = λ j. rw (pieces-pattern t n ns p) at (fits j) in
+        let all_fit : Fits done (y ∷ ps) = λ j. rw (pieces_pattern t n ns p) at (fits j) in
         let small = p.reads.piece in
         rw (
           level,

@@ -1,7 +1,7 @@
 -- The nodes of a template that the writer writes, and their text. Assumes nothing.
 -- `Sound`: a node is a literal, or a pattern that is written (`Pattern`). `bare`: a number has no prefix.
 -- `sound_nodes`: all nodes are so, if there is none that the writer does not write.
--- `pieces_literal`, `pieces-pattern`, `literal_text_lem`, `pattern_text`: the pieces from a node on, and its text.
+-- `pieces_literal`, `pieces_pattern`, `literal_text_lem`, `pattern_text`: the pieces from a node on, and its text.
 use mathlib.Core.Path.{◌≡◌, ◌∙◌, refl, sym}
 use mathlib.Core.Bool.{Bool, true, false, not, false≢true}
 use mathlib.Core.List.{List, [], ◌∷◌}
@@ -73,16 +73,16 @@ module _ (t : List ℕ) where
   unfolding first_unwritten
   sound_nodes [] g e = tt
   sound_nodes (n ∷ ns) g e =
-      let is_written_lem = written n (first_unwritten ns) g.0 e in
-      (sound n is_written_lem.0 g.0, sound_nodes ns g.1 is_written_lem.1)
+      let node_written = written n (first_unwritten ns) g.0 e in
+      (sound n node_written.0 g.0, sound_nodes ns g.1 node_written.1)
 
   pub pieces_literal : (n : Node) (ns : List Node) → Literal t n → pieces (n ∷ ns) ≡ pieces ns
   unfolding pieces
   pieces_literal n ns l = rw l.no_action
 
-  pub pieces-pattern : (n : Node) (ns : List Node) → Pattern n → pieces (n ∷ ns) ≡ piece_of n.pattern ∷ pieces ns
+  pub pieces_pattern : (n : Node) (ns : List Node) → Pattern n → pieces (n ∷ ns) ≡ piece_of n.pattern ∷ pieces ns
   unfolding pieces
-  pieces-pattern n ns k = rw (eq-eqb n.kind action k.is_action)
+  pieces_pattern n ns k = rw (eq-eqb n.kind action k.is_action)
 
   module _ (m : Moment) where
     pub literal_text_lem : (n : Node) → Literal t n → (node_text t m n ≡ literal_text t n)

@@ -35,7 +35,7 @@ use Rattle.readback.proofs.Ahead.{Ahead, ink_ahead, ink_some, ahead_all}
 use Rattle.readback.proofs.Known.{excess}
 use Rattle.readback.proofs.MomentFacts.{IsMoment}
 use Rattle.readback.proofs.Nodes.{Alike, Literal, lengths, one_byte}
-use Rattle.readback.proofs.Sound.{Pattern, Sound, a_literal, a_pattern, AllSound, pieces_literal, pieces-pattern, literal_text_lem, pattern_text}
+use Rattle.readback.proofs.Sound.{Pattern, Sound, a_literal, a_pattern, AllSound, pieces_literal, pieces_pattern, literal_text_lem, pattern_text}
 use Rattle.readback.proofs.Texts.{SpellsPiece, piece_spelled, spelled_written, spelled_size, spelled_stops}
 
 -- x spells the node n at the moment m
@@ -117,7 +117,7 @@ module _ (t : List ℕ) {y mo d h mi sec us : ℕ} (is : IsMoment y mo d h mi se
       by (as_literal l c) h = rw (pieces_literal t n ns l, c.is) (omega (arith, c.size))
       by (as_pattern k w) h =
           let p = piece_of n.pattern in
-          rw (pieces-pattern t n ns k, k.affix) (omega (arith, spelled_size is w, k.reads.size, k.size, excesses p (pieces ns)))
+          rw (pieces_pattern t n ns k, k.affix) (omega (arith, spelled_size is w, k.reads.size, k.size, excesses p (pieces ns)))
 
   pub stops : (n : Node) → n.suffix ≡ 0 → (ns : List Node) (u : List ℕ) → AllSpelled t now ns u → is_free t n (head_of ns) ≡ true → digits u ≡ 0
   unfolding leading ends_number

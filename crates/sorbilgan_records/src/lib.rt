@@ -101,15 +101,15 @@ pub fn put_parts(answer: Answer, out: &mut [i64; 15]) -> u8
     }
 }
 
-// The moment that any fields make. It has a function of its own so that plain fields save no registers for it.
+// The moment that any fields make. It is a function of its own, so that a call with plain fields saves no registers.
 fn put_made(strict: bool, f: &[i32; 24], out: &mut [i64; 15]) -> u8
     ensures { Recorded (parts_record (moment_of strict (fields_of f.now))) out.new result }
 {
     put_parts(moment_parts::moment_of(strict, Fields { values: *f }), out)
 }
 
-// The moment that fields make. Plain fields need no answer in between. The store before them has them read once more,
-// which is cheaper than to keep them all from the test on.
+// The moment that fields make. Plain fields need no answer in between. After the store to `out[0]` they are read again,
+// which costs less than keeping them all since the test.
 fn put_fields(strict: bool, f: &[i32; 24], out: &mut [i64; 15]) -> u8
     ensures { Recorded (parts_record (moment_of strict (fields_of f.now))) out.new result }
 {

@@ -22,8 +22,8 @@ loop-again c =
     let s = at_loop.args.s.now in
     omega (arith, at_loop.loop-i.invariant, marks_on s at_loop.loop-i.i (sym c.is_mark.ensures ∙ c.if-is_mark.true))
 
-add-i : tie.Need-overflow_add-i invariant-loop decreases-loop
-add-i c =
+overflow_add-i : tie.Need-overflow_add-i invariant-loop decreases-loop
+overflow_add-i c =
     let at_loop = c.before.before.before in
     let s = at_loop.args.s.now in
     omega (arith, mark_there s at_loop.loop-i.i (sym c.is_mark.ensures ∙ c.if-is_mark.true))
@@ -53,7 +53,7 @@ past_marks_spec =
     decreases-loop
     (λ c. refl)
     (λ c κs. search rules)
-    add-i
+    overflow_add-i
     loop-less
     loop-again
     returns

@@ -7,8 +7,8 @@ use Rattle.base_chars.proofs.after_last.Statement.{statement}
 use Rattle.base_chars.proofs.after_last.Tie as tie
 
 -- at most eight bytes are passed
-add-result : tie.Need-overflow_add-result
-add-result c = let start = c.before.before.before.before.before in omega (arith, start.well_formed.0.1)
+overflow_add-result : tie.Need-overflow_add-result
+overflow_add-result c = let start = c.before.before.before.before.before in omega (arith, start.well_formed.0.1)
 
 -- the last eight bytes
 returns-3 : tie.Need-returns
@@ -31,5 +31,5 @@ after_last_spec =
     (λ c. search rules)
     (λ c. search rules)
     (λ c κs. search rules)
-    add-result
+    overflow_add-result
     returns-3)

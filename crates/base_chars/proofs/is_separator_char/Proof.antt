@@ -19,13 +19,13 @@ returns-2 c = rw (separator_test, above (33 ‥ 126) c.args.b (omega arith))
 returns-3 : tie.Need-returns-then-not-is_alpha_c
 returns-3 c =
     let b = c.args.b in
-    let no_letter_lem = c.before in
+    let no_letter = c.before in
     rw (
       separator_test,
       inside (33 ‥ 126) b (omega arith) (omega arith),
-      ← no_letter_lem.is_alpha_c.ensures,
+      ← no_letter.is_alpha_c.ensures,
       ← c.is_digit_c.ensures,
-      no_letter_lem.if-not-is_alpha_c.true,
+      no_letter.if-not-is_alpha_c.true,
     )
 
 -- a letter

@@ -31,8 +31,8 @@ returns : tie.Need-returns-then-run-first
 returns c = missing _ _ _ _ _ _ (pieces c.before.before) c.if-run-first.true
 
 -- the number is within the limit of its sign
-signed-of-requires : tie.Need-signed_of-requires
-signed-of-requires c κs = within _ _ _ _ _ _ (pieces c.before.before)
+signed_of-requires : tie.Need-signed_of-requires
+signed_of-requires c κs = within _ _ _ _ _ _ (pieces c.before.before)
 
 -- digits: their number with its sign
 returns-2 : tie.Need-returns
@@ -49,5 +49,5 @@ c_strtol_spec =
     (λ c κs. search rules)
     (λ c κs. search rules)
     returns
-    signed-of-requires
+    signed_of-requires
     returns-2)

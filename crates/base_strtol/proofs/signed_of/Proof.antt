@@ -13,8 +13,8 @@ returns : tie.Need-returns-then-n-eq0
 returns c = rw (c.if-neg.true, c.if-n-eq0.true)
 
 -- n - 1 is an i64
-cast-result : tie.Need-overflow_cast-result
-cast-result c = record { sfits = omega (arith, rw c.if-neg.true at c.requires) }
+overflow_cast-result : tie.Need-overflow_cast-result
+overflow_cast-result c = record { sfits = omega (arith, rw c.if-neg.true at c.requires) }
 
 -- a minus sign, and not 0
 module _ (c : tie.Else-n-eq0) where
@@ -25,8 +25,8 @@ module _ (c : tie.Else-n-eq0) where
   room = rw c.if-neg.true at c.requires
 
 -- so is -1 - (n - 1)
-sub-result-2 : tie.Need-overflow_sub-result-then-neg
-sub-result-2 c = rw (negated _ (some c) (room c)) (negated_fits _ (some c) (room c))
+overflow_sub-result-then-neg : tie.Need-overflow_sub-result-then-neg
+overflow_sub-result-then-neg c = rw (negated _ (some c) (room c)) (negated_fits _ (some c) (room c))
 
 -- a minus sign, and not 0
 returns-2 : tie.Need-returns-then-neg
@@ -34,8 +34,8 @@ returns-2 c =
     rw (negated _ (some c) (room c), to_z-of_z (negated_fits _ (some c) (room c)), c.if-neg.true)
 
 -- n is an i64 where there is no minus sign
-cast-result-2 : tie.Need-overflow_cast-result-2
-cast-result-2 c = record { sfits = omega (arith, rw c.if-neg.false at c.requires) }
+overflow_cast-result-2 : tie.Need-overflow_cast-result-2
+overflow_cast-result-2 c = record { sfits = omega (arith, rw c.if-neg.false at c.requires) }
 
 -- no minus sign
 returns-3 : tie.Need-returns
@@ -44,4 +44,4 @@ returns-3 c = rw c.if-neg.false (to_z_pos w64 (omega (arith, rw c.if-neg.false a
 pub signed_of_spec : {M : Type 1} → statement M
 signed_of_spec =
     tie.close
-    (tie.spec returns (λ c. search rules) cast-result sub-result-2 returns-2 cast-result-2 returns-3)
+    (tie.spec returns (λ c. search rules) overflow_cast-result overflow_sub-result-then-neg returns-2 overflow_cast-result-2 returns-3)

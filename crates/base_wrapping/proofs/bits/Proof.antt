@@ -4,8 +4,8 @@ use mir.Facts.{sfits_widen}
 use Rattle.base_wrapping.proofs.bits.Statement.{statement}
 use Rattle.base_wrapping.proofs.bits.Tie as tie
 
-cast-low-bits : tie.Need-overflow_cast-x
-cast-low-bits c = simp (to_z-of_z c.ranges.x) (sfits_widen tt c.ranges.x)
+overflow_cast-x : tie.Need-overflow_cast-x
+overflow_cast-x c = simp (to_z-of_z c.ranges.x) (sfits_widen tt c.ranges.x)
 
 returns : tie.Need-returns
 returns c =
@@ -13,4 +13,4 @@ returns c =
     simp (to_z-of_z x_Fits, to_z-of_z (sfits_widen {w = w32} {w' = w64} tt x_Fits)) at c.low_bits.ensures
 
 pub bits_spec : {M : Type 1} → statement M
-bits_spec = tie.close (tie.spec cast-low-bits (λ c κs. search rules) returns)
+bits_spec = tie.close (tie.spec overflow_cast-x (λ c κs. search rules) returns)

@@ -6,8 +6,8 @@ use Rattle.base_wrapping.proofs.signed.Statement.{statement}
 use Rattle.base_wrapping.proofs.signed.Tie as tie
 
 -- that number is an i32
-sub-result-2 : tie.Need-overflow_sub-result-else-u-lt2147483648
-sub-result-2 c = rw (upper c.args.u c.ranges.u (omega arith)) (sfits_to_z c.ranges.u)
+overflow_sub-result-else-u-lt2147483648 : tie.Need-overflow_sub-result-else-u-lt2147483648
+overflow_sub-result-else-u-lt2147483648 c = rw (upper c.args.u c.ranges.u (omega arith)) (sfits_to_z c.ranges.u)
 
 -- the highest bit is set: a negative number
 returns-2 : tie.Need-returns-else-u-lt2147483648
@@ -16,4 +16,4 @@ returns-2 c = rw (upper c.args.u c.ranges.u (omega arith)) (to_z-of_z (sfits_to_
 pub signed_spec : {M : Type 1} → statement M
 signed_spec =
     tie.close
-    (tie.spec (λ c. search rules) (λ c. search rules) (λ c. search rules) sub-result-2 (λ c. search rules) returns-2)
+    (tie.spec (λ c. search rules) (λ c. search rules) (λ c. search rules) overflow_sub-result-else-u-lt2147483648 (λ c. search rules) returns-2)

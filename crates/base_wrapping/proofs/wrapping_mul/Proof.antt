@@ -8,8 +8,8 @@ use Rattle.base_wrapping.proofs.wrapping_mul.Statement.{statement}
 use Rattle.base_wrapping.proofs.wrapping_mul.Tie as tie
 
 -- the product of the bits is within 64 bits
-mul-signed : tie.Need-overflow_mul-bits
-mul-signed c =
+overflow_mul-bits : tie.Need-overflow_mul-bits
+overflow_mul-bits c =
     let bits_a_small : c.bits.result ≤ 4294967295 = omega arith in
     let bits_b_small : c.bits-2.result ≤ 4294967295 = omega arith in
     omega (arith, mul-le-mul bits_a_small bits_b_small)
@@ -36,7 +36,7 @@ wrapping_mul_spec =
     (λ c. search rules)
     (λ c κs. search rules)
     (λ c. search rules)
-    mul-signed
+    overflow_mul-bits
     (λ c. search rules)
     (λ c κs. search rules)
     returns)

@@ -18,8 +18,8 @@ decreases-loop leap month n row days₀ i₀ days i = n - i
 loop-holds : tie.Need-loop-i-init invariant-loop decreases-loop
 loop-holds c = (search rules, record { is = refl; le = search rules })
 
-add-days : tie.Need-overflow_add-days invariant-loop decreases-loop
-add-days c = (add_read _ _ refl c.loop-i.invariant.1 (search rules)).fits
+overflow_add-days : tie.Need-overflow_add-days invariant-loop decreases-loop
+overflow_add-days c = (add_read _ _ refl c.loop-i.invariant.1 (search rules)).fits
 
 loop-again : tie.Need-loop-i-preserved invariant-loop decreases-loop
 loop-again c = (search rules, (add_read _ _ refl c.loop-i.invariant.1 (search rules)).passed)
@@ -43,7 +43,7 @@ days_before_spec =
     loop-holds
     (λ c. search rules)
     (λ c. search rules)
-    add-days
+    overflow_add-days
     (λ c. search rules)
     (λ c. search rules)
     loop-again

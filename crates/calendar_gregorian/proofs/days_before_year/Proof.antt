@@ -11,8 +11,8 @@ use Rattle.calendar_gregorian.proofs.days_before_year.Statement.{statement}
 use Rattle.calendar_gregorian.proofs.days_before_year.Tie as tie
 
 -- the shifted year is not negative, so it is a u64
-cast-y-2 : tie.Need-overflow_cast-y-2
-cast-y-2 c = let year = shifted c.ranges.year in (year.sign, omega arith)
+overflow_cast-y-2 : tie.Need-overflow_cast-y-2
+overflow_cast-y-2 c = let year = shifted c.ranges.year in (year.sign, omega arith)
 
 returns : tie.Need-returns
 returns c = sym (ap before_year (shifted c.ranges.year).is ∙ closed _)
@@ -23,7 +23,7 @@ days_before_year_spec =
     (tie.spec
     (λ c. wide_fits c.ranges.year)
     (λ c. shift_fits c.ranges.year)
-    cast-y-2
+    overflow_cast-y-2
     (λ c. omega (arith, shifted c.ranges.year))
     (λ c. omega (arith, shifted c.ranges.year))
     (λ c. omega (arith, shifted c.ranges.year))

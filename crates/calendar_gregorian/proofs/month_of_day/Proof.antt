@@ -26,8 +26,8 @@ decreases-loop leap day row end₀ i₀ end i = 12 - i
 loop-holds : tie.Need-loop-i-init invariant-loop decreases-loop
 loop-holds c = (search rules, record { is = refl; le = search rules }, starts c.args.leap _)
 
-add-end : tie.Need-overflow_add-end invariant-loop decreases-loop
-add-end c = (add_read _ _ refl c.loop-i.invariant.1 (search rules)).fits
+overflow_add-end : tie.Need-overflow_add-end invariant-loop decreases-loop
+overflow_add-end c = (add_read _ _ refl c.loop-i.invariant.1 (search rules)).fits
 
 -- the day is not past the end of month i + 1
 returns : tie.Need-returns-then-day-end invariant-loop decreases-loop
@@ -69,7 +69,7 @@ month_of_day_spec =
     loop-holds
     (λ c. search rules)
     (λ c. search rules)
-    add-end
+    overflow_add-end
     (λ c. search rules)
     (λ c. search rules)
     returns

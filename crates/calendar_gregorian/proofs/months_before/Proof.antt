@@ -14,11 +14,11 @@ returns-2 : tie.Need-returns-then-month-gt12
 returns-2 c = omega (arith, above c.ranges.month c.if-month-gt12.true)
 
 -- the month is positive, so it is a usize
-cast-result : tie.Need-overflow_cast-result
-cast-result c = unsigned c.ranges.month c.if-month-lt1.false
+overflow_cast-result : tie.Need-overflow_cast-result
+overflow_cast-result c = unsigned c.ranges.month c.if-month-lt1.false
 
-sub-result : tie.Need-overflow_sub-result
-sub-result c = (from c.ranges.month c.if-month-lt1.false).from
+overflow_sub-result : tie.Need-overflow_sub-result
+overflow_sub-result c = (from c.ranges.month c.if-month-lt1.false).from
 
 -- one of the twelve: one less than its number
 returns-3 : tie.Need-returns
@@ -27,4 +27,4 @@ returns-3 c =
     omega (arith, from month_fits c.if-month-lt1.false, not_above month_fits c.if-month-gt12.false)
 
 pub months_before_spec : {M : Type 1} → statement M
-months_before_spec = tie.close (tie.spec returns returns-2 cast-result sub-result returns-3)
+months_before_spec = tie.close (tie.spec returns returns-2 overflow_cast-result overflow_sub-result returns-3)

@@ -7,14 +7,14 @@ use Rattle.calendar_gregorian.proofs.Leap.{divides, remainder}
 use Rattle.calendar_gregorian.proofs.pg_is_leap.Statement.{statement}
 use Rattle.calendar_gregorian.proofs.pg_is_leap.Tie as tie
 
-rem-if1 : tie.Need-nonzero_rem-y
-rem-if1 c = divides c.ranges.y _ (lit< tt)
+nonzero_rem-y : tie.Need-nonzero_rem-y
+nonzero_rem-y c = divides c.ranges.y _ (lit< tt)
 
-rem-if2 : tie.Need-nonzero_rem-y-then-y-eq0
-rem-if2 c = divides c.ranges.y _ (lit< tt)
+nonzero_rem-y-then-y-eq0 : tie.Need-nonzero_rem-y-then-y-eq0
+nonzero_rem-y-then-y-eq0 c = divides c.ranges.y _ (lit< tt)
 
-rem-result : tie.Need-nonzero_rem-result
-rem-result c = divides c.ranges.y _ (lit< tt)
+nonzero_rem-result : tie.Need-nonzero_rem-result
+nonzero_rem-result c = divides c.ranges.y _ (lit< tt)
 
 -- a multiple of 4 and not of 100
 returns : tie.Need-returns-then-y-ne0
@@ -40,4 +40,4 @@ returns-3 c =
     rw (remainder year_fits, not_by_four)
 
 pub pg_is_leap_spec : {M : Type 1} → statement M
-pg_is_leap_spec = tie.close (tie.spec rem-if1 rem-if2 rem-result returns returns-2 returns-3)
+pg_is_leap_spec = tie.close (tie.spec nonzero_rem-y nonzero_rem-y-then-y-eq0 nonzero_rem-result returns returns-2 returns-3)

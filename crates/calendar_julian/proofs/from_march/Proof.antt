@@ -7,25 +7,25 @@ use Rattle.calendar_julian.proofs.from_march.Statement.{statement}
 use Rattle.calendar_julian.proofs.from_march.Tie as tie
 
 -- the centuries fit
-div-century : tie.Need-nonzero_div-century
-div-century c = (lit< tt, rw (to_z-of_z c.ranges.year) (quot_fits _ 100 c.ranges.year))
+nonzero_div-century : tie.Need-nonzero_div-century
+nonzero_div-century c = (lit< tt, rw (to_z-of_z c.ranges.year) (quot_fits _ 100 c.ranges.year))
 
 -- a fourth of the years fits
-div-wrapping-add : tie.Need-nonzero_div-year
-div-wrapping-add c =
+nonzero_div-year : tie.Need-nonzero_div-year
+nonzero_div-year c =
     let year_fits = c.ranges.year in
     (lit< tt, rw (to_z-of_z year_fits) (quot_fits _ 4 year_fits))
 
 -- a fourth of the centuries fits
-div-wrapping-add-2 : tie.Need-nonzero_div-century-2
-div-wrapping-add-2 c =
+nonzero_div-century-2 : tie.Need-nonzero_div-century-2
+nonzero_div-century-2 c =
     let year_fits = c.ranges.year in
     let century_fits = quot_fits _ 100 year_fits in
     (lit< tt, simp (to_z-of_z year_fits, to_z-of_z century_fits) (quot_fits _ 4 century_fits))
 
 -- the days of the months fit
-div-wrapping-add-3 : tie.Need-nonzero_div-wrapping_mul
-div-wrapping-add-3 c = (lit< tt, simp (c.wrapping_mul-2.ensures, wrap_back) (quot_fits _ 256 (wrap_fits _)))
+nonzero_div-wrapping_mul : tie.Need-nonzero_div-wrapping_mul
+nonzero_div-wrapping_mul c = (lit< tt, simp (c.wrapping_mul-2.ensures, wrap_back) (quot_fits _ 256 (wrap_fits _)))
 
 returns : tie.Need-returns
 unfolding from_march
@@ -62,16 +62,16 @@ pub from_march_spec : {M : Type 1} → statement M
 from_march_spec =
     tie.close
     (tie.spec
-    div-century
+    nonzero_div-century
     (λ c κs. search rules)
     (λ c κs. search rules)
-    div-wrapping-add
+    nonzero_div-year
     (λ c κs. search rules)
     (λ c κs. search rules)
-    div-wrapping-add-2
+    nonzero_div-century-2
     (λ c κs. search rules)
     (λ c κs. search rules)
-    div-wrapping-add-3
+    nonzero_div-wrapping_mul
     (λ c κs. search rules)
     (λ c κs. search rules)
     returns)

@@ -11,8 +11,8 @@ day_lt : (c : tie.After-day_from_march-day) → c.day_from_march-day.result < 48
 day_lt c = rw c.day_from_march-day.ensures (march_lt (day_of_four c.with_skipped-days.result))
 
 -- the year less 4800 fits
-sub-t12 : tie.Need-overflow_sub-result
-sub-t12 c =
+overflow_sub-result : tie.Need-overflow_sub-result
+overflow_sub-result c =
     let n = c.with_skipped-days.result in
     rw (year_is n (omega arith)) (year_fits n (omega arith))
 
@@ -46,7 +46,7 @@ pg_j2date_spec =
     (λ c κs. search rules)
     (λ c. omega (arith, day_lt c))
     (λ c. search rules)
-    sub-t12
+    overflow_sub-result
     (λ c. search rules)
     (λ c. search rules)
     (λ c. search rules)

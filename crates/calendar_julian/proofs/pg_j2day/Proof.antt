@@ -6,11 +6,11 @@ use Rattle.calendar_julian.proofs.Sevens.{rem_back, up_back, up_fits}
 use Rattle.calendar_julian.proofs.pg_j2day.Statement.{statement}
 use Rattle.calendar_julian.proofs.pg_j2day.Tie as tie
 
-rem-day : tie.Need-nonzero_rem-day
-rem-day c = (lit< tt, simp (c.wrapping_add-day.ensures, wrap_back) (quot_fits _ 7 (wrap_fits _)))
+nonzero_rem-day : tie.Need-nonzero_rem-day
+nonzero_rem-day c = (lit< tt, simp (c.wrapping_add-day.ensures, wrap_back) (quot_fits _ 7 (wrap_fits _)))
 
-add-result : tie.Need-overflow_add-result
-add-result c = simp rem_back (up_fits (read c.wrapping_add-day.result))
+overflow_add-result : tie.Need-overflow_add-result
+overflow_add-result c = simp rem_back (up_fits (read c.wrapping_add-day.result))
 
 -- the remainder is negative: 7 is added
 returns : tie.Need-returns-then-day-lt0
@@ -27,4 +27,4 @@ returns-2 c =
     simp (simp (rem_back, next_day, wrap_back) at c.if-day-lt0.false, rem_back, next_day, wrap_back)
 
 pub pg_j2day_spec : {M : Type 1} → statement M
-pg_j2day_spec = tie.close (tie.spec (λ c κs. search rules) rem-day add-result returns returns-2)
+pg_j2day_spec = tie.close (tie.spec (λ c κs. search rules) nonzero_rem-day overflow_add-result returns returns-2)

@@ -6,11 +6,11 @@ use Rattle.calendar_julian.proofs.Sevens.{week_fits}
 use Rattle.calendar_julian.proofs.week_of.Statement.{statement}
 use Rattle.calendar_julian.proofs.week_of.Tie as tie
 
-div-result : tie.Need-nonzero_div-result
-div-result c = (lit< tt, simp (c.wrapping_sub.ensures, wrap_back) (quot_fits _ 7 (wrap_fits _)))
+nonzero_div-result : tie.Need-nonzero_div-result
+nonzero_div-result c = (lit< tt, simp (c.wrapping_sub.ensures, wrap_back) (quot_fits _ 7 (wrap_fits _)))
 
-add-result : tie.Need-overflow_add-result
-add-result c = simp (c.wrapping_sub.ensures, wrap_back, quot_back) (week_fits _)
+overflow_add-result : tie.Need-overflow_add-result
+overflow_add-result c = simp (c.wrapping_sub.ensures, wrap_back, quot_back) (week_fits _)
 
 returns : tie.Need-returns
 unfolding week_of
@@ -27,4 +27,4 @@ returns c =
     (to_z-of_z (week_fits _))
 
 pub week_of_spec : {M : Type 1} → statement M
-week_of_spec = tie.close (tie.spec (λ c κs. search rules) (λ c κs. search rules) div-result add-result returns)
+week_of_spec = tie.close (tie.spec (λ c κs. search rules) (λ c κs. search rules) nonzero_div-result overflow_add-result returns)

@@ -9,8 +9,8 @@ use Rattle.line_answers.proofs.answer.Statement.{statement}
 use Rattle.line_answers.proofs.answer.Tie as tie
 
 -- no more bytes than the line has
-part-answer-whole-end : tie.Need-slice_bounds-answer_whole-end
-part-answer-whole-end c =
+slice_bounds-answer_whole-end : tie.Need-slice_bounds-answer_whole-end
+slice_bounds-answer_whole-end c =
     let args = c.args in
     omega (arith, c.counted-len.ensures, counted_within args.mode args.line.now)
 
@@ -31,7 +31,7 @@ answer_spec =
     (λ c κs. search rules)
     (λ c. search rules)
     (λ c. search rules)
-    part-answer-whole-end
+    slice_bounds-answer_whole-end
     (λ c κs. search rules)
     (λ c. search rules)
     returns)

@@ -12,8 +12,8 @@ use Rattle.line_questions.proofs.place_of.Statement.{statement}
 use Rattle.line_questions.proofs.place_of.Tie as tie
 
 -- the number can be cast
-cast-t5 : tie.Need-overflow_cast-result
-cast-t5 c =
+overflow_cast-result : tie.Need-overflow_cast-result
+overflow_cast-result c =
     let fits = c.ranges.n in
     let n_is = to_z-of_z fits in
     simp n_is (placed 0 0 c.args.n fits (rw (← n_is) (search rules))).0
@@ -36,5 +36,5 @@ place_of_spec =
     let n_is = to_z-of_z at_test.ranges.n in
     let below : lt_z (to_z w64 (of_z w64 at_test.args.n)) (pos 0) ≡ true = search rules in
     c.no_place.ensures ∙ sym (below_0 _ _ _ (simp n_is at below)))
-    cast-t5
+    overflow_cast-result
     returns-2)

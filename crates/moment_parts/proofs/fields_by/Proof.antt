@@ -19,8 +19,8 @@ returns-2 c =
     input_bad _ _ _ _ (sym c.is_utf8.ensures ∙ c.if-not-is_utf8.true) ∙ input_within _ _ _ _ (omega arith)
 
 -- within it an input has at most 512 bytes
-fields-within-requires : tie.Need-fields_within-requires
-fields-within-requires c κs =
+fields_within-requires : tie.Need-fields_within-requires
+fields_within-requires c κs =
     let at_start = c.before.before.before.before.before.before.before.before in
     (omega (arith, input_most at_start.args.set), at_start.requires)
 
@@ -33,4 +33,4 @@ returns-3 c =
     ∙ input_within _ _ _ _ (omega arith)
 
 pub fields_by_spec : {M : Type 1} → statement M
-fields_by_spec = tie.close (tie.spec (λ c κs. search rules) returns (λ c κs. search rules) returns-2 fields-within-requires returns-3)
+fields_by_spec = tie.close (tie.spec (λ c κs. search rules) returns (λ c κs. search rules) returns-2 fields_within-requires returns-3)

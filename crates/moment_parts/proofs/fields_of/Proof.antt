@@ -39,17 +39,17 @@ returns-3 c =
     (sym c.are_utf8.ensures ∙ c.if-not-are_utf8.true))
 
 -- within their limits a template has at most 256 bytes and an input at most 512
-parse-format-requires : tie.Need-parse_format-end-requires
-parse-format-requires c κs =
+parse_format-end-requires : tie.Need-parse_format-end-requires
+parse_format-end-requires c κs =
     let within_limit = c.before.before.before.before.before in
     (omega (arith, short within_limit, template_most (start within_limit).args.set), omega arith)
 
 -- the slice of the buffer is as long as the bytes of the nodes
-slice-aggregate-fields-within : tie.Need-slice_bounds-fields_within-end
-slice-aggregate-fields-within c = sym (length-take-le _ _ (parsed_room c.parse_format-end.ensures))
+slice_bounds-fields_within-end : tie.Need-slice_bounds-fields_within-end
+slice_bounds-fields_within-end c = sym (length-take-le _ _ (parsed_room c.parse_format-end.ensures))
 
-fields-within-requires : tie.Need-fields_within-requires
-fields-within-requires c κs =
+fields_within-requires : tie.Need-fields_within-requires
+fields_within-requires c κs =
     let at_start = start c.before.before.before.before.before.before.before.before.before in
     let small : length at_start.args.s.now ≤ input_limit at_start.args.set = omega arith in
     (omega (arith, input_most at_start.args.set), at_start.requires)
@@ -79,9 +79,9 @@ fields_of_spec =
     (λ c κs. search rules)
     returns-3
     (λ c. search rules)
-    parse-format-requires
+    parse_format-end-requires
     (λ c. search rules)
     (λ c. search rules)
-    slice-aggregate-fields-within
-    fields-within-requires
+    slice_bounds-fields_within-end
+    fields_within-requires
     returns-4)

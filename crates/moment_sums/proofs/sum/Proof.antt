@@ -37,8 +37,8 @@ returns c =
     rw (limit.refused (simp (to_z-of_z args_fit.a, to_z-of_z args_fit.b, to_z-of_z limit.limit_fits) at c.if-a-b.true))
 
 -- a is not: the sum fits
-add-lower : (c : tie.Else-a-b) → SFits w32 (c.args.a +ℤ c.args.b)
-add-lower c =
+add_lower : (c : tie.Else-a-b) → SFits w32 (c.args.a +ℤ c.args.b)
+add_lower c =
     let args_fit = c.ranges in
     let limit = lower c.before in
     limit.taken (simp (to_z-of_z args_fit.a, to_z-of_z args_fit.b, to_z-of_z limit.limit_fits) at c.if-a-b.false)
@@ -51,8 +51,8 @@ returns-3 c =
     rw (limit.refused (simp (to_z-of_z args_fit.a, to_z-of_z args_fit.b, to_z-of_z limit.limit_fits) at c.if-a-b-2.true))
 
 -- a is not: the sum fits
-add-upper : (c : tie.Else-a-b-2) → SFits w32 (c.args.a +ℤ c.args.b)
-add-upper c =
+add_upper : (c : tie.Else-a-b-2) → SFits w32 (c.args.a +ℤ c.args.b)
+add_upper c =
     let args_fit = c.ranges in
     let limit = upper c.before in
     limit.taken (simp (to_z-of_z args_fit.a, to_z-of_z args_fit.b, to_z-of_z limit.limit_fits) at c.if-a-b-2.false)
@@ -63,9 +63,9 @@ sum_spec =
     (tie.spec
     (λ c. rw (to_z-of_z c.ranges.b) (lower c).limit_fits)
     returns
-    (λ c. let args_fit = c.ranges in rw (to_z-of_z args_fit.a, to_z-of_z args_fit.b) (add-lower c))
-    (λ c. let args_fit = c.ranges in rw (to_z-of_z args_fit.a, to_z-of_z args_fit.b, to_z-of_z (add-lower c), fits (add-lower c)))
+    (λ c. let args_fit = c.ranges in rw (to_z-of_z args_fit.a, to_z-of_z args_fit.b) (add_lower c))
+    (λ c. let args_fit = c.ranges in rw (to_z-of_z args_fit.a, to_z-of_z args_fit.b, to_z-of_z (add_lower c), fits (add_lower c)))
     (λ c. rw (to_z-of_z c.ranges.b) (upper c).limit_fits)
     returns-3
-    (λ c. let args_fit = c.ranges in rw (to_z-of_z args_fit.a, to_z-of_z args_fit.b) (add-upper c))
-    (λ c. let args_fit = c.ranges in rw (to_z-of_z args_fit.a, to_z-of_z args_fit.b, to_z-of_z (add-upper c), fits (add-upper c))))
+    (λ c. let args_fit = c.ranges in rw (to_z-of_z args_fit.a, to_z-of_z args_fit.b) (add_upper c))
+    (λ c. let args_fit = c.ranges in rw (to_z-of_z args_fit.a, to_z-of_z args_fit.b, to_z-of_z (add_upper c), fits (add_upper c))))

@@ -10,8 +10,8 @@ returns : tie.Need-returns-then-value-lt0
 returns c = let fits = c.ranges.value in rw (simp (to_z-of_z fits) at c.if-value-lt0.true)
 
 -- it is not, so it can be cast
-cast-result : tie.Need-overflow_cast-result
-cast-result c =
+overflow_cast-result : tie.Need-overflow_cast-result
+overflow_cast-result c =
     let fits = c.ranges.value in
     simp (to_z-of_z fits) ((unsigned c.args.value 0 (simp (to_z-of_z fits) at c.if-value-lt0.false)).0, Fits-nat_abs tt fits)
 
@@ -23,4 +23,4 @@ returns-2 c =
     simp (to_z-of_z fits) (unsigned args.value args.limit (simp (to_z-of_z fits) at c.if-value-lt0.false)).1
 
 pub below_spec : {M : Type 1} → statement M
-below_spec = tie.close (tie.spec returns cast-result returns-2)
+below_spec = tie.close (tie.spec returns overflow_cast-result returns-2)

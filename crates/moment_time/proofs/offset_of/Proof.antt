@@ -109,20 +109,20 @@ returns-4 c =
     )
 
 -- each product and sum fits, in the order of the code
-mul-whole-hours : tie.Need-overflow_mul-whole_hours
-mul-whole-hours c = simp (has (start c)).back (hours_fit (hours c) (minutes c))
+overflow_mul-whole_hours : tie.Need-overflow_mul-whole_hours
+overflow_mul-whole_hours c = simp (has (start c)).back (hours_fit (hours c) (minutes c))
 
-add-joined : tie.Need-overflow_add-joined
-add-joined c = simp ((has (start c)).back, hours_back c) (minutes_fit (hours c) (minutes c))
+overflow_add-joined : tie.Need-overflow_add-joined
+overflow_add-joined c = simp ((has (start c)).back, hours_back c) (minutes_fit (hours c) (minutes c))
 
-sub-negated : tie.Need-overflow_sub-result
-sub-negated c =
+overflow_sub-result : tie.Need-overflow_sub-result
+overflow_sub-result c =
     let in_range = c.before in
     simp ((has (start in_range)).back, hours_back in_range, joined_back in_range, +ℤ_idl)
     (neg_minutes_fit (hours in_range) (minutes in_range))
 
-mul-negated : tie.Need-overflow_mul-result
-mul-negated c =
+overflow_mul-result : tie.Need-overflow_mul-result
+overflow_mul-result c =
     let in_range = c.before in
     simp (
       (has (start in_range)).back,
@@ -134,8 +134,8 @@ mul-negated c =
     )
     (neg_seconds_fit (hours in_range) (minutes in_range))
 
-mul-joined : tie.Need-overflow_mul-result-2
-mul-joined c =
+overflow_mul-result-2 : tie.Need-overflow_mul-result-2
+overflow_mul-result-2 c =
     let in_range = c.before in
     simp ((has (start in_range)).back, hours_back in_range, joined_back in_range) (seconds_fit (hours in_range) (minutes in_range))
 
@@ -149,10 +149,10 @@ offset_of_spec =
     (λ c. search rules)
     (λ c κs. search rules)
     returns-2
-    mul-whole-hours
-    add-joined
-    sub-negated
-    mul-negated
+    overflow_mul-whole_hours
+    overflow_add-joined
+    overflow_sub-result
+    overflow_mul-result
     returns-3
-    mul-joined
+    overflow_mul-result-2
     returns-4)

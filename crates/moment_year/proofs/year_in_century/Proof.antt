@@ -111,8 +111,8 @@ returns-4 c =
     )
 
 -- the digits with the other sign fit
-sub-checked-add : tie.Need-overflow_sub-y
-sub-checked-add c =
+overflow_sub-y : tie.Need-overflow_sub-y
+overflow_sub-y c =
     let at_start = c.before.before.before.before in
     simp (to_z-of_z at_start.ranges.year, to_z-of_z (digits at_start), +ℤ_idl)
     (neg_rem_fits at_start.args.year 100 (lit< tt) (lit< tt))
@@ -129,7 +129,7 @@ year_in_century_spec =
     returns-2
     (λ c κs. search rules)
     (λ c κs. search rules)
-    sub-checked-add
+    overflow_sub-y
     (λ c κs. search rules)
     (λ c κs. search rules)
     returns-3

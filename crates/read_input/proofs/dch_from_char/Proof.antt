@@ -26,8 +26,8 @@ decreases-loop c t s f₀ p₀ i₀ f p i = length c / 6 - i
 loop-holds : tie.Need-loop-i-init invariant-loop decreases-loop
 loop-holds c = rw c.requires.1 (begun _ _ _)
 
-lane-requires : tie.Need-lane-passed-requires invariant-loop decreases-loop
-lane-requires c κs =
+lane-passed-requires : tie.Need-lane-passed-requires invariant-loop decreases-loop
+lane-passed-requires c κs =
     let inv = c.loop-i.invariant in
     (inv.within, inv.none, inv.payable, search rules)
 
@@ -80,8 +80,8 @@ returns-2 c =
     let passed = c.before.before.before.before.before in
     verdict_read (rw c.read-then-s-place.ensures (input_ends _ _ _ _ _ _ _ (after_lane passed) c.if-s-place.true))
 
-pattern-read-requires : tie.Need-pattern_read-r-requires invariant-loop decreases-loop
-pattern-read-requires c κs =
+pattern_read-r-requires : tie.Need-pattern_read-r-requires invariant-loop decreases-loop
+pattern_read-r-requires c κs =
     let at_node = c.before.before in
     ((after_lane (at_lane at_node)).payable, omega (arith, input_left at_node), (start (at_lane at_node)).requires.0)
 
@@ -115,11 +115,11 @@ loop-again c =
 -- the template ended with a pattern, or has no nodes
 returns-4 : tie.Need-returns invariant-loop decreases-loop
 returns-4 c =
-    let loop-end = c.before.before in
-    let args = loop-end.args in
+    let at_end_of_loop = c.before.before in
+    let args = at_end_of_loop.args in
     verdict_read
     (rw c.read-2.ensures
-    (template_ends _ _ _ _ _ _ _ loop-end.loop-i.invariant (omega (arith, c.loop-i-test.false, nodes_length args.c.now))))
+    (template_ends _ _ _ _ _ _ _ at_end_of_loop.loop-i.invariant (omega (arith, c.loop-i-test.false, nodes_length args.c.now))))
 
 pub dch_from_char_spec : {M : Type 1} → statement M
 dch_from_char_spec =
@@ -128,7 +128,7 @@ dch_from_char_spec =
     invariant-loop
     decreases-loop
     loop-holds
-    lane-requires
+    lane-passed-requires
     (λ c κs. search rules)
     returns
     (λ c κs. search rules)
@@ -136,7 +136,7 @@ dch_from_char_spec =
     (λ c κs. search rules)
     (λ c. search rules)
     (λ c κs. search rules)
-    pattern-read-requires
+    pattern_read-r-requires
     (λ c. search rules)
     returns-3
     (λ c. search rules)

@@ -31,8 +31,8 @@ returns : tie.Need-returns-then-short-at
 returns c =
     let moved_on = c.before in
     let after_short = moved_on.before.before in
-    let if-free = after_short.before in
-    found_free _ _ _ _ if-free.requires _ _ if-free.if-free.true
+    let at_free = after_short.before in
+    found_free _ _ _ _ at_free.requires _ _ at_free.if-free.true
     (simp (to_z_pos w32 {n = after_short.short_number-short.result.value} (omega (arith, small after_short)))
     (accepted _ _ _ moved_on.if-short-at.true refl (lt-ltb after_short.short_number-short.result.value (2 ^ 31) (omega (arith, small after_short)))
     ∙ ap (checked _ _) (sym (found after_short moved_on.if-short-at.true))))

@@ -10,8 +10,8 @@ use Rattle.read_integers.proofs.strtol_number.Tie as tie
 -- of any width
 returns : tie.Need-returns-then-free
 returns c =
-    let if-free = c.before.before in
-    found_free _ _ _ _ if-free.requires _ _ if-free.if-free.true (c.checked.ensures ∙ ap (checked _ _) c.c_strtol.ensures)
+    let at_free = c.before.before in
+    found_free _ _ _ _ at_free.requires _ _ at_free.if-free.true (c.checked.ensures ∙ ap (checked _ _) c.c_strtol.ensures)
 
 -- of a fixed width
 returns-2 : tie.Need-returns

@@ -9,17 +9,17 @@ use Rattle.read_literals.proofs.blank_passed.Tie as tie
 -- a space or separator of the input
 returns : tie.Need-returns-then-is_blank
 returns c =
-    let after_test_lem = c.before in
-    let args = after_test_lem.args in
-    blank_taken args.s.now args.p (rw after_test_lem.byte_at.ensures at (sym after_test_lem.is_blank.ensures ∙ c.if-is_blank.true))
+    let after_test = c.before in
+    let args = after_test.args in
+    blank_taken args.s.now args.p (rw after_test.byte_at.ensures at (sym after_test.is_blank.ensures ∙ c.if-is_blank.true))
 
 -- none there: a skipped space pays
 returns-2 : tie.Need-returns
 returns-2 c =
-    let after_test_lem = c.before.before in
-    let args = after_test_lem.args in
+    let after_test = c.before.before in
+    let args = after_test.args in
     rw c.less_one.ensures
-    (blank_paid args.s.now args.p (rw after_test_lem.byte_at.ensures at (sym after_test_lem.is_blank.ensures ∙ c.if-is_blank.false)))
+    (blank_paid args.s.now args.p (rw after_test.byte_at.ensures at (sym after_test.is_blank.ensures ∙ c.if-is_blank.false)))
 
 pub blank_passed_spec : {M : Type 1} → statement M
 blank_passed_spec =

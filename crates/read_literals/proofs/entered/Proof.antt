@@ -7,8 +7,8 @@ use Rattle.read_literals.proofs.entered.Statement.{statement}
 use Rattle.read_literals.proofs.entered.Tie as tie
 
 -- without FX no more spaces were skipped than the input has bytes
-spaces-skipped-requires : tie.Need-spaces_skipped-requires
-spaces-skipped-requires c κs =
+spaces_skipped-requires : tie.Need-spaces_skipped-requires
+spaces_skipped-requires c κs =
     let at_start = c.before.before.before.before in
     let few = at_start.requires.0 (not_exact at_start.args.p c.if-p-ne0.false) in
     omega arith
@@ -24,6 +24,6 @@ entered_spec =
     tie.close
     (tie.spec
     (λ c. rw (was_exact c.args.p c.if-p-ne0.true))
-    spaces-skipped-requires
+    spaces_skipped-requires
     returns-2
     (λ c. rw (not_exact c.args.p c.if-p-ne0.false, c.if-skip.false)))

@@ -18,8 +18,8 @@ returns c =
     (c.char_passed.ensures ∙ plain_char args.s.now args.n args.p (omega arith) none_skipped.if-p-eq0.true)
 
 -- past the spaces the place is still within the input
-literal-passed-requires : tie.Need-literal_passed-requires
-literal-passed-requires c κs =
+literal_passed-requires : tie.Need-literal_passed-requires
+literal_passed-requires c κs =
     let at_start = c.before.before.before in
     rw c.entered.ensures (entered_within at_start.args.s.now at_start.args.p at_start.args.first at_start.requires.1)
 
@@ -29,4 +29,4 @@ returns-2 c = rw (← c.entered.ensures) c.literal_passed.ensures
 
 pub literal_read_spec : {M : Type 1} → statement M
 literal_read_spec =
-    tie.close (tie.spec (λ c κs. search rules) returns (λ c κs. search rules) literal-passed-requires returns-2)
+    tie.close (tie.spec (λ c κs. search rules) returns (λ c κs. search rules) literal_passed-requires returns-2)

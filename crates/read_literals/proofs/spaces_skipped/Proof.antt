@@ -11,8 +11,8 @@ use Rattle.read_literals.proofs.spaces_skipped.Statement.{statement}
 use Rattle.read_literals.proofs.spaces_skipped.Tie as tie
 
 -- no more spaces are skipped than the input has bytes
-add-extra : tie.Need-overflow_add-extra
-add-extra c =
+overflow_add-extra : tie.Need-overflow_add-extra
+overflow_add-extra c =
     let args = c.args in
     omega (arith, c.past_spaces-next.ensures, spaces_few args.s.now args.p)
 
@@ -25,4 +25,4 @@ returns c =
     λ i. record { at = moved i; extra = more i; fx = 0 }
 
 pub spaces_skipped_spec : {M : Type 1} → statement M
-spaces_skipped_spec = tie.close (tie.spec (λ c κs. search rules) (λ c. search rules) add-extra returns)
+spaces_skipped_spec = tie.close (tie.spec (λ c κs. search rules) (λ c. search rules) overflow_add-extra returns)

@@ -24,12 +24,12 @@ moved_on c =
 returns : tie.Need-returns-then-holds_other
 unfolding stored_number
 returns c =
-    let after_test_lem = c.before.before in
-    let at_read = after_test_lem.before in
+    let after_test = c.before.before in
+    let at_read = after_test.before in
     let args = at_read.args in
     rw (
       at_read.in-Read.is,
-      answered args.f.now args.task.field (value_fits at_read) after_test_lem.holds_other.ensures c.if-holds_other.true,
+      answered args.f.now args.task.field (value_fits at_read) after_test.holds_other.ensures c.if-holds_other.true,
       c.refuse-then-holds_other.ensures,
     )
 
@@ -45,12 +45,12 @@ returns-3 c =
     let after_place = c.before in
     let after_put = after_place.before.before in
     let not_other = after_put.before.before.before in
-    let after_test_lem = not_other.before in
-    let at_read = after_test_lem.before in
+    let after_test = not_other.before in
+    let at_read = after_test.before in
     let args = at_read.args in
     simp (
       at_read.in-Read.is,
-      answered args.f.now args.task.field (value_fits at_read) after_test_lem.holds_other.ensures not_other.if-holds_other.false,
+      answered args.f.now args.task.field (value_fits at_read) after_test.holds_other.ensures not_other.if-holds_other.false,
       c.read.ensures,
       after_place.at_place.ensures,
       after_place.skip_th.ensures.is,

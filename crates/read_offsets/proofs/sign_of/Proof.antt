@@ -31,8 +31,8 @@ returns c =
 returns-2 : tie.Need-returns-then-is_sign
 unfolding sign_of
 returns-2 c =
-    let after_test_lem = c.before.before in
-    rw (sym (tested after_test_lem) ∙ c.if-is_sign.true, ne_eqb _ _ (λ e. c.if-b-eq45.false (after_test_lem.byte_at-b.ensures ∙ e)))
+    let after_test = c.before.before in
+    rw (sym (tested after_test) ∙ c.if-is_sign.true, ne_eqb _ _ (λ e. c.if-b-eq45.false (after_test.byte_at-b.ensures ∙ e)))
 
 -- no sign, at the start of the input: plus
 returns-4 : tie.Need-returns-then-at-eq0

@@ -36,10 +36,10 @@ number_fits c = omega arith
 -- the field was set to another value
 returns : tie.Need-returns-then-holds_other
 returns c =
-    let after_test_lem = c.before.before in
-    let at_start = after_test_lem.before.before in
+    let after_test = c.before.before in
+    let at_start = after_test.before.before in
     rw (
-      answered at_start.args.f.now at_start.args.task.field (number_fits at_start) after_test_lem.holds_other.ensures c.if-holds_other.true,
+      answered at_start.args.f.now at_start.args.task.field (number_fits at_start) after_test.holds_other.ensures c.if-holds_other.true,
       c.refuse.ensures,
     )
 
@@ -49,14 +49,14 @@ returns-2 c =
     let after_noted = c.before.before in
     let after_put = after_noted.before.before in
     let not_other = after_put.before.before in
-    let after_test_lem = not_other.before in
-    let after_kept = after_test_lem.before in
+    let after_test = not_other.before in
+    let after_kept = after_test.before in
     let at_start = after_kept.before in
     let args = at_start.args in
     let kept = ap (λ (x : ℕ). put (fields_of args.f.now) args.task.field (pos x)) after_kept.kept_word-kept.ensures in
     let set = simp (to_z_pos w32 {n = after_kept.kept_word-kept.result} (omega arith)) at after_put.put.ensures ∙ kept in
     stored args.n args.task args.z args.next (fields_of args.f.now) args.p
-    (answered args.f.now args.task.field (number_fits at_start) after_test_lem.holds_other.ensures not_other.if-holds_other.false)
+    (answered args.f.now args.task.field (number_fits at_start) after_test.holds_other.ensures not_other.if-holds_other.false)
     (c.read.ensures ∙ ap (went Read) c.at_place.ensures)
     (after_noted.noted_word.ensures ∙ ap (noted_word args.task.rule) set)
 

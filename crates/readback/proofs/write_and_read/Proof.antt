@@ -8,14 +8,14 @@ use Rattle.readback.proofs.write_and_read.Statement.{statement}
 use Rattle.readback.proofs.write_and_read.Tie as tie
 
 -- the part that is read is within the buffer
-slice-reshare-prefix-read-by-all : tie.Need-slice_bounds-read_by_all-end
-slice-reshare-prefix-read-by-all c =
+slice_bounds-read_by_all-end : tie.Need-slice_bounds-read_by_all-end
+slice_bounds-read_by_all-end c =
     let after_write = c.before.before.before in
     room _ _ _ after_write.write.ensures c.in-Length.is
 
 -- and is as long as the text
-slice-aggregate-read-by-all : tie.Need-slice_bounds-read_by_all-end-in-Length
-slice-aggregate-read-by-all c =
+slice_bounds-read_by_all-end-in-Length : tie.Need-slice_bounds-read_by_all-end-in-Length
+slice_bounds-read_by_all-end-in-Length c =
     let after_write = c.before.before.before in
     omega (arith, room _ _ _ after_write.write.ensures c.in-Length.is, length-take c.in-Length.n after_write.write.new.out)
 
@@ -37,8 +37,8 @@ write_and_read_spec =
     (tie.spec
     (λ c κs. search rules)
     (λ c. search rules)
-    slice-reshare-prefix-read-by-all
-    slice-aggregate-read-by-all
+    slice_bounds-read_by_all-end
+    slice_bounds-read_by_all-end-in-Length
     (λ c κs. search rules)
     (λ c. search rules)
     (λ c. search rules)

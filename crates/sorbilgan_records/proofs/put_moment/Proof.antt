@@ -30,24 +30,24 @@ returns : tie.Need-returns
 returns c =
     let at_precision = c.before.before in
     let at_year = from_last at_precision in
-    let in-32 = ranged at_year in
-    let in-64 = at_year.ranges in
+    let narrow_ranges = ranged at_year in
+    let wide_ranges = at_year.ranges in
     record {
       is = λ i.
           pos 0
           ∷ pos 112
           ∷ pos 0
           ∷ pos 0
-          ∷ wide in-32.year i
-          ∷ wide in-32.month i
-          ∷ wide in-32.day i
-          ∷ wide in-32.hour i
-          ∷ wide in-32.minute i
-          ∷ wide in-32.second i
-          ∷ wide in-32.micros i
-          ∷ wide in-32.precision i
-          ∷ to_z-of_z in-64.zoned i
-          ∷ to_z-of_z in-64.offset i
+          ∷ wide narrow_ranges.year i
+          ∷ wide narrow_ranges.month i
+          ∷ wide narrow_ranges.day i
+          ∷ wide narrow_ranges.hour i
+          ∷ wide narrow_ranges.minute i
+          ∷ wide narrow_ranges.second i
+          ∷ wide narrow_ranges.micros i
+          ∷ wide narrow_ranges.precision i
+          ∷ to_z-of_z wide_ranges.zoned i
+          ∷ to_z-of_z wide_ranges.offset i
           ∷ to_z_pos w64 {n = at_year.args.p.marks} (omega (arith, marks_range at_year)) i
           ∷ [];
       number = refl;

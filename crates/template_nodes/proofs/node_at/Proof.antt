@@ -19,21 +19,21 @@ high : (c : tie.After-shared_slice_known-then-i-c-1) → get_or c.args.c.now (at
 high c = omega (arith, c.shared_slice_known-then-i-c-1.given (at_high c))
 
 -- it fits 16 bits, and so do its product with 256 and the sum with the low byte
-cast-t12 : tie.Need-overflow_cast-result
-cast-t12 c = omega (arith, high c)
+overflow_cast-result : tie.Need-overflow_cast-result
+overflow_cast-result c = omega (arith, high c)
 
-mul-t13 : tie.Need-overflow_mul-result
-mul-t13 c = omega (arith, high c)
+overflow_mul-result : tie.Need-overflow_mul-result
+overflow_mul-result c = omega (arith, high c)
 
 -- the low byte
 low : (c : tie.After-shared_slice_known-then-i-c-2-1) → let args = c.args in get_or args.c.now (6 * args.i + 2) 0 < 256
 low c = omega (arith, c.shared_slice_known-then-i-c-2-1.given (6 * c.args.i + 2))
 
-cast-t17 : tie.Need-overflow_cast-result-then-i-c
-cast-t17 c = omega (arith, low c)
+overflow_cast-result-then-i-c : tie.Need-overflow_cast-result-then-i-c
+overflow_cast-result-then-i-c c = omega (arith, low c)
 
-add-t18 : tie.Need-overflow_add-result-then-i-c-2
-add-t18 c = omega (arith, high c.before, low c)
+overflow_add-result-then-i-c-2 : tie.Need-overflow_add-result-then-i-c-2
+overflow_add-result-then-i-c-2 c = omega (arith, high c.before, low c)
 
 -- a node
 returns : tie.Need-returns-then-i-c
@@ -55,12 +55,12 @@ node_at_spec =
     (λ c. search rules)
     (λ c. search rules)
     (λ c. search rules)
-    cast-t12
-    mul-t13
+    overflow_cast-result
+    overflow_mul-result
     (λ c. search rules)
     (λ c. search rules)
-    cast-t17
-    add-t18
+    overflow_cast-result-then-i-c
+    overflow_add-result-then-i-c-2
     (λ c. search rules)
     (λ c. search rules)
     (λ c. search rules)

@@ -26,8 +26,8 @@ loop-holds : tie.Need-loop-at-init invariant-loop decreases-loop
 loop-holds c = (omega arith, omega arith, refl, begun _ _ _)
 
 -- a plain character in quotes: there is room for one node more
-put-literal-requires : tie.Need-put_literal-requires invariant-loop decreases-loop
-put-literal-requires c κs = (omega arith, omega arith, omega (arith, c.measure_usual-len.ensures.within))
+put_literal-requires : tie.Need-put_literal-requires invariant-loop decreases-loop
+put_literal-requires c κs = (omega arith, omega arith, omega (arith, c.measure_usual-len.ensures.within))
 
 loop-less : tie.Need-loop-at-smaller-then-is_quoted_char invariant-loop decreases-loop
 loop-less c = omega (arith, c.measure_usual-len.ensures.some)
@@ -53,8 +53,8 @@ loop-again c =
     )
 
 -- a byte that is a node by itself
-single-kind-requires : tie.Need-single_kind-requires invariant-loop decreases-loop
-single-kind-requires c κs =
+single_kind-requires : tie.Need-single_kind-requires invariant-loop decreases-loop
+single_kind-requires c κs =
     let at_test = c.before.before in
     let at_loop = at_test.before.before.before.before.before in
     let args = at_loop.args in
@@ -62,8 +62,8 @@ single-kind-requires c κs =
     let told = sym at_test.is_single.ensures ∙ at_test.if-is_single.true in
     (both (not turn.quoted) (is_single (byte_at args.t.now turn.at)) told).1
 
-put-literal-requires-2 : tie.Need-put_literal-requires-then-is_single invariant-loop decreases-loop
-put-literal-requires-2 c κs = omega arith
+put_literal-requires-then-is_single : tie.Need-put_literal-requires-then-is_single invariant-loop decreases-loop
+put_literal-requires-then-is_single c κs = omega arith
 
 loop-again-2 : tie.Need-loop-at-preserved-then-is_single invariant-loop decreases-loop
 loop-again-2 c =
@@ -98,8 +98,8 @@ loop-again-3 c =
     )
 
 -- a pattern
-put-bytes-requires : tie.Need-put_bytes-requires invariant-loop decreases-loop
-put-bytes-requires c κs = omega arith
+put_bytes-requires : tie.Need-put_bytes-requires invariant-loop decreases-loop
+put_bytes-requires c κs = omega arith
 
 loop-less-4 : tie.Need-loop-at-smaller-then-e invariant-loop decreases-loop
 loop-less-4 c =
@@ -145,8 +145,8 @@ rest_is c =
     c.rest_step-s.ensures.is
     ∙ rest_step args.accents args.t.now at_loop.loop-at.at c.loop-at-test.true at_loop.loop-at.quoted element.result element.ensures.is c.if-e.false
 
-put-made-requires : tie.Need-put_made-n-requires invariant-loop decreases-loop
-put-made-requires c κs =
+put_made-n-requires : tie.Need-put_made-n-requires invariant-loop decreases-loop
+put_made-n-requires c κs =
     let inside = c.loop-at-test.true in
     let turn = c.loop-at in
     (omega (arith, inside, turn.invariant.0, turn.invariant.2, c.requires), turn.invariant.1)
@@ -186,15 +186,15 @@ parse_format_spec =
     loop-holds
     (λ c κs. search rules)
     (λ c κs. search rules)
-    put-literal-requires
+    put_literal-requires
     (λ c. search rules)
     (λ c. omega (arith, c.measure_usual-len.ensures.within))
     loop-less
     loop-again
     (λ c κs. search rules)
     (λ c. search rules)
-    single-kind-requires
-    put-literal-requires-2
+    single_kind-requires
+    put_literal-requires-then-is_single
     (λ c. search rules)
     (λ c. search rules)
     (λ c. search rules)
@@ -205,12 +205,12 @@ parse_format_spec =
     loop-again-3
     (λ c κs. search rules)
     (λ c κs. search rules)
-    put-bytes-requires
+    put_bytes-requires
     (λ c. search rules)
     loop-less-4
     loop-again-4
     (λ c κs. search rules)
-    put-made-requires
+    put_made-n-requires
     loop-less-5
     loop-again-5
     same_length

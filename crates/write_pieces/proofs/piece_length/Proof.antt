@@ -11,8 +11,8 @@ use Rattle.write_pieces.proofs.piece_length.Statement.{statement}
 use Rattle.write_pieces.proofs.piece_length.Tie as tie
 
 -- there is such a month
-name-length-requires : tie.Need-name_length-requires
-name-length-requires c κs =
+name_length-requires : tie.Need-name_length-requires
+name_length-requires c κs =
     let at_start = c.before.before.before in
     let named = named_month at_start.args.m at_start.requires.1 in
     (named.1, named.2)
@@ -43,7 +43,7 @@ piece_length_spec =
     tie.close
     (tie.spec
     (λ c. let at_start = c.before.before.before in cast (numbers _ at_start.requires.1).month w32 tt)
-    name-length-requires
+    name_length-requires
     returns
     (λ c κs. search rules)
     returns-2)

@@ -55,8 +55,8 @@ number c =
     omega (arith, at_start.requires.0, c.if-piece-eq-SHORT_MONTH.false, c.if-piece-eq-MONTH_NAME.false, c.if-piece-eq-DOTTED_MARKER.false, c.if-piece-eq-MARKER.false)
 
 -- there is room for a marker without dots, and it is put
-put-marker-requires : tie.Need-put_marker-requires
-put-marker-requires c κs =
+put_marker-requires : tie.Need-put_marker-requires
+put_marker-requires c κs =
     let at_test = c.before.before.before in
     omega (arith, ap length (plain_is at_test), at_test.requires.2)
 
@@ -66,8 +66,8 @@ returns c =
     put_same (plain_is after_put.before.before.before.before) after_put.put_marker.ensures
 
 -- a marker with dots
-put-marker-requires-2 : tie.Need-put_marker-requires-then-piece-eq-DOTTED_MARKER
-put-marker-requires-2 c κs =
+put_marker-requires-then-piece-eq-DOTTED_MARKER : tie.Need-put_marker-requires-then-piece-eq-DOTTED_MARKER
+put_marker-requires-then-piece-eq-DOTTED_MARKER c κs =
     let at_test = c.before.before.before in
     omega (arith, ap length (dotted_is at_test), at_test.requires.2)
 
@@ -77,8 +77,8 @@ returns-2 c =
     put_same (dotted_is after_put.before.before.before.before) after_put.put_marker-then-piece-eq-DOTTED_MARKER.ensures
 
 -- a full name: there is such a month
-put-month-requires : tie.Need-put_month-requires
-put-month-requires c κs =
+put_month-requires : tie.Need-put_month-requires
+put_month-requires c κs =
     let at_test = c.before.before.before in
     let at_start = at_test.before.before.before.before in
     let named = named_month at_start.args.m at_start.requires.1 in
@@ -90,8 +90,8 @@ returns-3 c =
     put_same (name_is after_put.before.before.before.before) after_put.put_month.ensures
 
 -- a short name
-put-month-requires-2 : tie.Need-put_month-requires-then-piece-eq-SHORT_MONTH
-put-month-requires-2 c κs =
+put_month-requires-then-piece-eq-SHORT_MONTH : tie.Need-put_month-requires-then-piece-eq-SHORT_MONTH
+put_month-requires-then-piece-eq-SHORT_MONTH c κs =
     let at_test = c.before.before.before in
     let at_start = at_test.before.before.before.before.before in
     let named = named_month at_start.args.m at_start.requires.1 in
@@ -103,8 +103,8 @@ returns-4 c =
     put_same (short_is after_put.before.before.before.before) after_put.put_month-then-piece-eq-SHORT_MONTH.ensures
 
 -- a number: there is room for its digits
-put-number-requires : tie.Need-put_number-requires
-put-number-requires c κs =
+put_number-requires : tie.Need-put_number-requires
+put_number-requires c κs =
     let after_width = c.before in
     let at_test = after_width.before.before in
     let at_start = at_test.before.before.before.before.before in
@@ -127,22 +127,22 @@ pub put_piece_spec : {M : Type 1} → statement M
 put_piece_spec =
     tie.close
     (tie.spec
-    put-marker-requires
+    put_marker-requires
     (λ c. search rules)
     returns
-    put-marker-requires-2
+    put_marker-requires-then-piece-eq-DOTTED_MARKER
     (λ c. search rules)
     returns-2
     (λ c. let at_start = c.before.before.before.before.before.before in cast (numbers _ at_start.requires.1).month w32 tt)
-    put-month-requires
+    put_month-requires
     (λ c. search rules)
     returns-3
     (λ c. let at_start = c.before.before.before.before.before.before.before in cast (numbers _ at_start.requires.1).month w32 tt)
-    put-month-requires-2
+    put_month-requires-then-piece-eq-SHORT_MONTH
     (λ c. search rules)
     returns-4
     (λ c κs. search rules)
     (λ c κs. search rules)
-    put-number-requires
+    put_number-requires
     (λ c. search rules)
     returns-5)

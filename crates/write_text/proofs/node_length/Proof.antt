@@ -11,8 +11,8 @@ use Rattle.write_text.proofs.node_length.Statement.{statement}
 use Rattle.write_text.proofs.node_length.Tie as tie
 
 -- the pattern has a piece, and the numbers are a moment
-piece-length-requires : tie.Need-piece_length-requires
-piece-length-requires c κs =
+piece_length-requires : tie.Need-piece_length-requires
+piece_length-requires c κs =
     let at_start = c.before.before.before.before in
     (omega (arith, c.piece_of.ensures, piece_range at_start.args.n.pattern), at_start.requires.1)
 
@@ -40,7 +40,7 @@ node_length_spec =
     tie.close
     (tie.spec
     (λ c κs. search rules)
-    piece-length-requires
+    piece_length-requires
     returns
     (λ c κs. search rules)
     returns-2)

@@ -6,8 +6,8 @@ use Rattle.base_settings.proofs.Most.{template_most}
 use Rattle.write_text.proofs.nodes_limit.Statement.{statement}
 use Rattle.write_text.proofs.nodes_limit.Tie as tie
 
-mul-result : tie.Need-overflow_mul-result
-mul-result c = omega (arith, template_most c.args.set)
+overflow_mul-result : tie.Need-overflow_mul-result
+overflow_mul-result c = omega (arith, template_most c.args.set)
 
 pub nodes_limit_spec : {M : Type 1} → statement M
-nodes_limit_spec = tie.close (tie.spec (λ c κs. search rules) mul-result (λ c. search rules))
+nodes_limit_spec = tie.close (tie.spec (λ c κs. search rules) overflow_mul-result (λ c. search rules))

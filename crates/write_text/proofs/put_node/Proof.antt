@@ -20,8 +20,8 @@ piece : (c : tie.Then-n-eq-FN_ACTION) → let args = c.args in
 piece c = let args = c.args in action_text args.t.now args.m args.n c.if-n-eq-FN_ACTION.true
 
 -- there is room for the piece
-put-piece-requires : tie.Need-put_piece-requires
-put-piece-requires c κs =
+put_piece-requires : tie.Need-put_piece-requires
+put_piece-requires c κs =
     let after_case = c.before in
     let after_piece = after_case.before in
     let at_start = after_piece.before.before.before.before.before in
@@ -59,16 +59,16 @@ returns-2 : tie.Need-returns-then-len-eq0
 returns-2 c = rw (nothing c) (put_nothing _ _)
 
 -- the part ends within the template
-part-put-bytes-end : tie.Need-slice_bounds-put_bytes-end
-part-put-bytes-end c =
+slice_bounds-put_bytes-end : tie.Need-slice_bounds-put_bytes-end
+slice_bounds-put_bytes-end c =
     let at_test = c.before in
     let after_length = at_test.before in
     let args = after_length.args in
     literal_end args.t.now args.n _ after_length.literal_length-len.ensures.0 at_test.if-len-eq0.false
 
 -- there is room for the literal
-put-bytes-requires : tie.Need-put_bytes-requires
-put-bytes-requires c κs =
+put_bytes-requires : tie.Need-put_bytes-requires
+put_bytes-requires c κs =
     let at_test = c.before.before.before in
     rw (part at_test) at at_test.requires.2
 
@@ -84,7 +84,7 @@ put_node_spec =
     (tie.spec
     (λ c κs. search rules)
     (λ c κs. search rules)
-    put-piece-requires
+    put_piece-requires
     (λ c. search rules)
     returns
     (λ c κs. search rules)
@@ -93,7 +93,7 @@ put_node_spec =
     (λ c. search rules)
     (λ c. search rules)
     (λ c. search rules)
-    part-put-bytes-end
-    put-bytes-requires
+    slice_bounds-put_bytes-end
+    put_bytes-requires
     (λ c. search rules)
     returns-3)

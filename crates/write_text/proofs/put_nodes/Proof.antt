@@ -23,8 +23,8 @@ abbrev decreases-loop : tie.decreases-loop-i
 decreases-loop table c t m out₀ at₀ i₀ out at i = length c / 6 - i
 
 -- there is room for the node
-put-node-requires : tie.Need-put_node-at-requires invariant-loop decreases-loop
-put-node-requires c κs =
+put_node-at-requires : tie.Need-put_node-at-requires invariant-loop decreases-loop
+put_node-at-requires c κs =
     let after_node = c.before in
     let at_loop = after_node.before.before in
     let at_start = at_loop.before.before.before.before in
@@ -62,7 +62,7 @@ put_nodes_spec =
     decreases-loop
     (λ c. (omega arith, refl, search rules, refl))
     (λ c κs. search rules)
-    put-node-requires
+    put_node-at-requires
     (λ c. search rules)
     (λ c. search rules)
     loop-again

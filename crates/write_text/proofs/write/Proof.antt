@@ -43,14 +43,14 @@ returns-2 c =
     not_utf8 _ _ _ _ (short c.before.before) (sym c.is_utf8.ensures ∙ c.if-not-is_utf8.true)
 
 -- within its limit a template has at most 256 bytes
-parse-format-requires : tie.Need-parse_format-end-requires
-parse-format-requires c κs =
+parse_format-end-requires : tie.Need-parse_format-end-requires
+parse_format-end-requires c κs =
     let within_limit = c.before.before.before in
     (omega (arith, short within_limit, template_most (start within_limit).args.set), omega arith)
 
 -- the slice of the buffer is as long as the bytes of the nodes
-slice-aggregate-write-by : tie.Need-slice_bounds-write_by-end
-slice-aggregate-write-by c = sym (length-take-le _ _ (parsed_room c.parse_format-end.ensures))
+slice_bounds-write_by-end : tie.Need-slice_bounds-write_by-end
+slice_bounds-write_by-end c = sym (length-take-le _ _ (parsed_room c.parse_format-end.ensures))
 
 -- the answer by the template's nodes
 returns-3 : tie.Need-returns
@@ -74,10 +74,10 @@ write_spec =
     (λ c κs. search rules)
     returns-2
     (λ c. search rules)
-    parse-format-requires
+    parse_format-end-requires
     (λ c. search rules)
     (λ c. search rules)
-    slice-aggregate-write-by
+    slice_bounds-write_by-end
     (λ c κs. search rules)
     (λ c. search rules)
     returns-3)

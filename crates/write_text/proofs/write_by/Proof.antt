@@ -46,8 +46,8 @@ returns-3 c =
     (sym c.is_moment.ensures ∙ c.if-not-is_moment.true)
 
 -- the table is the definition's, the numbers are a moment, and the nodes are few
-text-length-requires : tie.Need-text_length-needed-requires
-text-length-requires c κs =
+text_length-needed-requires : tie.Need-text_length-needed-requires
+text_length-needed-requires c κs =
     let after_search = c.before.before.before.before in
     (after_search.table-table.ensures, moment c.before, omega (arith, few (within_limit after_search), template_most (start after_search).args.set))
 
@@ -62,8 +62,8 @@ returns-4 c =
     (moment after_length.before.before) _ after_length.text_length-needed.ensures.0 c.if-out-needed.true
 
 -- the table is the definition's, the numbers are a moment, and there is room for the text
-put-nodes-requires : tie.Need-put_nodes-requires
-put-nodes-requires c κs =
+put_nodes-requires : tie.Need-put_nodes-requires
+put_nodes-requires c κs =
     let at_room = c.before.before in
     let after_length = at_room.before in
     let after_search = searched after_length in
@@ -97,9 +97,9 @@ write_by_spec =
     _ after_search.first_unwritten-unwritten.ensures (omega arith))
     (λ c κs. search rules)
     returns-3
-    text-length-requires
+    text_length-needed-requires
     (λ c. search rules)
     returns-4
-    put-nodes-requires
+    put_nodes-requires
     (λ c. search rules)
     returns-5)

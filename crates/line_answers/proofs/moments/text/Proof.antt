@@ -14,15 +14,15 @@ settings_are : (c : tie.After-write) → c.pages.result ≡ pages
 settings_are c = c.pages.ensures
 
 -- the text is no longer than its buffer
-part-put-text-end : tie.Need-slice_bounds-put_text-end
-part-put-text-end c =
+slice_bounds-put_text-end : tie.Need-slice_bounds-put_text-end
+slice_bounds-put_text-end c =
     let at_length = c in
     let after_write = at_length.before.before in
     let size : length after_write.write.new.out ≡ 512 = search rules in
     omega (arith, text_within (settings_are after_write) refl after_write.write.ensures _ at_length.in-Length.is, size)
 
-put-text-requires : tie.Need-put_text-requires
-put-text-requires c κs =
+put_text-requires : tie.Need-put_text-requires
+put_text-requires c κs =
     let at_length = c.before.before in
     let after_write = at_length.before.before in
     let buffer = after_write.write.new.out in
@@ -60,8 +60,8 @@ text_spec =
     (λ c. search rules)
     (λ c. search rules)
     (λ c. search rules)
-    part-put-text-end
-    put-text-requires
+    slice_bounds-put_text-end
+    put_text-requires
     (λ c. search rules)
     (λ c κs. search rules)
     (λ c κs. search rules)

@@ -45,8 +45,8 @@ sum_below : (c : tie.Else-a-b) → SFits w64 (c.args.a +ℤ c.args.b)
 sum_below c = let at_start = c.before.before in down_fits at_start.args.a at_start.args.b at_start.ranges.a at_start.ranges.b (down c.before) (not_under c)
 
 -- the difference that is compared fits 64 bits
-sub-if2 : tie.Need-overflow_sub-b
-sub-if2 c = rw (to_z-of_z c.ranges.b) (room_above c)
+overflow_sub-b : tie.Need-overflow_sub-b
+overflow_sub-b c = rw (to_z-of_z c.ranges.b) (room_above c)
 
 -- b is positive, and the sum is past the last number
 returns : tie.Need-returns-then-b-a
@@ -55,8 +55,8 @@ returns c =
     over at_start.args.a at_start.args.b at_start.ranges.a at_start.ranges.b (up c.before)
     (simp (to_z-of_z at_start.ranges.a, to_z-of_z at_start.ranges.b, to_z-of_z (room_above c.before)) at c.if-b-a.true)
 
-add-t4 : tie.Need-overflow_add-result
-add-t4 c = let at_start = c.before.before in rw (to_z-of_z at_start.ranges.a, to_z-of_z at_start.ranges.b) (sum_above c)
+overflow_add-result : tie.Need-overflow_add-result
+overflow_add-result c = let at_start = c.before.before in rw (to_z-of_z at_start.ranges.a, to_z-of_z at_start.ranges.b) (sum_above c)
 
 -- b is positive, and the sum is in range
 returns-2 : tie.Need-returns-then-b-gt0
@@ -66,8 +66,8 @@ returns-2 c =
     (up_within at_start.args.a at_start.args.b at_start.ranges.a at_start.ranges.b (up c.before) (not_over c))
 
 -- the difference that is compared fits 64 bits
-sub-if3 : tie.Need-overflow_sub-b-2
-sub-if3 c = rw (to_z-of_z c.ranges.b) (room_below c)
+overflow_sub-b-2 : tie.Need-overflow_sub-b-2
+overflow_sub-b-2 c = rw (to_z-of_z c.ranges.b) (room_below c)
 
 -- b is not positive, and the sum is before the first number
 returns-3 : tie.Need-returns-then-a-b
@@ -76,8 +76,8 @@ returns-3 c =
     under at_start.args.a at_start.args.b at_start.ranges.a at_start.ranges.b (down c.before)
     (simp (to_z-of_z at_start.ranges.a, to_z-of_z at_start.ranges.b, to_z-of_z (room_below c.before)) at c.if-a-b.true)
 
-add-if4 : tie.Need-overflow_add-a
-add-if4 c = let at_start = c.before.before in rw (to_z-of_z at_start.ranges.a, to_z-of_z at_start.ranges.b) (sum_below c)
+overflow_add-a : tie.Need-overflow_add-a
+overflow_add-a c = let at_start = c.before.before in rw (to_z-of_z at_start.ranges.a, to_z-of_z at_start.ranges.b) (sum_below c)
 
 -- b is 0, and a is the end past the last number
 returns-4 : tie.Need-returns-then-a-b-gt-LAST
@@ -86,8 +86,8 @@ returns-4 c =
     too_late (at_start.args.a +ℤ at_start.args.b)
     (simp (to_z-of_z at_start.ranges.a, to_z-of_z at_start.ranges.b, to_z-of_z (sum_below c.before)) at c.if-a-b-gt-LAST.true)
 
-add-t7 : tie.Need-overflow_add-result-2
-add-t7 c = let at_start = c.before.before.before in rw (to_z-of_z at_start.ranges.a, to_z-of_z at_start.ranges.b) (sum_below c.before)
+overflow_add-result-2 : tie.Need-overflow_add-result-2
+overflow_add-result-2 c = let at_start = c.before.before.before in rw (to_z-of_z at_start.ranges.a, to_z-of_z at_start.ranges.b) (sum_below c.before)
 
 -- b is not positive, and the sum is in range
 returns-5 : tie.Need-returns
@@ -99,4 +99,4 @@ returns-5 c =
 
 pub added_spec : {M : Type 1} → statement M
 added_spec =
-    tie.close (tie.spec sub-if2 returns add-t4 returns-2 sub-if3 returns-3 add-if4 returns-4 add-t7 returns-5)
+    tie.close (tie.spec overflow_sub-b returns overflow_add-result returns-2 overflow_sub-b-2 returns-3 overflow_add-a returns-4 overflow_add-result-2 returns-5)

@@ -33,11 +33,11 @@ returns-2 c =
     (simp (to_z-of_z at_start.ranges.wall, wide (east at_offset), to_z-of_z (offset_fits (east at_offset)), +ℤ_idl, to_z-of_z (less_fits (east at_offset))) at c.added-in-East.ensures)
 
 -- the product and the difference fit
-mul-added : tie.Need-overflow_mul-seconds
-mul-added c = rw (wide (east c)) (offset_fits (east c))
+overflow_mul-seconds : tie.Need-overflow_mul-seconds
+overflow_mul-seconds c = rw (wide (east c)) (offset_fits (east c))
 
-sub-added : tie.Need-overflow_sub-seconds
-sub-added c = rw (wide (east c), to_z-of_z (offset_fits (east c)), +ℤ_idl) (less_fits (east c))
+overflow_sub-seconds : tie.Need-overflow_sub-seconds
+overflow_sub-seconds c = rw (wide (east c), to_z-of_z (offset_fits (east c)), +ℤ_idl) (less_fits (east c))
 
 pub less_offset_spec : {M : Type 1} → statement M
 less_offset_spec =
@@ -47,8 +47,8 @@ less_offset_spec =
     (λ c κs. search rules)
     (λ c. search rules)
     (λ c. wide_fits (east c))
-    mul-added
-    sub-added
+    overflow_mul-seconds
+    overflow_sub-seconds
     (λ c κs. search rules)
     returns
     returns-2)

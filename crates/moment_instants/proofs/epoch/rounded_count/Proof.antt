@@ -39,8 +39,8 @@ after c = to_z-of_z c.ranges.count ∙ kept c.args.count (rw (to_z-of_z c.ranges
 result : (c : tie.After-rounded_magnitude) → c.rounded_magnitude.result ≡ answer c.before.before
 result c = rw (before c.before, to_z-of_z (magnitude c.before.before)) at c.rounded_magnitude.ensures
 
-result-2 : (c : tie.After-rounded_magnitude-else-count-lt0) → c.rounded_magnitude-else-count-lt0.result ≡ answer c.before.before
-result-2 c = rw (after c.before) at c.rounded_magnitude-else-count-lt0.ensures
+result_before_2000 : (c : tie.After-rounded_magnitude-else-count-lt0) → c.rounded_magnitude-else-count-lt0.result ≡ answer c.before.before
+result_before_2000 c = rw (after c.before) at c.rounded_magnitude-else-count-lt0.ensures
 
 -- before 2000
 returns : tie.Need-returns-then-count-lt0
@@ -53,7 +53,7 @@ returns c =
 returns-2 : tie.Need-returns-else-count-lt0
 returns-2 c =
     let at_start = c.before.before in
-    rw (result-2 c, to_z-of_z (fits at_start)) (away_after at_start.args.scale at_start.args.count (rw (to_z-of_z at_start.ranges.count) at c.if-count-lt0.false))
+    rw (result_before_2000 c, to_z-of_z (fits at_start)) (away_after at_start.args.scale at_start.args.count (rw (to_z-of_z at_start.ranges.count) at c.if-count-lt0.false))
 
 pub rounded_count_spec : {M : Type 1} → statement M
 rounded_count_spec =
@@ -66,6 +66,6 @@ rounded_count_spec =
     (λ c. rw (result c, to_z-of_z (fits c.before.before), +ℤ_idl) (fits_turned c.before.before))
     (λ c. rw (after c) (tt, omega (arith, magnitude c.before)))
     (λ c κs. search rules)
-    (λ c. rw (result-2 c) (fits c.before.before))
+    (λ c. rw (result_before_2000 c) (fits c.before.before))
     returns
     returns-2)

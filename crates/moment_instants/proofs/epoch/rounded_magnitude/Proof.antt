@@ -11,8 +11,8 @@ returns : tie.Need-returns
 returns c = search rules
 
 -- a multiple of the scale that is not above the sum
-mul-result : tie.Need-overflow_mul-result
-mul-result c = omega (arith, div-mul-le_self (c.args.n + c.args.scale / 2) c.args.scale)
+overflow_mul-result : tie.Need-overflow_mul-result
+overflow_mul-result c = omega (arith, div-mul-le_self (c.args.n + c.args.scale / 2) c.args.scale)
 
 pub rounded_magnitude_spec : {M : Type 1} → statement M
-rounded_magnitude_spec = tie.close (tie.spec (λ c. search rules) (λ c. search rules) mul-result returns)
+rounded_magnitude_spec = tie.close (tie.spec (λ c. search rules) (λ c. search rules) overflow_mul-result returns)

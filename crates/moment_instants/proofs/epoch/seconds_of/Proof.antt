@@ -23,11 +23,11 @@ clock_is c =
 days_are : (c : tie.After-days_of) → to_z w64 (of_z w64 c.days_of.result) ≡ days c.args.p
 days_are c = returned c.days_of.type_inv c.days_of.ensures
 
-mul-result : tie.Need-overflow_mul-result
-mul-result c = rw (days_are c) (days_fit (ranged c.before.before))
+overflow_mul-result : tie.Need-overflow_mul-result
+overflow_mul-result c = rw (days_are c) (days_fit (ranged c.before.before))
 
-add-result : tie.Need-overflow_add-result
-add-result c =
+overflow_add-result : tie.Need-overflow_add-result
+overflow_add-result c =
     let parts_fit = ranged c.before.before in
     rw (days_are c, to_z-of_z (days_fit parts_fit), clock_is c.before) (seconds_fit parts_fit)
 
@@ -39,4 +39,4 @@ returns c =
 
 pub seconds_of_spec : {M : Type 1} → statement M
 seconds_of_spec =
-    tie.close (tie.spec (λ c κs. search rules) (λ c κs. search rules) mul-result add-result returns)
+    tie.close (tie.spec (λ c κs. search rules) (λ c κs. search rules) overflow_mul-result overflow_add-result returns)

@@ -35,8 +35,8 @@ whole c =
     let after_seconds = c.before.before in
     micros_fit (seconds_of after_seconds.args.p) (rw (seconds after_seconds) at c.if-seconds.false) (rw (seconds after_seconds) at c.if-seconds-gt-MOST_SECONDS.false)
 
-mul-added : tie.Need-overflow_mul-seconds
-mul-added c = rw (seconds c.before.before) (whole c)
+overflow_mul-seconds : tie.Need-overflow_mul-seconds
+overflow_mul-seconds c = rw (seconds c.before.before) (whole c)
 
 -- the fraction fits 32 bits
 micros : (c : tie.After-struct_told-1) → SFits w32 c.args.p.micros
@@ -58,7 +58,7 @@ wall_from_tm_spec =
     (λ c. search rules)
     returns
     returns-2
-    mul-added
+    overflow_mul-seconds
     (λ c. wide_fits (micros c))
     (λ c κs. search rules)
     returns-3)

@@ -8,8 +8,8 @@ use Rattle.read_literals.proofs.Literals.{entered_within}
 use Rattle.read_input.proofs.actions.pattern_read.Statement.{statement}
 use Rattle.read_input.proofs.actions.pattern_read.Tie as tie
 
-action-read-requires : tie.Need-action_read-requires
-action-read-requires c κs =
+action_read-requires : tie.Need-action_read-requires
+action_read-requires c κs =
     let after_spaces = c.before in
     let after_task = after_spaces.before.before in
     let at_start = after_task.before.before.before in
@@ -28,5 +28,5 @@ pattern_read_spec =
     (tie.spec
     (λ c κs. search rules)
     (λ c κs. search rules)
-    action-read-requires
+    action_read-requires
     returns)

@@ -40,8 +40,8 @@ module _ (c : tie.Else-s-at invariant-loop decreases-loop) where
   one_left : at_loop.loop-i.i < length (nodes_in at_loop.before.before.before.before.args.c.now)
   one_left = omega (arith, c.loop-i-test.true, nodes_length at_loop.before.before.before.before.args.c.now)
 
-node-taken-requires : tie.Need-node_taken-r-requires invariant-loop decreases-loop
-node-taken-requires c κs =
+node_taken-r-requires : tie.Need-node_taken-r-requires invariant-loop decreases-loop
+node_taken-r-requires c κs =
     let here = c.before in
     let inv = (at_loop here).loop-i.invariant in
     (one_left here, inv.1.none, inv.1.payable, omega (arith, here.if-s-at.false), search rules)
@@ -87,7 +87,7 @@ lane_spec =
     decreases-loop
     loop-holds
     returns
-    node-taken-requires
+    node_taken-r-requires
     returns-2
     loop-less
     loop-again

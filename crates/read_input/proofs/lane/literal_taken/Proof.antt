@@ -7,8 +7,8 @@ use Rattle.read_input.proofs.lane.literal_taken.Statement.{statement}
 use Rattle.read_input.proofs.lane.literal_taken.Tie as tie
 
 -- the literal, and what is after it
-chars-passed-requires : tie.Need-chars_passed-requires
-chars-passed-requires c κs =
+chars_passed-requires : tie.Need-chars_passed-requires
+chars_passed-requires c κs =
     let spent = c.before.before in
     let at_start = spent.before.before.before.before.before.before.before in
     (omega (arith, at_start.requires.0), (λ z. absurd (omega arith)), spent.if-q-eq0.true, c.if-q-eq0-2.true)
@@ -19,7 +19,7 @@ literal_taken_spec =
     (tie.spec
     (λ c κs. search rules)
     (λ c. let count_is = nodes_length c.args.c.now in search rules)
-    chars-passed-requires
+    chars_passed-requires
     (λ c. rw (← c.literal_read-q.ensures) c.chars_passed.ensures)
     (λ c. let count_is = nodes_length c.args.c.now in search rules)
     (λ c. rw (← c.literal_read-q.ensures) (record { on = omega arith; turned = λ t f whole turned. turned })))

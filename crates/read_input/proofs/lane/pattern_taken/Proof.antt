@@ -5,8 +5,8 @@ use Rattle.read_input.proofs.Plainly.{is_left}
 use Rattle.read_input.proofs.lane.pattern_taken.Statement.{statement}
 use Rattle.read_input.proofs.lane.pattern_taken.Tie as tie
 
-number-taken-requires : tie.Need-number_taken-requires
-number-taken-requires c κs =
+number_taken-requires : tie.Need-number_taken-requires
+number_taken-requires c κs =
     let a_number = c.before in
     let after_task = a_number.before.before in
     let inexact = after_task.before in
@@ -25,5 +25,5 @@ pattern_taken_spec =
     (λ c κs. search rules)
     (λ c κs. search rules)
     (λ c. is_left c.left-then-task-ne-NUMBER.ensures refl)
-    number-taken-requires
+    number_taken-requires
     (λ c. c.number_taken.ensures))

@@ -22,8 +22,8 @@ rest c =
     c.scan_yyyy.ensures ∙ ap scanned (take_all (length args.s.now - args.at) left (omega (arith, length-drop args.at args.s.now)))
 
 -- the end of the year is a place in the input
-add-joined : tie.Need-overflow_add-at
-add-joined c =
+overflow_add-at : tie.Need-overflow_add-at
+overflow_add-at c =
     let after_scan = c.before in
     let args = after_scan.args in
     let ends_within = subst (Ends (drop args.at args.s.now)) (sym (rest after_scan) ∙ c.in-Both.is) (ends _) in
@@ -59,7 +59,7 @@ comma_year_spec =
     (λ c. search rules)
     (λ c κs. search rules)
     (λ c. search rules)
-    add-joined
+    overflow_add-at
     (λ c κs. search rules)
     (λ c. search rules)
     returns

@@ -54,8 +54,8 @@ sum_is c =
 sum_fits : (c : tie.Then-sum_fits) → let at_low = c.before.before.before in SFits w32 ((start at_low).args.years +ℤ whole at_low)
 sum_fits c = fits_of _ (sym (sum_is c.before) ∙ c.if-sum_fits.true)
 
-add-t10 : tie.Need-overflow_add-result
-add-t10 c =
+overflow_add-result : tie.Need-overflow_add-result
+overflow_add-result c =
     let at_low = c.before.before.before in
     simp (to_z-of_z (start at_low).ranges.thousands, to_z-of_z (start at_low).ranges.years, to_z-of_z (whole_fits at_low (within c.before))) (sum_fits c)
 
@@ -87,6 +87,6 @@ joined_spec =
     rw (thousands_high at_start.args.thousands (simp (to_z-of_z at_start.ranges.thousands) at above)))
     (λ c. let at_low = c.before in simp (to_z-of_z (start at_low).ranges.thousands) (whole_fits at_low (search rules)))
     (λ c κs. search rules)
-    add-t10
+    overflow_add-result
     returns-3
     returns-4)

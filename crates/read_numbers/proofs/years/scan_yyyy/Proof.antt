@@ -44,12 +44,12 @@ module _ (c : tie.Else-byte_at-ne44) where
   within : a.end < length t
   within = comma_within t a first comma
 
-add-past-spaces : tie.Need-overflow_add-end
-add-past-spaces c = omega (arith, within c)
+overflow_add-end : tie.Need-overflow_add-end
+overflow_add-end c = omega (arith, within c)
 
 -- the spaces after the comma end within the text
-within-three-requires : tie.Need-within_three-b-requires
-within-three-requires c κs =
+within_three-b-requires : tie.Need-within_three-b-requires
+within_three-b-requires c κs =
     let at_comma = c.before in
     omega (arith, within at_comma, leading_place is_space (t at_comma) ((a at_comma).end + 1), c.past_spaces-from.ensures)
 
@@ -91,9 +91,9 @@ scan_yyyy_spec =
     (λ c. no_first _ _ c.c_strtol-a.ensures (omega arith))
     (λ c κs. search rules)
     returns-2
-    add-past-spaces
+    overflow_add-end
     (λ c κs. search rules)
-    within-three-requires
+    within_three-b-requires
     returns-3
     (λ c κs. search rules)
     (λ c κs. search rules)

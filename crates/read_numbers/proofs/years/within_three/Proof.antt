@@ -13,8 +13,8 @@ returns : tie.Need-returns-then-t-from-le3
 returns c = let args = c.args in rw (take_all (args.from + 3) args.t.now (omega arith)) c.c_strtol.ensures
 
 -- the slice up to three bytes on is as long as its end says
-slice-aggregate : tie.Need-slice_bounds-c_strtol-end
-slice-aggregate c = sym (length-take-le _ _ (omega arith))
+slice_bounds-c_strtol-end : tie.Need-slice_bounds-c_strtol-end
+slice_bounds-c_strtol-end c = sym (length-take-le _ _ (omega arith))
 
 pub within_three_spec : {M : Type 1} → statement M
 within_three_spec =
@@ -24,6 +24,6 @@ within_three_spec =
     (λ c κs. search rules)
     returns
     (λ c. search rules)
-    slice-aggregate
+    slice_bounds-c_strtol-end
     (λ c κs. search rules)
     (λ c. search rules))

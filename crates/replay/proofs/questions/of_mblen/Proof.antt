@@ -22,8 +22,8 @@ unfolding of_mblen
 returns-2 c = rw (← c.read_place-place.ensures, c.if-place.false, read_as c.read_bytes-bytes.ensures c.if-bytes.true)
 
 -- the text is within the buffer
-part-pg-mblen-end : tie.Need-slice_bounds-pg_mblen-end
-part-pg-mblen-end c = part_fits c.read_bytes-bytes.ensures c.if-bytes.false
+slice_bounds-pg_mblen-end : tie.Need-slice_bounds-pg_mblen-end
+slice_bounds-pg_mblen-end c = part_fits c.read_bytes-bytes.ensures c.if-bytes.false
 
 -- a length, of at most 4
 returns-3 : tie.Need-returns
@@ -46,7 +46,7 @@ of_mblen_spec =
     returns-2
     (λ c. search rules)
     (λ c. search rules)
-    part-pg-mblen-end
+    slice_bounds-pg_mblen-end
     (λ c κs. search rules)
     (λ c. search rules)
     returns-3)

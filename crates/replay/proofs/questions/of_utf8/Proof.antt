@@ -13,8 +13,8 @@ unfolding of_utf8
 returns c = rw (read_as c.read_bytes-bytes.ensures c.if-bytes.true)
 
 -- the text is within the buffer
-part-is-utf8-end : tie.Need-slice_bounds-is_utf8-end
-part-is-utf8-end c = part_fits c.read_bytes-bytes.ensures c.if-bytes.false
+slice_bounds-is_utf8-end : tie.Need-slice_bounds-is_utf8-end
+slice_bounds-is_utf8-end c = part_fits c.read_bytes-bytes.ensures c.if-bytes.false
 
 -- a text
 returns-2 : tie.Need-returns
@@ -33,7 +33,7 @@ of_utf8_spec =
     returns
     (λ c. search rules)
     (λ c. search rules)
-    part-is-utf8-end
+    slice_bounds-is_utf8-end
     (λ c κs. search rules)
     (λ c κs. search rules)
     returns-2)

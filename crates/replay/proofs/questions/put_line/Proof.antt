@@ -11,8 +11,8 @@ unfolding line_text
 returns c = rw (read_as c.read_bytes-bytes.ensures c.if-bytes.true) c.unknown.ensures
 
 -- the text is within the buffer
-part-answer-end : tie.Need-slice_bounds-answer-end
-part-answer-end c = part_fits c.read_bytes-bytes.ensures c.if-bytes.false
+slice_bounds-answer-end : tie.Need-slice_bounds-answer-end
+slice_bounds-answer-end c = part_fits c.read_bytes-bytes.ensures c.if-bytes.false
 
 -- a line
 returns-2 : tie.Need-returns
@@ -33,7 +33,7 @@ put_line_spec =
     returns
     (λ c. search rules)
     (λ c. search rules)
-    part-answer-end
+    slice_bounds-answer-end
     (λ c κs. search rules)
     (λ c. search rules)
     returns-2)

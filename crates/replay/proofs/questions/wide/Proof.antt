@@ -6,12 +6,12 @@ use Rattle.replay.proofs.questions.wide.Statement.{statement}
 use Rattle.replay.proofs.questions.wide.Tie as tie
 
 -- the number can be cast
-cast-result : tie.Need-overflow_cast-result
-cast-result c = wide_fits c.ranges.n
+overflow_cast-result : tie.Need-overflow_cast-result
+overflow_cast-result c = wide_fits c.ranges.n
 
 -- the same number
 returns : tie.Need-returns
-returns c = to_z-of_z (cast-result c) ∙ to_z-of_z c.ranges.n
+returns c = to_z-of_z (overflow_cast-result c) ∙ to_z-of_z c.ranges.n
 
 pub wide_spec : {M : Type 1} → statement M
-wide_spec = tie.close (tie.spec cast-result returns)
+wide_spec = tie.close (tie.spec overflow_cast-result returns)

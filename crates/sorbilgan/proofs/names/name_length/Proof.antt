@@ -18,17 +18,17 @@ decreases-loop names number len₀ len = 5 - len
 -- at a space
 returns : tie.Need-returns-then-names-number-eq32 invariant-loop decreases-loop
 returns c =
-    let after_test_lem = c.before.before in
-    let at_loop = after_test_lem.before in
+    let after_test = c.before.before in
+    let at_loop = after_test.before in
     let at_start = at_loop.before in
-    omega (arith, at_space at_start.args.number at_start.requires.1 at_loop.loop-len.len after_test_lem.loop-len-test.true (rw at_start.requires.0 at c.if-names-number-eq32.true))
+    omega (arith, at_space at_start.args.number at_start.requires.1 at_loop.loop-len.len after_test.loop-len-test.true (rw at_start.requires.0 at c.if-names-number-eq32.true))
 
 loop-again : tie.Need-loop-len-preserved invariant-loop decreases-loop
 loop-again c =
-    let after_test_lem = c.before.before in
-    let at_loop = after_test_lem.before in
+    let after_test = c.before.before in
+    let at_loop = after_test.before in
     let at_start = at_loop.before in
-    omega (arith, (at_letter at_start.args.number at_start.requires.1 at_loop.loop-len.len after_test_lem.loop-len-test.true (rw at_start.requires.0 at c.if-names-number-eq32.false)).0)
+    omega (arith, (at_letter at_start.args.number at_start.requires.1 at_loop.loop-len.len after_test.loop-len-test.true (rw at_start.requires.0 at c.if-names-number-eq32.false)).0)
 
 -- a name of five letters
 returns-2 : tie.Need-returns invariant-loop decreases-loop

@@ -32,8 +32,8 @@ returns-2 c =
     ill_formed _ _ _ (short after_utf8.before) (sym after_utf8.is_utf8.ensures ∙ c.if-not-is_utf8.true)
 
 -- within its limit a template has at most 256 bytes
-parse-format-requires : tie.Need-parse_format-requires
-parse-format-requires c κs =
+parse_format-requires : tie.Need-parse_format-requires
+parse_format-requires c κs =
     let within_limit = c.before.before.before in
     (omega (arith, short within_limit, template_most (settings_of within_limit.args.settings)), omega arith)
 
@@ -55,7 +55,7 @@ sorbilgan_compile_with_spec =
     returns
     (λ c κs. search rules)
     returns-2
-    parse-format-requires
+    parse_format-requires
     (λ c. search rules)
     (λ c. search rules)
     returns-3)

@@ -15,8 +15,8 @@ room : (c : tie.Start) → length c.args.text.now < 2 ^ 63
 room c = omega arith
 
 -- so is the length of a text that has room in it
-put-written-requires : tie.Need-put_written-requires
-put-written-requires c κs n e =
+put_written-requires : tie.Need-put_written-requires
+put_written-requires c κs n e =
     let after_write = c.before.before.before in
     let at_start = after_write.before.before.before.before.before.before in
     omega (arith, room at_start, (to_measured _ _ _ _ n (sym after_write.write.ensures.is ∙ e)).1)
@@ -33,4 +33,4 @@ returns c =
 
 pub sorbilgan_write_with_spec : {M : Type 1} → statement M
 sorbilgan_write_with_spec =
-    tie.close (tie.spec (λ c κs. search rules) (λ c κs. search rules) (λ c κs. search rules) put-written-requires (λ c. search rules) returns)
+    tie.close (tie.spec (λ c κs. search rules) (λ c κs. search rules) (λ c κs. search rules) put_written-requires (λ c. search rules) returns)

@@ -29,8 +29,8 @@ named c =
     _ (c.name_length.ensures.0 args.case)
 
 -- there is room for the name
-put-word-requires : tie.Need-put_word-requires
-put-word-requires c κs =
+put_word-requires : tie.Need-put_word-requires
+put_word-requires c κs =
     let after_length = c.before.before in
     let at_start = after_length.before.before in
     omega (arith, cased_size at_start.args.case (part after_length), ap length (named after_length), at_start.requires.2)
@@ -53,6 +53,6 @@ put_month_spec =
     (λ c. omega arith)
     (λ c. omega arith)
     (λ c. omega arith)
-    put-word-requires
+    put_word-requires
     (λ c. search rules)
     returns)
