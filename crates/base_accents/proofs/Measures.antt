@@ -78,18 +78,17 @@ module _ (s : List ℕ) (at : ℕ) where
   plain_one accents h small e =
       rw (lt-ltb (byte_at s at) 0x80 small, e, and-false accents) (omega (arith, lead_one (byte_at s at) (omega arith)))
 
-  -- a byte of ASCII before one that begins no mark is a character by itself
-  pub ascii_one : (accents : Bool) → at < length s → byte_at s at < 0x80 → byte_at s (at + 1) < 0xcc → measure_of accents s at ≡ 1
-  unfolding measure_of char_length
-  ascii_one accents h small next =
-      let one : min (lead (byte_at s at)) (length s - at) ≡ 1 = omega (arith, lead_one (byte_at s at) (omega arith)) in
-      rw one (by_if (λ (k : ℕ). k ≡ 1) (accents && letter_at s at) _ 1 (λ e. rw (marks_stop s (at + 1) (low_no_mark s (at + 1) next)) refl) (λ e. refl))
-
   -- where no mark begins after a sequence of UTF-8, it is a character by itself
   bare : (accents : Bool) (n : ℕ) → char_length s at ≡ n → byte_at s (at + n) < 0xcc → measure_of accents s at ≡ n
   unfolding measure_of
   bare accents n one next =
-      rw one (by_if (λ (k : ℕ). k ≡ n) (accents && letter_at s at) _ n (λ e. rw (marks_stop s (at + n) (low_no_mark s (at + n) next)) (add-zero n)) (λ e. refl))
+      let none = marks_stop s (at + n) (low_no_mark s (at + n) next) in
+      rw one (by_if (λ (k : ℕ). k ≡ n) (accents && letter_at s at) _ n (λ e. rw none (add-zero n)) (λ e. refl))
+
+  -- a byte of ASCII before one that begins no mark
+  pub ascii_one : (accents : Bool) → at < length s → byte_at s at < 0x80 → byte_at s (at + 1) < 0xcc → measure_of accents s at ≡ 1
+  unfolding char_length
+  ascii_one accents h small next = bare accents 1 (omega (arith, lead_one (byte_at s at) (omega arith))) next
 
   -- what holds of 0, and of 1 and 2 where they are the usual length, holds of that length
   by_usual : (P : ℕ → Type 0) → P 0 → (byte_at s at < 0x80 → byte_at s (at + 1) < 0xcc → P 1)

@@ -1,8 +1,9 @@
 -- The rule of a table, proved at every entry by one test that computes. Assumes nothing.
 -- `all_from`: the test passes at each entry of a table, whose indices are counted from a number.
 -- `entry`: a test that passed over the whole table passes at the entry k.
+-- `arm`: where the arm of the number i gives f's value at i, it gives f's value.
 -- `past_all`: what is none of the numbers below n, as a match says of its last arm, is n or more.
-use mathlib.Core.Path.{◌≡◌, refl}
+use mathlib.Core.Path.{◌≡◌, ◌∙◌, refl, sym, ap}
 use mathlib.Core.Bool.{Bool, true, ◌&&◌}
 use mathlib.Core.List.{List, [], ◌∷◌}
 use Prim.Native.Nat.{ℕ, zero, suc, ◌+◌, ◌<◌, ◌≤◌}
@@ -25,6 +26,10 @@ module _ {A : Type 0} (test : ℕ → A → Bool) (d : A) where
 
   pub entry : (xs : List A) → all_from test 0 xs ≡ true → (k : ℕ) → k < length xs → test k (get_or xs k d) ≡ true
   entry xs e k h = rw zero-add at (from xs 0 k e h)
+
+-- a match on the number k, in the arm of i
+pub arm : (f : ℕ → ℕ) (i : ℕ) {k x : ℕ} → k ≡ i → x ≡ f i → x ≡ f k
+arm f i e is = is ∙ ap f (sym e)
 
 -- k is none of the numbers below n
 abbrev pub NoneBelow : ℕ → ℕ → Type 0

@@ -26,13 +26,16 @@ nothing : (s : List ℕ) (start : ℕ) → Bare (drop start s) → strtol s star
 unfolding strtol
 nothing s start bare = rw (bare.0, bare.1, bare.2)
 
-module _ (s : List ℕ) (at : ℕ) (inside : at < length s) (no_space : is_space (byte_at s at) ≡ false) (no_digit : is_digit (byte_at s at) ≡ false)
-    (no_plus : byte_at s at ≡ 43 → ⊥) (no_minus : byte_at s at ≡ 45 → ⊥)
+module _ (s : List ℕ) (at : ℕ) (inside : at < length s) (no_space : is_space (byte_at s at) ≡ false)
+    (no_digit : is_digit (byte_at s at) ≡ false) (no_plus : byte_at s at ≡ 43 → ⊥) (no_minus : byte_at s at ≡ 45 → ⊥)
   where
     -- such a byte, and what may follow it
     bare : (u : List ℕ) → Bare (byte_at s at ∷ u)
     unfolding leading
-    bare u = (rw no_space refl, rw (ne_eqb (byte_at s at) 45 no_minus, ne_eqb (byte_at s at) 43 no_plus) refl, rw no_digit refl)
+    bare u =
+        let minus = ne_eqb (byte_at s at) 45 no_minus in
+        let plus = ne_eqb (byte_at s at) 43 no_plus in
+        (rw no_space refl, rw (minus, plus) refl, rw no_digit refl)
 
     here : Bare (drop at s)
     here = rw (drop-cons s at 0 inside) (bare (drop (suc at) s))
@@ -43,8 +46,11 @@ module _ (s : List ℕ) (at : ℕ) (inside : at < length s) (no_space : is_space
     part zero = (refl, refl, refl)
     part (suc w) = rw (drop-cons s at 0 inside) (bare (take w (drop (suc at) s)))
 
-    pub no_number : (width pattern : ℕ) (free : Bool) → width ≤ length s - at → number_at s at width pattern free ≡ Refused (NotInteger pattern)
+    pub no_number : (width pattern : ℕ) (free : Bool) → width ≤ length s - at
+        → number_at s at width pattern free ≡ Refused (NotInteger pattern)
     unfolding number_at fixed_at checked
     no_number width pattern true room = rw (nothing s at here, eq-eqb at at refl)
     no_number width pattern false room =
-        rw (here.0, add-zero at, nothing (take width (drop at s)) 0 (part width), le-ltb (length s - at) width room, add-zero at, eq-eqb at at refl)
+        let reads_nothing = nothing (take width (drop at s)) 0 (part width) in
+        let fits = le-ltb (length s - at) width room in
+        rw (here.0, add-zero at, reads_nothing, fits, add-zero at, eq-eqb at at refl)

@@ -38,6 +38,7 @@ fn last_letters(s: &[u8], at: usize) -> u64
     letters(four(s[at], b, c, d), four(e, f, g, h))
 }
 
+// The eight letters from a place on.
 fn letters_at(s: &[u8], at: usize) -> u64
     requires { at < length s.now }
     ensures { result ≡ letters_at s.now at }

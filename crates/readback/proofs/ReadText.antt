@@ -68,9 +68,9 @@ full_is set t e =
     let known = both (eqb (first_unwritten (nodes_of t)) all_written) _ text.1 in
     record { short = leb-true _ _ short.0; text = text.0; known = eqb-true _ _ known.0; full = known.1 }
 
-module _ (set : Settings) (t : List ℕ) (written_full : is_full set t ≡ true) (joined : MarksJoined set t) where
+module _ (set : Settings) (t : List ℕ) (full_template : is_full set t ≡ true) (joined : MarksJoined set t) where
   checks : Full set t
-  checks = full_is set t written_full
+  checks = full_is set t full_template
 
   -- the nodes of the caller's mode
   abbrev ns : List Node

@@ -36,24 +36,24 @@ after : (c : tie.Else-count-lt0) → to_z w64 (of_z w64 c.args.count) ≡ pos (n
 after c = to_z-of_z c.ranges.count ∙ kept c.args.count (rw (to_z-of_z c.ranges.count) at c.if-count-lt0.false)
 
 -- what the call gives, for either
-result : (c : tie.After-rounded_magnitude) → c.rounded_magnitude.result ≡ answer c.before.before
-result c = rw (before c.before, to_z-of_z (magnitude c.before.before)) at c.rounded_magnitude.ensures
+result_before : (c : tie.After-rounded_magnitude) → c.rounded_magnitude.result ≡ answer c.before.before
+result_before c = rw (before c.before, to_z-of_z (magnitude c.before.before)) at c.rounded_magnitude.ensures
 
-result_before_2000 : (c : tie.After-rounded_magnitude-else-count-lt0) → c.rounded_magnitude-else-count-lt0.result ≡ answer c.before.before
-result_before_2000 c = rw (after c.before) at c.rounded_magnitude-else-count-lt0.ensures
+result_after : (c : tie.After-rounded_magnitude-else-count-lt0) → c.rounded_magnitude-else-count-lt0.result ≡ answer c.before.before
+result_after c = rw (after c.before) at c.rounded_magnitude-else-count-lt0.ensures
 
 -- before 2000
 returns : tie.Need-returns-then-count-lt0
 returns c =
     let at_start = c.before.before in
-    rw (result c, to_z-of_z (fits at_start), +ℤ_idl, to_z-of_z (fits_turned at_start))
+    rw (result_before c, to_z-of_z (fits at_start), +ℤ_idl, to_z-of_z (fits_turned at_start))
     (away_before at_start.args.scale at_start.args.count (rw (to_z-of_z at_start.ranges.count) at c.if-count-lt0.true))
 
 -- from 2000 on
 returns-2 : tie.Need-returns-else-count-lt0
 returns-2 c =
     let at_start = c.before.before in
-    rw (result_before_2000 c, to_z-of_z (fits at_start)) (away_after at_start.args.scale at_start.args.count (rw (to_z-of_z at_start.ranges.count) at c.if-count-lt0.false))
+    rw (result_after c, to_z-of_z (fits at_start)) (away_after at_start.args.scale at_start.args.count (rw (to_z-of_z at_start.ranges.count) at c.if-count-lt0.false))
 
 pub rounded_count_spec : {M : Type 1} → statement M
 rounded_count_spec =
@@ -62,10 +62,10 @@ rounded_count_spec =
     (λ c. rw (before c) (magnitude c.before))
     (λ c. rw (before c, to_z-of_z (magnitude c.before)) (tt, omega (arith, magnitude c.before)))
     (λ c κs. rw (before c, to_z-of_z (magnitude c.before)) c.requires)
-    (λ c. rw (result c) (fits c.before.before))
-    (λ c. rw (result c, to_z-of_z (fits c.before.before), +ℤ_idl) (fits_turned c.before.before))
+    (λ c. rw (result_before c) (fits c.before.before))
+    (λ c. rw (result_before c, to_z-of_z (fits c.before.before), +ℤ_idl) (fits_turned c.before.before))
     (λ c. rw (after c) (tt, omega (arith, magnitude c.before)))
     (λ c κs. search rules)
-    (λ c. rw (result_before_2000 c) (fits c.before.before))
+    (λ c. rw (result_after c) (fits c.before.before))
     returns
     returns-2)

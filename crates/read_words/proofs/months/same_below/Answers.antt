@@ -5,12 +5,10 @@ use mathlib.Core.Bool.{Bool, true, false}
 use Prim.Native.Nat.{ℕ, ◌+◌, ◌-◌, ◌*◌, ◌/◌, ◌%◌, ◌^◌, ◌<◌}
 use native.Mathlib.Nat.{add-zero, mul-mod_left}
 use native.Mathlib.Omega.{arith}
-use borrow.Author.Rules.{rules}
 use borrow.Author.Tests.{eq-eqb, ne_eqb, eqb-true, eqb-false}
 use lib.Dec.{eqb}
 use lib.Pow.{mod-pow-add, shl-shr}
-use Rattle.read_words.proofs.months.same_below.Statement.{statement}
-use Rattle.read_words.proofs.months.same_below.Tie as tie
+use Rattle.read_words.proofs.months.same_below.Goals as goal
 
 module _ (left : ℕ) (h : left < 64) where
   shifted : (x : ℕ) → x * 2 ^ left % 2 ^ 64 ≡ x % 2 ^ (64 - left) * 2 ^ left
@@ -29,11 +27,8 @@ module _ (left : ℕ) (h : left < 64) where
       split false q =
           ne_eqb _ _ (λ e. eqb-false a b q (sym (shl-shr a left) ∙ ap (λ (n : ℕ). n / 2 ^ left) e ∙ shl-shr b left))
 
-returns : tie.Need-returns
+pub returns : goal.returns
 returns c =
     let args = c.args in
     rw (shifted args.left c.requires args.x, shifted args.left c.requires args.y)
     (same_shifted args.left c.requires (args.x % 2 ^ (64 - args.left)) (args.y % 2 ^ (64 - args.left)))
-
-pub same_below_spec : {M : Type 1} → statement M
-same_below_spec = tie.close (tie.spec (λ c. search rules) (λ c. search rules) returns)
