@@ -6,19 +6,21 @@
 -- where a character begins it counts alone. `plain_one`: a byte of ASCII that is no letter is one
 -- character in both modes. `ascii_one`: so is any byte of ASCII before one that begins no mark.
 -- `usual_is`: the usual length, where there is one, is the length in both modes. `usual_within`: it is within the text.
-use mathlib.Core.Path.{◌≡◌, refl}
+use mathlib.Core.Path.{◌≡◌, ◌∙◌, refl}
 use mathlib.Core.Bool.{Bool, true, false, ◌&&◌, and-false}
 use mathlib.Core.List.{List}
 use Prim.Native.Nat.{ℕ, ◌+◌, ◌-◌, ◌≤◌, ◌<◌, min}
 use native.Mathlib.Nat.{add_assoc, add-zero, sub-zero, zero-add}
 use native.Mathlib.Omega.{arith}
 use borrow.Author.Tests.{le-ltb, lt-ltb, ltb-true}
+use Rattle.std.specs.Prelude.{Option, Some, None}
+use Rattle.std.proofs.lemmas.Option.{none-some, same_Some}
 use lib.Dec.{ltb}
 use lib.ListN.{length, drop, length-drop}
 use lib.Seq.{drop-drop, get_or-drop}
 use Rattle.base_notation.specs.Text.{byte_at}
 use Rattle.base_notation.proofs.Cases.{by_if}
-use Rattle.base_chars.specs.Character.{char_length, lead}
+use Rattle.base_chars.specs.Character.{char_length}
 use Rattle.base_chars.specs.Class.{is_letter}
 use Rattle.base_chars.specs.Range.{◌‥◌, ◌∈◌}
 use Rattle.base_chars.proofs.Characters.{lead_one, lead_two, measure}
@@ -90,28 +92,30 @@ module _ (s : List ℕ) (at : ℕ) where
   unfolding char_length
   ascii_one accents h small next = bare accents 1 (omega (arith, lead_one (byte_at s at) (omega arith))) next
 
-  -- what holds of 0, and of 1 and 2 where they are the usual length, holds of that length
-  by_usual : (P : ℕ → Type 0) → P 0 → (byte_at s at < 0x80 → byte_at s (at + 1) < 0xcc → P 1)
-      → (0xc0 ≤ byte_at s at → byte_at s at ≤ 0xcb → byte_at s (at + 2) < 0xcc → P 2) → P (usual_length s at)
+  -- what holds of none, and of 1 and 2 where they are the usual length, holds of that length
+  by_usual : (P : Option ℕ → Type 0) → P None → (byte_at s at < 0x80 → byte_at s (at + 1) < 0xcc → P (Some 1))
+      → (0xc0 ≤ byte_at s at → byte_at s at ≤ 0xcb → byte_at s (at + 2) < 0xcc → P (Some 2)) → P (usual_length s at)
   unfolding usual_length
   by_usual P none one two =
       by_if P (ltb (byte_at s at) 0x80) _ _
-      (λ small. by_if P (ltb (byte_at s (at + 1)) 0xcc) 1 0 (λ next. one (ltb-true _ _ small) (ltb-true _ _ next)) (λ next. none))
-      (λ wide. by_if P (byte_at s at ∈ 0xc0 ‥ 0xcb) _ 0
+      (λ small. by_if P (ltb (byte_at s (at + 1)) 0xcc) (Some 1) None (λ next. one (ltb-true _ _ small) (ltb-true _ _ next)) (λ next. none))
+      (λ wide. by_if P (byte_at s at ∈ 0xc0 ‥ 0xcb) _ None
       (λ first. let range = bounds (0xc0 ‥ 0xcb) (byte_at s at) first in
-      by_if P (ltb (byte_at s (at + 2)) 0xcc) 2 0 (λ next. two range.0 range.1 (ltb-true _ _ next)) (λ next. none))
+      by_if P (ltb (byte_at s (at + 2)) 0xcc) (Some 2) None (λ next. two range.0 range.1 (ltb-true _ _ next)) (λ next. none))
       (λ other. none))
 
   module _ (room : at + 1 < length s) where
-    pub usual_is : (usual_length s at ≡ 0 → ⊥) → (accents : Bool) → measure_of accents s at ≡ usual_length s at
+    pub usual_is : (n : ℕ) → usual_length s at ≡ Some n → (accents : Bool) → measure_of accents s at ≡ n
     unfolding char_length
-    usual_is some accents =
-        by_usual (λ k. (k ≡ 0 → ⊥) → measure_of accents s at ≡ k) (λ no. absurd (no refl))
-        (λ small next yes. ascii_one accents (omega arith) small next)
-        (λ from to next yes. bare accents 2 (omega (arith, lead_two (byte_at s at) from (omega arith))) next) some
+    usual_is n e accents =
+        by_usual (λ o. o ≡ Some n → measure_of accents s at ≡ n) (λ none. absurd (none-some n none))
+        (λ small next one. ascii_one accents (omega arith) small next ∙ same_Some 1 n one)
+        (λ from to next two. bare accents 2 (omega (arith, lead_two (byte_at s at) from (omega arith))) next ∙ same_Some 2 n two) e
 
-    pub usual_within : usual_length s at ≤ length s - at
-    usual_within = by_usual (λ k. k ≤ length s - at) (omega arith) (λ small next. omega arith) (λ from to next. omega arith)
+    pub usual_within : (n : ℕ) → usual_length s at ≡ Some n → n ≤ length s - at
+    usual_within n e =
+        by_usual (λ o. o ≡ Some n → n ≤ length s - at) (λ none. absurd (none-some n none))
+        (λ small next one. omega (arith, same_Some 1 n one)) (λ from to next two. omega (arith, same_Some 2 n two)) e
 
   -- a mark has two bytes, and counts alone where a character begins
   module _ (e : mark_at s at ≡ true) where

@@ -3,20 +3,19 @@
 -- accents mode by what begins with no mark.
 -- `past_character`, `whole_character`: in UTF-8 a character ends where another begins, and is UTF-8 by itself.
 use mathlib.Core.Path.{◌≡◌, ◌∙◌, refl, sym, ap}
-use mathlib.Core.Bool.{Bool, true, false, not, ◌&&◌}
+use mathlib.Core.Bool.{Bool, true, false, ◌&&◌}
 use mathlib.Core.List.{List, [], ◌∷◌, ◌++◌, append_assoc}
 use Prim.Native.Nat.{ℕ, suc, ◌+◌, ◌≤◌, ◌<◌}
 use native.Mathlib.Nat.{add_assoc, zero-add}
 use native.Mathlib.Omega.{arith}
 use borrow.Author.Tests.{eqb-true}
-use lib.Dec.{eqb, ltb, lit<}
+use lib.Dec.{eqb, lit<}
 use lib.ListN.{length, take, drop, length-append, length-take, get_or-append}
 use lib.Seq.{drop-drop, drop_at, get_or-take, take-add}
 use Rattle.base_notation.specs.Choice.{when◌then◌else◌}
 use Rattle.base_notation.specs.Text.{byte_at}
 use Rattle.base_notation.proofs.Cases.{both}
 use Rattle.base_chars.specs.Character.{char_length, lead}
-use Rattle.base_chars.specs.Class.{is_letter}
 use Rattle.base_chars.specs.Range.{◌‥◌, ◌∈◌}
 use Rattle.base_chars.specs.Utf8.{sequence, well_formed}
 use Rattle.base_chars.proofs.Characters.{lead_two, lead_bounds}

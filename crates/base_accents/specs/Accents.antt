@@ -1,6 +1,6 @@
 -- A letter with its accents is one character. The accents are the marks U+0300 to U+036F. Those right after a letter
 -- count with it; a mark after anything else counts alone. Without the accents mode each of them counts alone.
-use Rattle.std.specs.Prelude.{◌≡◌, refl, Bool, true, false, not, ◌&&◌, List, [], ◌∷◌, ◌++◌, map, ℕ, suc, ◌+◌, ◌-◌, ◌≤◌, min, eqb, ltb, length, drop, replicate}
+use Rattle.std.specs.Prelude.{◌≡◌, refl, Bool, true, false, not, ◌&&◌, List, [], ◌∷◌, ◌++◌, map, ℕ, suc, ◌+◌, ◌-◌, ◌≤◌, min, eqb, ltb, Option, Some, None, length, drop}
 use Prim.Native.Char.{code}
 use Rattle.base_notation.specs.Choice.{when◌then◌else◌}
 use Rattle.base_notation.specs.Text.{byte_at, encoded, utf8}
@@ -32,13 +32,13 @@ measure_of accents s at =
     let n = char_length s at in
     when accents && letter_at s at then n + marks (drop (at + n) s) else n
 
--- 1 or 2 where the first byte and the byte after the character leave no doubt that it has so many in both modes; else 0
-unfoldable pub usual_length : List ℕ → ℕ → ℕ
+-- 1 or 2 where the first byte and the byte after the character leave no doubt of it in both modes; else none
+unfoldable pub usual_length : List ℕ → ℕ → Option ℕ
 usual_length s at =
     let b = byte_at s at in
-    when ltb b 0x80 then (when ltb (byte_at s (at + 1)) 0xcc then 1 else 0)
-    else when b ∈ 0xc0 ‥ 0xcb then (when ltb (byte_at s (at + 2)) 0xcc then 2 else 0)
-    else 0
+    when ltb b 0x80 then (when ltb (byte_at s (at + 1)) 0xcc then Some 1 else None)
+    else when b ∈ 0xc0 ‥ 0xcb then (when ltb (byte_at s (at + 2)) 0xcc then Some 2 else None)
+    else None
 
 -- r is that length: at least 1 where a byte is left, and within the text
 pub record Counted (accents : Bool) (s : List ℕ) (at r : ℕ) : Type 0 where
@@ -88,7 +88,7 @@ letters = refl
 
 -- g and à are usual; a letter before a mark, a mark and a character of three bytes are not
 pub usual
-    : (map (usual_length (utf8 "ngà")) (1 ∷ 2 ∷ []) ≡ 1 ∷ 2 ∷ [])
-    × (map (λ s. usual_length s 0) ((utf8 "u" ++ horn) ∷ (utf8 "ú" ++ horn) ∷ acute ∷ utf8 "ứ" ∷ []) ≡ 0 ∷ 0 ∷ 0 ∷ 0 ∷ [])
+    : (map (usual_length (utf8 "ngà")) (1 ∷ 2 ∷ []) ≡ Some 1 ∷ Some 2 ∷ [])
+    × (map (λ s. usual_length s 0) ((utf8 "u" ++ horn) ∷ (utf8 "ú" ++ horn) ∷ acute ∷ utf8 "ứ" ∷ []) ≡ None ∷ None ∷ None ∷ None ∷ [])
 unfolding usual_length
 usual = (refl, refl)

@@ -118,6 +118,19 @@ module _ (b : ℕ) where
   pub separator_test : is_separator b ≡ (b ∈ 33 ‥ 126 && not (is_letter b) && not (is_digit b))
   separator_test = raw_separator ∙ rw (letter_test, digit_test)
 
+  -- a separator as the library tests it: it prints, and is neither a letter nor a digit
+  pub separator_is : is_separator b ≡ (b ∈ 33 ‥ 126 && not (b ∈ 48 ‥ 57 || b ∈ 65 ‥ 90 || b ∈ 97 ‥ 122))
+  separator_is = raw_separator ∙ by (b ∈ 33 ‥ 126) (b ∈ 48 ‥ 57) (b ∈ 65 ‥ 90) (b ∈ 97 ‥ 122)
+    where
+      by : (p d u l : Bool) → (p && not (u || l) && not d) ≡ (p && not (d || u || l))
+      by false d u l = refl
+      by true true true l = refl
+      by true true false true = refl
+      by true true false false = refl
+      by true false true l = refl
+      by true false false true = refl
+      by true false false false = refl
+
   pub digit_class : 48 ≤ b → b ≤ 57 → class_of b ≡ digit
   unfolding class_of
   digit_class l h = rw (no_space (omega arith), inside (48 ‥ 57) b l h)

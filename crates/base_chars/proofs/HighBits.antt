@@ -14,8 +14,10 @@ use lib.Bits.{bit_and, and_block, and_high, shifted_half, shifted_even}
 use lib.Count.{count_trailing_zeros}
 use lib.Dec.{ltb, lit<}
 use lib.Pow.{shr-shr}
+use mir.Syntax.{w64}
+use Rattle.std.specs.Int.{from_le_bytes}
 use lib.ListN.{length, get_or, take, drop, length-drop}
-use lib.Seq.{drop-nil, drop-drop, get_or-drop, take_all}
+use lib.Seq.{drop-nil, drop-drop, take_all}
 use Rattle.base_notation.specs.Choice.{when◌then◌else◌}
 use Rattle.base_chars.specs.Range.{◌‥◌}
 use Rattle.base_chars.specs.Utf8.{well_formed, high_bits, Passed}
@@ -57,26 +59,14 @@ masked (suc n) f small =
     and_block 8 rest mask (f 0) 0x80 (small 0) (lit< tt)
     ∙ rw (masked n (λ k. f (suc k)) (λ k. small (suc k)), high_bit (f 0) (small 0))
 
--- eight bytes as the code adds them
-abbrev word : ℕ → ℕ → ℕ → ℕ → ℕ → ℕ → ℕ → ℕ → ℕ
-word a b c d e f g h =
-    a + b * 0x100 + c * 0x10000 + d * 0x1000000 + e * 0x100000000 + f * 0x10000000000 + g * 0x1000000000000 + h * 0x100000000000000
-
-module _ (s : List ℕ) (at : ℕ) (room : at + 8 ≤ length s) (small : (k : ℕ) → get_or s k 0 < 256) where
-  -- the byte k after the place
-  abbrev byte : ℕ → ℕ
-  byte k = get_or s (at + k) 0
-
-  first_eight : take 8 (drop at s) ≡ listed 8 byte
-  first_eight = taken 8 (drop at s) (omega (arith, length-drop at s)) ∙ simp get_or-drop
-
-  pub eight_high
-      : {a b c d e f g h : ℕ}
-      → a ≡ get_or s at 0 → b ≡ byte 1 → c ≡ byte 2 → d ≡ byte 3 → e ≡ byte 4 → f ≡ byte 5 → g ≡ byte 6 → h ≡ byte 7
-      → bit_and (word a b c d e f g h) 0x8080808080808080 ≡ high_bits (take 8 (drop at s))
-  eight_high {a} {b} {c} {d} {e} {f} {g} {h} ea eb ec ed ee ef eg eh =
-      let sum : word a b c d e f g h ≡ number 8 byte = omega (arith, ap (λ (k : ℕ). get_or s k 0) (add-zero at)) in
-      rw (sum, first_eight) (masked 8 byte (λ k. small (at + k)))
+pub eight_high
+    : (bs : List ℕ) → length bs ≡ 8 → ((k : ℕ) → get_or bs k 0 < 256)
+    → bit_and (from_le_bytes w64 bs) 0x8080808080808080 ≡ high_bits bs
+eight_high bs long small =
+    let bytes : ℕ → ℕ = λ k. get_or bs k 0 in
+    let sum : from_le_bytes w64 bs ≡ number 8 bytes = omega arith in
+    let all : bs ≡ listed 8 bytes = sym (take_all 8 bs (omega arith)) ∙ taken 8 bs (omega arith) in
+    rw sum (masked 8 bytes small ∙ ap high_bits (sym all))
 
 -- k zeros below a number
 zeros_below : (k j x : ℕ) → count_trailing_zeros (j + k) (x * 2 ^ k) ≡ count_trailing_zeros j x + k

@@ -12,6 +12,8 @@ pub mod Characters
 pub mod Rows
 -- the sequence that a list begins with: its length, and what follows it
 pub mod Sequences
+-- the continuations of a sequence
+mod Continued
 -- well-formed texts: taken apart, joined, and walked from character to character
 pub mod WellFormed
 -- the high bits of bytes, as one number: what lies below the lowest of them is ASCII

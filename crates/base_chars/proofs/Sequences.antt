@@ -4,7 +4,7 @@
 -- `sequence_within`: a sequence is within its list.
 -- `sequence-append`, `sequence-take`: it stays the same where bytes after it are added or cut off.
 -- `begins_on`: a row of ranges at a place is its first range there and the others from the next place on.
--- `at_row`: the sequence at a place, by the row of the table that has its first byte.
+-- `at_row`, `row_found`: the sequence at a place, by the row of the table that has its first byte.
 -- `at_low`, `at_high`: no sequence begins with a byte from 0x80 to 0xc1, or from 0xf5 on.
 use mathlib.Core.Path.{◌≡◌, ◌∙◌, refl, sym}
 use mathlib.Core.Bool.{Bool, true, false, not, ◌&&◌, ◌||◌, and-true, false≢true}
@@ -14,6 +14,7 @@ use native.Mathlib.Omega.{arith}
 use native.Mathlib.Numerals.{add-one}
 use lib.ListN.{length, get_or, take, drop, replicate, drop_of_length-le}
 use lib.Seq.{drop-cons}
+use Rattle.std.specs.Prelude.{Option, Some, None, MatchOption}
 use lib.Dec.{ltb, eqb, lit<}
 use borrow.Author.Tests.{ltb-true, ltb-false, eqb-true}
 use Rattle.base_notation.specs.Choice.{when◌then◌else◌}
@@ -140,6 +141,22 @@ module _ (s : List ℕ) (at : ℕ) (h : at < length s) where
   at_row k l from to =
       rw (add-one, drop-cons s at 0 h)
       (sym (by_row (byte_at s at) (drop (suc at) s) k l (inside (first (get_or table k [])) (byte_at s at) from to)))
+
+  -- the same of a length that is `None` where no sequence of the row follows
+  pub row_found
+      : (k : ℕ) → k < 9 → (first (get_or table k [])).low ≤ byte_at s at → byte_at s at ≤ (first (get_or table k [])).high
+      → 0 < length (get_or table k []) → (o : Option ℕ)
+      → o ≡ (when begins (others (get_or table k [])) (drop (at + 1) s) then Some (length (get_or table k [])) else None)
+      → MatchOption o (sequence (drop at s) ≡ 0) (λ n. (0 < n) × (n ≡ sequence (drop at s)))
+  row_found k l from to some o e =
+      by_test (begins (others (get_or table k [])) (drop (at + 1) s)) (at_row k l from to) e
+    where
+      by_test
+          : (t : Bool) → (when t then length (get_or table k []) else 0) ≡ sequence (drop at s)
+          → o ≡ (when t then Some (length (get_or table k [])) else None)
+          → MatchOption o (sequence (drop at s) ≡ 0) (λ n. (0 < n) × (n ≡ sequence (drop at s)))
+      by_test true q f = rw f (some, q)
+      by_test false q f = rw f (sym q)
 
   pub at_low : 0x80 ≤ byte_at s at → byte_at s at < 0xc2 → 0 ≡ sequence (drop at s)
   at_low from to = rw (drop-cons s at 0 h) (sym (no_row_low (byte_at s at) (drop (suc at) s) from to))

@@ -8,16 +8,12 @@ ghost use Rattle.base_notation.specs.Text.{byte_at};
 pub fn byte_at(t: &[u8], at: usize) -> u8
     ensures { result ≡ byte_at t.now at }
 {
-    if at < t.len() { t[at] } else { 0 }
+    t.get(at).copied().unwrap_or(0)
 }
 
 // How many of `count` bytes from a place on are within `size` bytes.
 pub fn fitting(size: usize, at: usize, count: usize) -> usize
     ensures { result ≡ min count (size - at) }
 {
-    if size <= at {
-        return 0;
-    }
-    let left = size - at;
-    if count <= left { count } else { left }
+    count.min(size.saturating_sub(at))
 }

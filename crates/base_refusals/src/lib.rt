@@ -70,10 +70,8 @@ pub fn at(pattern: u8, number: u8) -> Report
     ensures { result ≡ report number pattern (pos 0) (pos 0) }
 {
     Report {
-        number,
         pattern,
-        first: 0,
-        second: 0,
+        ..alone(number)
     }
 }
 
@@ -82,46 +80,53 @@ fn with_figures(pattern: u8, number: u8, first: u8, second: u8) -> Report
     ensures { result ≡ report number pattern (pos first) (pos second) }
 {
     Report {
-        number,
-        pattern,
-        first: first as i64,
-        second: second as i64,
+        first: i64::from(first),
+        second: i64::from(second),
+        ..at(pattern, number)
     }
 }
 
 // What a refusal reports.
+impl From<Refusal> for Report {
+    ghost from_gives = { λ why r. r ≡ report_of why };
+
+    #[tactic(auto, unfolding(crate::specs::Report::report_of))]
+    fn from(why: Refusal) -> Report {
+        match why {
+            Refusal::TooLong => alone(1),
+            Refusal::NotUtf8 => alone(2),
+            Refusal::MixedDates { pattern } => at(pattern, 3),
+            Refusal::Conflict { pattern } => at(pattern, 4),
+            Refusal::Short {
+                pattern,
+                width,
+                left,
+            } => with_figures(pattern, 5, width, left),
+            Refusal::Narrow {
+                pattern,
+                width,
+                parsed,
+            } => with_figures(pattern, 6, width, parsed),
+            Refusal::NotInteger { pattern } => at(pattern, 7),
+            Refusal::OutOfRange { pattern } => at(pattern, 8),
+            Refusal::NoWord { pattern } => at(pattern, 9),
+            Refusal::NotTwoNumbers { pattern } => at(pattern, 10),
+            Refusal::YearOutOfRange { pattern } => at(pattern, 11),
+            Refusal::ZoneLetter { pattern } => at(pattern, 12),
+            Refusal::HourOfTwelve { hour } => Report {
+                first: i64::from(hour),
+                ..alone(13)
+            },
+            Refusal::NoYear => alone(14),
+            Refusal::FieldOverflow => alone(15),
+            Refusal::OffsetRange => alone(16),
+        }
+    }
+}
+
+// The same, as a function.
 pub fn report_of(why: Refusal) -> Report
     ensures { result ≡ report_of why }
 {
-    match why {
-        Refusal::TooLong => alone(1),
-        Refusal::NotUtf8 => alone(2),
-        Refusal::MixedDates { pattern } => at(pattern, 3),
-        Refusal::Conflict { pattern } => at(pattern, 4),
-        Refusal::Short {
-            pattern,
-            width,
-            left,
-        } => with_figures(pattern, 5, width, left),
-        Refusal::Narrow {
-            pattern,
-            width,
-            parsed,
-        } => with_figures(pattern, 6, width, parsed),
-        Refusal::NotInteger { pattern } => at(pattern, 7),
-        Refusal::OutOfRange { pattern } => at(pattern, 8),
-        Refusal::NoWord { pattern } => at(pattern, 9),
-        Refusal::NotTwoNumbers { pattern } => at(pattern, 10),
-        Refusal::YearOutOfRange { pattern } => at(pattern, 11),
-        Refusal::ZoneLetter { pattern } => at(pattern, 12),
-        Refusal::HourOfTwelve { hour } => Report {
-            number: 13,
-            pattern: NO_PATTERN,
-            first: hour as i64,
-            second: 0,
-        },
-        Refusal::NoYear => alone(14),
-        Refusal::FieldOverflow => alone(15),
-        Refusal::OffsetRange => alone(16),
-    }
+    Report::from(why)
 }

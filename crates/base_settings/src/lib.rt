@@ -1,7 +1,7 @@
 // What differs from caller to caller: the limits of a template and of an input, the strict switch, the accents mode.
 #![tactic(auto)]
 
-ghost use Rattle.std.specs.Prelude.{◌≡◌, min};
+ghost use Rattle.std.specs.Prelude.{◌≡◌};
 ghost use Rattle.base_settings.specs.Bits.{accents_of, limits_of, settings_of, strict_of};
 ghost use Rattle.base_settings.specs.Limits.{input_limit, pages, template_limit};
 
@@ -65,17 +65,23 @@ fn accents_of(bits: u32) -> bool
 }
 
 // The settings that are a number's bits. Bits that mean nothing are ignored.
+impl From<u32> for Settings {
+    ghost from_gives = { λ bits set. set ≡ settings_of bits };
+
+    fn from(bits: u32) -> Settings {
+        Settings {
+            limits: limits_of(bits),
+            strict: strict_of(bits),
+            accents: accents_of(bits),
+        }
+    }
+}
+
+// The same, as a function.
 pub fn settings_of(bits: u32) -> Settings
     ensures { result ≡ settings_of bits }
 {
-    let limits = limits_of(bits);
-    let strict = strict_of(bits);
-    let accents = accents_of(bits);
-    Settings {
-        limits,
-        strict,
-        accents,
-    }
+    Settings::from(bits)
 }
 
 // The settings of the exercise pages, and of whoever names none.
@@ -85,21 +91,17 @@ pub fn pages() -> Settings
     settings_of(0)
 }
 
-fn lesser(a: usize, b: usize) -> usize
-    ensures { result ≡ min a b }
-{
-    if a <= b { a } else { b }
-}
-
 // The limit of a template, and that of an input: the caller's own, and never more than the greatest.
+#[tactic(auto, unfolding(crate::specs::Limits::template_limit))]
 pub fn template_limit(set: Settings) -> usize
     ensures { result ≡ template_limit set }
 {
-    lesser(set.limits.template, PAGE_TEMPLATE)
+    set.limits.template.min(PAGE_TEMPLATE)
 }
 
+#[tactic(auto, unfolding(crate::specs::Limits::input_limit))]
 pub fn input_limit(set: Settings) -> usize
     ensures { result ≡ input_limit set }
 {
-    lesser(set.limits.input, PAGE_INPUT)
+    set.limits.input.min(PAGE_INPUT)
 }

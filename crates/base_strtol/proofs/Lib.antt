@@ -6,8 +6,6 @@ pub mod Leading
 pub mod Decimals
 -- digits read one by one up to a limit
 pub mod Digits
--- a negative number within 64 bits
-pub mod Negated
 -- where the end of a number is
 pub mod Places
 -- a number of few digits right at a place

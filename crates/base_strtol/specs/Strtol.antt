@@ -1,5 +1,5 @@
 -- C's strtol in base 10, with a `long` of 64 bits, on the text from a place on.
-use Rattle.std.specs.Prelude.{◌≡◌, refl, Bool, true, false, not, ◌&&◌, ◌||◌, List, [], ℕ, ◌+◌, ◌-◌, ◌^◌, ◌<◌, min, eqb, ltb, ℤ, pos, negsuc, neg_ℤ, length, drop}
+use Rattle.std.specs.Prelude.{◌≡◌, refl, Bool, true, false, not, ◌&&◌, ◌||◌, List, [], ℕ, ◌+◌, ◌-◌, ◌^◌, ◌<◌, min, eqb, ltb, ℤ, pos, negsuc, neg_ℤ, length, drop, Option, Some, None}
 use Prim.Native.Char.{code}
 use Rattle.base_notation.specs.Choice.{when◌then◌else◌}
 use Rattle.base_notation.specs.Text.{byte_at, utf8}
@@ -51,11 +51,15 @@ strtol s start =
     when eqb (digits (unsigned t)) 0 then answer (pos 0) start false
     else answer (signed neg run.value) run.end run.over
 
--- the digits right at a place, where their number is below 1,000,000,000; otherwise none
-unfoldable pub short_at : List ℕ → ℕ → Short
+-- a number of few digits, and the place after it
+abbrev pub few : ℕ → ℕ → Short
+few value end = record { value = value; end = end }
+
+-- the digits right at a place, where their number is below 1,000,000,000 and there are any; otherwise none
+unfoldable pub short_at : List ℕ → ℕ → Option Short
 short_at s at =
     let t = drop at s in
-    when ltb (number t) 1000000000 then record { value = number t; end = at + digits t } else record { value = 0; end = at }
+    when ltb (number t) 1000000000 && ltb 0 (digits t) then Some (few (number t) (at + digits t)) else None
 
 -- two digits are at a place, and then a byte that is no digit
 abbrev pub Pair : List ℕ → ℕ → Type 0
@@ -68,8 +72,8 @@ is_pair s at =
     ltb (at + 2) (length s) && is_digit (byte_at s at) && is_digit (byte_at s (at + 1)) && not (is_digit (byte_at s (at + 2)))
 
 -- the number of two digits at a place, where no third follows but another byte does; otherwise none
-unfoldable pub pair_at : List ℕ → ℕ → Short
-pair_at s at = when is_pair s at then short_at s at else record { value = 0; end = at }
+unfoldable pub pair_at : List ℕ → ℕ → Option Short
+pair_at s at = when is_pair s at then short_at s at else None
 
 -- unfolds all that a number is computed by, for worked examples
 unfoldable pub strtol_computes : ℕ
@@ -90,19 +94,19 @@ missing = (refl, refl, refl, refl)
 
 -- nine digits and ten, also after zeros; a space is no digit
 pub short
-    : (short_at (utf8 "x999999999.") 1 ≡ record { value = 999999999; end = 10 })
-    × (short_at (utf8 "1000000000") 0 ≡ record { value = 0; end = 0 })
-    × (short_at (utf8 "0000000000012") 0 ≡ record { value = 12; end = 13 })
-    × (short_at (utf8 " 1") 0 ≡ record { value = 0; end = 0 })
+    : (short_at (utf8 "x999999999.") 1 ≡ Some (few 999999999 10))
+    × (short_at (utf8 "1000000000") 0 ≡ None)
+    × (short_at (utf8 "0000000000012") 0 ≡ Some (few 12 13))
+    × (short_at (utf8 " 1") 0 ≡ None)
 unfolding short_at strtol_computes
 short = (refl, refl, refl, refl)
 
 -- two digits before a dot; at the end of the text, three of them, or one: none
 pub pairs
-    : (pair_at (utf8 "x07.") 1 ≡ record { value = 7; end = 3 })
-    × (pair_at (utf8 "x07") 1 ≡ record { value = 0; end = 1 })
-    × (pair_at (utf8 "070.") 0 ≡ record { value = 0; end = 0 })
-    × (pair_at (utf8 "7.0") 0 ≡ record { value = 0; end = 0 })
+    : (pair_at (utf8 "x07.") 1 ≡ Some (few 7 3))
+    × (pair_at (utf8 "x07") 1 ≡ None)
+    × (pair_at (utf8 "070.") 0 ≡ None)
+    × (pair_at (utf8 "7.0") 0 ≡ None)
 unfolding pair_at is_pair short_at strtol_computes
 pairs = (refl, refl, refl, refl)
 

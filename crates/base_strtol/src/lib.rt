@@ -1,9 +1,9 @@
 // Numbers as C's strtol reads them.
 #![tactic(auto)]
 
-ghost use Rattle.std.specs.Prelude.{true, ◌≡◌, ◌+◌, ◌≤◌, drop};
+ghost use Rattle.std.specs.Prelude.{◌≡◌, ◌+◌, ◌≤◌, drop};
 ghost use Rattle.base_strtol.specs.Runs.{spaces};
-ghost use Rattle.base_strtol.specs.Strtol.{Pair, is_pair, minus, signs, limit, signed, digits_read, strtol, pair_at, short_at};
+ghost use Rattle.base_strtol.specs.Strtol.{is_pair, minus, signs, limit, signed, digits_read, strtol, pair_at, short_at};
 
 // What is read: the number, the place after it, and whether it was outside 64 bits.
 #[derive(Clone, Copy)]
@@ -25,38 +25,29 @@ struct Run {
 pub fn past_spaces(s: &[u8], at: usize) -> usize
     ensures { result ≡ at + spaces (drop at s.now) }
 {
-    let mut i = at;
-    while i < s.len() {
-        if base_chars::is_space_c(s[i]) {
-            i += 1;
-        } else {
+    for i in at..s.len() {
+        if !base_chars::is_space_c(s[i]) {
             return i;
         }
     }
-    i
+    at.max(s.len())
 }
 
 // Whether there is a minus sign at a place.
 fn minus_at(s: &[u8], at: usize) -> bool
     ensures { result ≡ minus (drop at s.now) }
 {
-    if at < s.len() { s[at] == b'-' } else { false }
+    matches!(s.get(at), Some(b'-'))
 }
 
 // The place after one sign, where there is one.
 fn past_sign(s: &[u8], at: usize) -> usize
     ensures { result ≡ at + signs (drop at s.now) }
 {
-    if s.len() <= at {
-        return at;
+    match s.get(at) {
+        Some(b'-' | b'+') => at + 1,
+        _ => at,
     }
-    if s[at] == b'-' {
-        return at + 1;
-    }
-    if s[at] == b'+' {
-        return at + 1;
-    }
-    at
 }
 
 // How far from 0 a signed 64-bit number can be.
@@ -77,8 +68,7 @@ fn digits_at(s: &[u8], at: usize, neg: bool) -> Run
     let most = limit_of(neg);
     let mut value: u64 = 0;
     let mut over = false;
-    let mut i = at;
-    while i < s.len() {
+    for i in at..s.len() {
         let b = s[i];
         if !base_chars::is_digit_c(b) {
             return Run {
@@ -87,9 +77,9 @@ fn digits_at(s: &[u8], at: usize, neg: bool) -> Run
                 over,
             };
         }
-        let d = (b - b'0') as u64;
-        i += 1;
-        if (most - d) / 10 < value {
+        let d = u64::from(b - b'0');
+        let room = (most - d) / 10;
+        if room < value {
             value = most;
             over = true;
         } else {
@@ -98,7 +88,7 @@ fn digits_at(s: &[u8], at: usize, neg: bool) -> Run
     }
     Run {
         value,
-        end: i,
+        end: at.max(s.len()),
         over,
     }
 }
@@ -110,95 +100,67 @@ pub struct Short {
     pub end: usize,
 }
 
-// Whether two digits are at a place, and then a byte that is no digit.
-fn is_pair(s: &[u8], at: usize) -> bool
-    ensures bytes { result ≡ true → Pair s.now at }
-    ensures test { result ≡ is_pair s.now at }
+// The number of two digits at a place before a byte that is no digit.
+#[tactic(auto, unfolding(crate::specs::Strtol::is_pair, crate::specs::Strtol::pair_at))]
+pub fn pair_number(s: &[u8], at: usize) -> Option<Short>
+    ensures { result ≡ pair_at s.now at }
 {
-    if s.len() <= at {
-        return false;
+    let [tens, ones, next, ..] = s.get(at..)? else {
+        return None;
+    };
+    if base_chars::is_digit_c(*tens)
+        && base_chars::is_digit_c(*ones)
+        && !base_chars::is_digit_c(*next)
+    {
+        return Some(Short {
+            value: u32::from(*tens - b'0') * 10 + u32::from(*ones - b'0'),
+            end: at + 2,
+        });
     }
-    if s.len() - at < 3 {
-        return false;
-    }
-    if !base_chars::is_digit_c(s[at]) {
-        return false;
-    }
-    let second = at + 1;
-    if !base_chars::is_digit_c(s[second]) {
-        return false;
-    }
-    !base_chars::is_digit_c(s[second + 1])
+    None
 }
 
-// The number of two digits at a place.
-fn pair(s: &[u8], at: usize) -> Short
-    requires { Pair s.now at }
-    ensures { result ≡ short_at s.now at }
-{
-    let second = at + 1;
-    let tens = (s[at] - b'0') as u32 * 10;
-    Short {
-        value: tens + (s[second] - b'0') as u32,
-        end: second + 1,
-    }
-}
+// The greatest number to which one digit more can be written.
+const EIGHT_DIGITS: u32 = 99_999_999;
 
 // The number of the digits right at a place, digit by digit.
-fn few_digits(s: &[u8], at: usize) -> Short
+fn few_digits(s: &[u8], at: usize) -> Option<Short>
     ensures { result ≡ short_at s.now at }
 {
     let mut value: u32 = 0;
-    let mut i = at;
-    while i < s.len() {
+    for i in at..s.len() {
         let b = s[i];
         if !base_chars::is_digit_c(b) {
-            return Short { value, end: i };
+            return (at < i).then_some(Short { value, end: i });
         }
-        if 99999999 < value {
-            return Short { value: 0, end: at };
+        if EIGHT_DIGITS < value {
+            return None;
         }
-        i += 1;
-        value = value * 10 + (b - b'0') as u32;
+        value = value * 10 + u32::from(b - b'0');
     }
-    Short { value, end: i }
+    let end = at.max(s.len());
+    (at < end).then_some(Short { value, end })
 }
 
-// The number of the digits right at a place, where it is below 1,000,000,000; otherwise 0, and the place stays. Most
-// numbers have two digits.
-pub fn short_number(s: &[u8], at: usize) -> Short
+// The number of the digits right at a place, where there are any and it is below 1,000,000,000. Most numbers have two
+// digits.
+#[tactic(auto, unfolding(crate::specs::Strtol::pair_at))]
+pub fn short_number(s: &[u8], at: usize) -> Option<Short>
     ensures { result ≡ short_at s.now at }
 {
-    if is_pair(s, at) {
-        return pair(s, at);
-    }
-    few_digits(s, at)
+    pair_number(s, at).or_else(|| few_digits(s, at))
 }
 
-// The number of two digits at a place before a byte that is no digit; otherwise 0, and the place stays.
-#[tactic(auto, unfolding(crate::specs::Strtol::pair_at))]
-pub fn pair_number(s: &[u8], at: usize) -> Short
-    ensures { result ≡ pair_at s.now at }
-{
-    if is_pair(s, at) {
-        pair(s, at)
-    } else {
-        Short { value: 0, end: at }
-    }
-}
-
-// A number with its sign. 2 ^ 63 is no i64, so the negative number is made of one less.
+// A number with its sign. 2 ^ 63 is no i64, and -2 ^ 63 is one.
 fn signed_of(neg: bool, n: u64) -> i64
     requires { n ≤ limit neg }
     ensures { result ≡ signed neg n }
 {
     if neg {
-        if n == 0 {
-            return 0;
-        }
-        return -1 - ((n - 1) as i64);
+        0i64.wrapping_sub_unsigned(n)
+    } else {
+        n.cast_signed()
     }
-    n as i64
 }
 
 // C's strtol(s + start, &end, 10): spaces, one sign, digits. With no digits the end is the start.

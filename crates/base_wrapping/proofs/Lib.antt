@@ -1,7 +1,5 @@
--- the two sides of the tests in `low_bits` and `signed`
-mod Signs
--- the lowest 32 bits of a sum, a difference and a product
-mod LowBits
+-- wrapping as the library states it
+mod Wraps
 -- what fits an i32, and so reads back from its bits as itself
 pub mod Fits
 -- small naturals, which do not wrap

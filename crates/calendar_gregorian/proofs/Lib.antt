@@ -9,8 +9,6 @@ pub mod Dates
 pub mod DaysFrom
 -- the search for the month of a day of the year
 pub mod Ends
--- the leap rule at a negative year
-pub mod Leap
 -- the table of month lengths, and the days of the first months
 pub mod Lengths
 -- which numbers are months, and their lengths

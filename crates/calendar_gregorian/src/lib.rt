@@ -22,34 +22,19 @@ pub fn pg_is_leap(y: i32) -> bool
 fn months_before(month: i32) -> usize
     ensures { result ≡ min (month_of month - 1) 12 }
 {
-    if month < 1 {
-        return 0;
-    }
-    if month > 12 {
-        return 12;
-    }
-    month as usize - 1
+    month.clamp(1, 13) as usize - 1
 }
 
 // The length of a month of 1 to 12; 0 for any other number.
 pub fn month_length(leap: bool, month: i32) -> i32
     ensures { result ≡ pos (length_of leap month) }
 {
-    if month < 1 {
-        return 0;
-    }
-    if month > 12 {
-        return 0;
-    }
-    if month == 2 {
-        if leap {
-            return 29;
-        }
-        return 28;
-    }
     match month {
+        2 if leap => 29,
+        2 => 28,
         4 | 6 | 9 | 11 => 30,
-        _ => 31,
+        1..=12 => 31,
+        _ => 0,
     }
 }
 
@@ -57,13 +42,10 @@ pub fn month_length(leap: bool, month: i32) -> i32
 pub fn days_before(leap: bool, month: i32) -> i32
     ensures { result ≡ pos (days_before leap month) }
 {
-    let n = months_before(month);
-    let row = PG_DAY_TAB[leap as usize];
+    let row = &PG_DAY_TAB[usize::from(leap)];
     let mut days = 0;
-    let mut i = 0;
-    while i < n {
-        days += row[i];
-        i += 1;
+    for length in &row[..months_before(month)] {
+        days += *length;
     }
     days
 }
@@ -72,21 +54,18 @@ pub fn days_before(leap: bool, month: i32) -> i32
 pub fn day_of_year(year: i32, month: i32, day: i32) -> i64
     ensures { result ≡ day_of_year_ℤ year month day }
 {
-    days_before(pg_is_leap(year), month) as i64 + day as i64
+    i64::from(days_before(pg_is_leap(year), month)) + i64::from(day)
 }
 
 // The month of a day of the year: the first that does not end before the day, and 13 past the year's end.
 pub fn month_of_day(leap: bool, day: i32) -> i32
     ensures { result ≡ pos (month_of_day leap day) }
 {
-    let row = PG_DAY_TAB[leap as usize];
     let mut end = 0;
-    let mut i = 0;
-    while i < 12 {
-        end += row[i];
-        i += 1;
+    for (i, length) in PG_DAY_TAB[usize::from(leap)].iter().enumerate() {
+        end += *length;
         if day <= end {
-            return i as i32;
+            return i as i32 + 1;
         }
     }
     13
@@ -97,7 +76,7 @@ pub fn month_of_day(leap: bool, day: i32) -> i32
 fn days_before_year(year: i32) -> u64
     ensures { result ≡ before_year (nat_abs (year +ℤ pos 2147484000)) }
 {
-    let y = (year as i64 + 2147483999) as u64;
+    let y = (i64::from(year) + 2147483999) as u64;
     366 + 365 * y + y / 4 - y / 100 + y / 400
 }
 

@@ -1,8 +1,8 @@
 -- The fields of `j2date` fit an i32. Assumes nothing.
--- `march_lt`: the day from March 1, plus 123, is below 489.
+-- `march_lt`: the day from March 1, plus 123, is below 489. `rest`: the remainder is the day of four years.
 -- `year_fits`: the year, less 4800, fits an i32. `year_is`: without that it is read as it is.
 -- `fields`: the date that the code makes is the definition's.
-use Rattle.std.proofs.Common.{◌≡◌, ℕ, ◌+◌, ◌-◌, ◌*◌, ◌/◌, ◌%◌, ◌^◌, ◌<◌, eqb, pos, ◌-ℤ◌, neg_ℤ, arith, to_z-of_z, w32, SFits, to_z}
+use Rattle.std.proofs.Common.{◌≡◌, ℕ, ◌+◌, ◌*◌, ◌/◌, ◌%◌, ◌^◌, ◌<◌, eqb, pos, ◌-ℤ◌, neg_ℤ, arith, to_z-of_z, w32, SFits, to_z}
 use mir.Facts.{to_z_pos}
 use Rattle.base_notation.proofs.Cases.{by_if}
 use Rattle.base_notation.proofs.Magnitudes.{add_mag}
@@ -13,6 +13,10 @@ pub march_lt : (day : ℕ) → day_from_march day < 489
 unfolding day_from_march
 march_lt day =
     by_if (λ n. n + 123 < 489) (eqb (year_of_four day) 0) ((day + 306) % 366) ((day + 305) % 365) (λ e. omega arith) (λ e. omega arith)
+
+-- the day of four years, as the code has it
+pub rest : (days : ℕ) → days % 1461 ≡ day_of_four days
+rest days = omega arith
 
 -- the year, 4800 years on
 abbrev pub year_of : ℕ → ℕ

@@ -11,3 +11,5 @@ pub mod DayNumber
 pub mod Inverse
 -- weekdays and weeks are those of ISO 8601
 pub mod IsoWeeks
+-- sums, differences and products of i32 by their bits
+mod Wrapping

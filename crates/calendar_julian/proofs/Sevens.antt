@@ -1,24 +1,15 @@
--- The remainder by seven and the quotient by seven fit, for either sign. Assumes nothing.
--- `rem_back`: the remainder is read as it is. `up_fits`, `up_back`: and so is it with 7 added.
+-- The remainder by seven and the quotient by seven, for either sign. Assumes nothing.
+-- `mod7_is`: the remainder that is never negative is the definition's.
 -- `week_fits`: the quotient of an i32, plus 1, fits.
-use Rattle.std.proofs.Common.{◌≡◌, suc, ◌+◌, ◌/◌, ◌%◌, ◌≤◌, ℤ, pos, negsuc, ◌+ℤ◌, arith, to_z-of_z, w32, SFits}
-use lib.Signed.{mag, rem_z}
+use Rattle.std.proofs.Common.{◌≡◌, refl, ap, ℕ, ◌-◌, zero, neg_ℤ, suc, ◌/◌, ◌%◌, ◌≤◌, ℤ, pos, negsuc, ◌+ℤ◌, arith, w32, SFits, le-ltb}
+use lib.Signed.{mag}
+use Rattle.std.specs.Int.{int_rem_euclid}
+use Rattle.std.specs.Prelude.{int_lt}
+use Rattle.base_notation.specs.Choice.{when◌then◌else◌}
+use Rattle.calendar_julian.specs.Week.{mod7}
 use Rattle.base_wrapping.specs.Wrap.{wrap32, ◌÷◌}
 use Rattle.base_notation.proofs.Magnitudes.{add_mag, neg_mag_le}
-use Rattle.base_wrapping.proofs.Fits.{read, wrap_fits}
-
-rem_mag : (z : ℤ) → mag (rem_z z (pos 7)) ≤ 6
-rem_mag (pos a) = omega arith
-rem_mag (negsuc a) = neg_mag_le (suc a % 7) 6 (omega arith)
-
-pub up_fits : (z : ℤ) → SFits w32 (rem_z z (pos 7) +ℤ pos 7)
-up_fits z = omega (arith, rem_mag z, add_mag (rem_z z (pos 7)) (pos 7))
-
-pub rem_back : (z : ℤ) → read (rem_z z (pos 7)) ≡ rem_z z (pos 7)
-rem_back z = to_z-of_z {w = w32} (omega (arith, rem_mag z))
-
-pub up_back : (z : ℤ) → read (rem_z z (pos 7) +ℤ pos 7) ≡ rem_z z (pos 7) +ℤ pos 7
-up_back z = to_z-of_z (up_fits z)
+use Rattle.base_wrapping.proofs.Fits.{wrap_fits}
 
 quot_mag : (z : ℤ) → SFits w32 z → mag (z ÷ pos 7) ≤ 306783379
 quot_mag (pos a) f = omega arith
@@ -26,3 +17,15 @@ quot_mag (negsuc a) f = neg_mag_le (suc a / 7) 306783379 (omega arith)
 
 pub week_fits : (z : ℤ) → SFits w32 (wrap32 z ÷ pos 7 +ℤ pos 1)
 week_fits z = omega (arith, quot_mag (wrap32 z) (wrap_fits z), add_mag (wrap32 z ÷ pos 7) (pos 1))
+
+-- the remainder r, or -r, of a number toward zero
+not_negative : (r : ℕ) → pos r ≡ when int_lt (pos r) (pos 0) then pos r +ℤ pos 7 else pos r
+not_negative r = rw (le-ltb r 0 (omega arith))
+
+negative : (a r : ℕ) → suc a % 7 ≡ r → pos (6 - a % 7) ≡ when int_lt (neg_ℤ (pos r)) (pos 0) then neg_ℤ (pos r) +ℤ pos 7 else neg_ℤ (pos r)
+negative a zero e = ap pos (omega arith)
+negative a (suc k) e = rw (le-ltb 7 (suc k) (omega arith)) (ap pos (omega arith))
+
+pub mod7_is : (z : ℤ) → int_rem_euclid z (pos 7) ≡ mod7 z
+mod7_is (pos a) = not_negative (a % 7)
+mod7_is (negsuc a) = negative a (suc a % 7) refl

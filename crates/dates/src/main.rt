@@ -3,11 +3,10 @@
 // program. Output that nobody reads any longer ends it too, without a report.
 #![tactic(auto)]
 
-ghost use Rattle.std.specs.Prelude.{◌≡◌, false, ◌≤◌, ◌<◌, length, drop};
+ghost use Rattle.std.specs.Prelude.{◌≤◌, ◌<◌, ⊤, IfOk, MatchOption, length, drop};
 ghost use Rattle.line_texts.specs.Texts.{NoneLeft, longest};
 
 use line_answers::Mode;
-use line_texts::Choice;
 use std::env::{Env, FillError};
 use std::fmt::InlineText;
 use std::io;
@@ -20,40 +19,26 @@ const BUFFER: usize = 65536;
 // The status where nobody reads the output any longer: the one that a shell gives a program that SIGPIPE ended.
 const CLOSED: u8 = 141;
 
-// What is left between two reads: the bytes kept of an unfinished line, whether its beginning was left off, whether
-// something failed, whether that is since nobody reads the output any longer, and how many reads may come. A proved
-// loop has to end, and nothing says that the input does: so the reads are counted.
+// Why no more is read and answered: nobody reads the output any longer, or what failed was reported.
+#[derive(Clone, Copy)]
+enum Stop {
+    Closed,
+    Reported,
+}
+
+// What is left between two reads: the bytes kept of an unfinished line, none where its beginning was left off, and how
+// many reads may come. A proved loop has to end, and nothing says that the input does: so the reads are counted.
 #[derive(Clone, Copy)]
 struct State {
-    kept: usize,
-    long: bool,
-    failed: bool,
-    closed: bool,
+    kept: Option<usize>,
     reads: u64,
 }
 
-// Where the input ends in its buffer after a read, unless it could not be read.
-#[derive(Clone, Copy)]
-struct Got {
-    end: usize,
-    failed: bool,
-}
-
-// Whether answers could not be written, and whether that is since nobody reads them any longer.
-#[derive(Clone, Copy)]
-struct Written {
-    failed: bool,
-    closed: bool,
-}
-
-// What is left of a text: its lines before `from` are answered, unless the answers could not be written (`failed`,
-// `closed`). `long` says that the next line began before the text.
+// What is left of a text: its lines before `from` are answered. `long` says that the next line began before the text.
 #[derive(Clone, Copy)]
 struct Rest {
     from: usize,
     long: bool,
-    failed: bool,
-    closed: bool,
 }
 
 // Says on standard error what failed, and why in the system's words, without the error's number.
@@ -67,42 +52,35 @@ fn report(rt: &impl Eprint, what: &str, error: io::Error) {
     let _ = eprintln!(rt; "dates: {what}: {why}");
 }
 
-// Reads after the bytes that are kept.
-fn read_on(rt: &impl Eprint, reader: &mut impl Read, input: &mut [u8], kept: usize) -> Got
+// Reads after the bytes that are kept. The result is where the input ends in its buffer.
+fn read_on(
+    rt: &impl Eprint,
+    reader: &mut impl Read,
+    input: &mut [u8],
+    kept: usize,
+) -> Result<usize, Stop>
     requires { kept ≤ length input.old }
-    ensures { result.end ≤ length input.new }
+    ensures { IfOk result (λ end. end ≤ length input.new) }
 {
     match reader.read(&mut input[kept..]) {
-        Ok(count) => Got {
-            end: kept + count,
-            failed: false,
-        },
+        Ok(count) => Ok(kept + count),
         Err(error) => {
             report(rt, "standard input", error);
-            Got {
-                end: kept,
-                failed: true,
-            }
+            Err(Stop::Reported)
         }
     }
 }
 
 // Writes answers.
-fn write_out(rt: &(impl Print + Eprint), answers: &[u8]) -> Written {
+fn write_out(rt: &(impl Print + Eprint), answers: &[u8]) -> Result<(), Stop> {
     match rt.write_all(answers) {
-        Ok(()) => Written {
-            failed: false,
-            closed: false,
-        },
+        Ok(()) => Ok(()),
         Err(error) => {
-            let closed = error.kind() == ErrorKind::BrokenPipe;
-            if !closed {
-                report(rt, "standard output", error);
+            if error.kind() == ErrorKind::BrokenPipe {
+                return Err(Stop::Closed);
             }
-            Written {
-                failed: true,
-                closed,
-            }
+            report(rt, "standard output", error);
+            Err(Stop::Reported)
         }
     }
 }
@@ -114,40 +92,28 @@ fn answer_text(
     text: &[u8],
     long: bool,
     out: &mut [u8],
-) -> Rest
+) -> Result<Rest, Stop>
     requires { longest ≤ length out.old }
-    ensures { result.failed ≡ false → NoneLeft (drop result.from text.now) }
+    ensures { IfOk result (λ rest. NoneLeft (drop rest.from text.now)) }
 {
-    let mut s = Rest {
-        from: 0,
-        long,
-        failed: false,
-        closed: false,
-    };
+    let mut s = Rest { from: 0, long };
     while s.from < text.len() {
         let from = s.from;
         let a = line_texts::answer_lines(mode, &text[from..], s.long, out);
         let at = a.at;
-        let written = write_out(rt, &out[0..at]);
-        s.closed = written.closed;
-        if written.failed {
-            return Rest { failed: true, ..s };
-        }
+        write_out(rt, &out[0..at])?;
         if a.from == 0 {
-            return s;
+            return Ok(s);
         }
         s = Rest {
             from: from + a.from,
             long: a.long,
-            failed: false,
-            closed: false,
         };
     }
-    s
+    Ok(s)
 }
 
-// Reads once and answers the lines that end there. At the end of the input, and where something failed, no read is
-// left.
+// Reads once and answers the lines that end there. At the end of the input no read is left.
 fn turn(
     rt: &(impl Print + Eprint),
     reader: &mut impl Read,
@@ -155,109 +121,81 @@ fn turn(
     input: &mut [u8],
     out: &mut [u8],
     s: State,
-) -> State
-    requires { (s.kept ≤ length input.old) × (longest ≤ length out.old) × (0 < s.reads) }
-    ensures { (result.kept ≤ length input.new) × (result.reads < s.reads) }
+) -> Result<State, Stop>
+    requires { MatchOption s.kept ⊤ (λ n. n ≤ length input.old) × (longest ≤ length out.old) × (0 < s.reads) }
+    ensures { IfOk result (λ t. MatchOption t.kept ⊤ (λ n. n ≤ length input.new) × (t.reads < s.reads)) }
 {
-    let got = read_on(rt, reader, input, s.kept);
-    if got.failed {
-        return State {
-            failed: true,
-            reads: 0,
-            ..s
-        };
+    let kept = s.kept.unwrap_or(0);
+    let end = read_on(rt, reader, input, kept)?;
+    if end == kept {
+        return Ok(State { reads: 0, ..s });
     }
-    if got.end == s.kept {
-        return State { reads: 0, ..s };
-    }
-    let end = got.end;
-    let rest = answer_text(rt, mode, &input[0..end], s.long, out);
-    let k = line_buffers::keep(input, rest.from, end, rest.long);
-    if rest.failed {
-        return State {
-            kept: k.count,
-            long: k.long,
-            failed: true,
-            closed: rest.closed,
-            reads: 0,
-        };
-    }
-    State {
-        kept: k.count,
-        long: k.long,
-        failed: false,
-        closed: false,
+    let rest = answer_text(rt, mode, &input[0..end], s.kept.is_none(), out)?;
+    Ok(State {
+        kept: line_buffers::keep(input, rest.from, end, rest.long),
         reads: s.reads - 1,
-    }
+    })
 }
 
-// Answers the last line, where it has no newline. The result says whether nobody reads the output any longer.
+// Answers the last line, where it has no newline.
 fn answer_last(
     rt: &(impl Print + Eprint),
     mode: Mode,
     line: &[u8],
     long: bool,
     out: &mut [u8],
-) -> bool {
-    if !long {
-        if line.len() == 0 {
-            return false;
-        }
+) -> Result<(), Stop> {
+    if !long && line.is_empty() {
+        return Ok(());
     }
     let end = line_texts::answer_line(mode, line, long, out, 0);
-    write_out(rt, &out[0..end]).closed
+    write_out(rt, &out[0..end])
 }
 
-// Answers all lines. The result says whether nobody reads the output any longer.
+// Answers all lines.
 fn answer_all(
     rt: &(impl Input + Print + Eprint),
     mode: Mode,
     input: &mut [u8],
     out: &mut [u8],
-) -> bool
+) -> Result<(), Stop>
     requires { longest ≤ length out.old }
 {
     let mut reader = rt.reader();
     let mut s = State {
-        kept: 0,
-        long: false,
-        failed: false,
-        closed: false,
+        kept: Some(0),
         reads: u64::MAX,
     };
     while s.reads > 0 {
-        s = turn(rt, &mut reader, mode, input, out, s);
+        s = turn(rt, &mut reader, mode, input, out, s)?;
     }
-    if s.failed {
-        return s.closed;
-    }
-    let kept = s.kept;
-    answer_last(rt, mode, &input[0..kept], s.long, out)
+    let kept = s.kept.unwrap_or(0);
+    answer_last(rt, mode, &input[0..kept], s.kept.is_none(), out)
 }
 
 // The mode that the one argument names, and parts without any. An argument longer than the buffer is read as an empty
 // name.
-fn chosen(rt: &impl Env) -> Choice {
+fn chosen(rt: &impl Env) -> Option<Mode> {
     let mut name = [0u8; 16];
     if !matches!(rt.arg(2, &mut name), Err(FillError::NotPresent)) {
-        return Choice::Unknown;
+        return None;
     }
     match rt.arg(1, &mut name) {
         Ok(len) => line_texts::choice_of(&name[0..len]),
         Err(FillError::TooLong) => line_texts::choice_of(b""),
-        Err(FillError::NotPresent) => Choice::Of(Mode::Parts),
+        Err(FillError::NotPresent) => Some(Mode::Parts),
     }
 }
 
 fn main(rt: HostRuntime) -> ExitCode {
-    let Choice::Of(mode) = chosen(&rt) else {
+    let Some(mode) = chosen(&rt) else {
         let _ = eprintln!(rt; "dates: the one argument is parts, instant, date or write");
         return ExitCode::SUCCESS;
     };
     let mut input = [0u8; BUFFER];
     let mut output = [0u8; BUFFER];
-    if answer_all(&rt, mode, &mut input, &mut output) {
-        return ExitCode::from(CLOSED);
+    match answer_all(&rt, mode, &mut input, &mut output) {
+        Err(Stop::Closed) => ExitCode::from(CLOSED),
+        Err(Stop::Reported) | Ok(()) => ExitCode::SUCCESS,
     }
-    ExitCode::SUCCESS
 }

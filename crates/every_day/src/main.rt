@@ -8,7 +8,6 @@ ghost use Rattle.std.proofs.Common.{of_z};
 
 use calendar_julian::Date;
 use std::io;
-use std::num::wrapping_add_u64;
 
 // The Julian days of 0001-01-01 and 9999-12-31.
 const FIRST: u32 = 1721426;
@@ -19,32 +18,23 @@ const LAST: u32 = 5373484;
 fn times_prime(h: u64) -> u64
     ensures { result ≡ h * 1099511628211 % 2 ^ 64 }
 {
-    let high = h / 4294967296;
-    let low = h % 4294967296;
-    wrapping_add_u64(
-        low * 435,
-        (high * 435 + low * 256) % 4294967296 * 4294967296,
-    )
+    h.wrapping_mul(1099511628211)
 }
 
 // The two's complement bits of x.
 fn bits(x: i64) -> u64
     ensures { result ≡ of_z w64 x }
 {
-    if x < 0 {
-        u64::MAX - (-1 - x) as u64
-    } else {
-        x as u64
-    }
+    x.cast_unsigned()
 }
 
 // The checksum h with one number more.
 fn take_up(h: u64, x: i64) -> u64 {
-    wrapping_add_u64(wrapping_add_u64(times_prime(h), bits(x)), 1)
+    times_prime(h).wrapping_add(bits(x)).wrapping_add(1)
 }
 
 fn take_int(h: u64, x: i32) -> u64 {
-    take_up(h, x as i64)
+    take_up(h, i64::from(x))
 }
 
 fn take_date(h: u64, d: Date) -> u64 {
@@ -59,11 +49,7 @@ fn take_week(h: u64, d: Date, weekday: i32) -> u64 {
         year,
         calendar_julian::pg_date2isoweek(d.year, d.month, d.day),
     );
-    if weekday == 0 {
-        take_int(week, 7)
-    } else {
-        take_int(week, weekday)
-    }
+    take_int(week, if weekday == 0 { 7 } else { weekday })
 }
 
 // The day of the year, and the days since 1970-01-01.
@@ -89,15 +75,13 @@ struct Days {
 }
 
 fn all_days() -> Days {
-    let mut count: u64 = 0;
-    let mut h: u64 = 0;
-    let mut day = FIRST;
-    while day <= LAST {
-        h = take_day(h, day as i32);
+    let mut count = 0;
+    let mut checksum = 0;
+    for day in FIRST..=LAST {
+        checksum = take_day(checksum, day as i32);
         count += 1;
-        day += 1;
     }
-    Days { count, checksum: h }
+    Days { count, checksum }
 }
 
 fn main(rt: HostRuntime) -> io::Result<()> {

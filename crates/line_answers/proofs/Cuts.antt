@@ -3,6 +3,7 @@
 -- `counted_within`: no more bytes count than the line has.
 -- `text_within`, `text_written`, `text_unwritten`: what is written is within 512 bytes and is the answer; else the
 -- report is.
+use Rattle.std.specs.Prelude.{Err, Ok, Result}
 use mathlib.Core.Path.{◌≡◌, ◌∙◌, sym}
 use mathlib.Core.List.{List, []}
 use Prim.Native.Nat.{ℕ, ◌+◌, ◌-◌, ◌≤◌, ◌<◌}
@@ -20,8 +21,6 @@ use Rattle.write_text.specs.Report.{unwritten_report}
 use Rattle.write_text.specs.Text.{text_of}
 use Rattle.write_text.specs.Writer.{Wrote, buffer_after, written_to}
 use Rattle.write_text.specs.declared.Unwritten.{Unwritten}
-use Rattle.write_text.specs.declared.Written.{Written}
-use Rattle.write_text.specs.declared.Written.TheVariants.{Length, Refused}
 use Rattle.write_text.proofs.Room.{to_measured}
 use Rattle.line_buffers.specs.Input.{before, Found}
 use Rattle.line_answers.specs.Items.{item, report_text}
@@ -59,23 +58,23 @@ counted_within Date line = omega arith
 counted_within Write line =
     by_if (λ (n : ℕ). n ≤ length line) (eqb (byte_at line (length line - 1)) 13) (length line - 1) (length line) (λ e. omega arith) (λ e. omega arith)
 
-module _ {set : Settings} {t after_text : List ℕ} {m : Moment} {buffer : List ℕ} {r : Written} (own : set ≡ pages) (room : length buffer ≡ 512)
+module _ {set : Settings} {t after_text : List ℕ} {m : Moment} {buffer : List ℕ} {r : (Result ℕ Unwritten)} (own : set ≡ pages) (room : length buffer ≡ 512)
     (w : Wrote set t m buffer after_text r) where
   answer_is : r ≡ written_to pages t m 512
   answer_is = rw (own, room) at w.is
 
-  pub text_within : (n : ℕ) → r ≡ Length n → (n ≡ length (text_of t m)) × (n ≤ 512)
+  pub text_within : (n : ℕ) → r ≡ Ok n → (n ≡ length (text_of t m)) × (n ≤ 512)
   text_within n e = to_measured 512 pages t m n (sym answer_is ∙ e)
 
   -- the moment is that of the line
   module _ (s : List ℕ) (moment_is : m ≡ moment_of s) where
-    pub text_written : (n : ℕ) → r ≡ Length n → pair_answer Write t s ≡ accepted (item (take (n - 0) after_text))
+    pub text_written : (n : ℕ) → r ≡ Ok n → pair_answer Write t s ≡ accepted (item (take (n - 0) after_text))
     unfolding pair_answer text_answer
     text_written n e =
         let whole : n - 0 ≡ n = omega arith in
-        let after_is : after_text ≡ buffer_after (Length n) (text_of t m) buffer = rw e at w.buffer in
+        let after_is : after_text ≡ buffer_after (Ok n) (text_of t m) buffer = rw e at w.buffer in
         rw (← moment_is, sym answer_is ∙ e, whole, after_is, take_at (text_of t m) (drop n buffer) n (sym (text_within n e).0))
 
-    pub text_unwritten : (why : Unwritten) → r ≡ Refused why → pair_answer Write t s ≡ report_text (unwritten_report why)
+    pub text_unwritten : (why : Unwritten) → r ≡ Err why → pair_answer Write t s ≡ report_text (unwritten_report why)
     unfolding pair_answer text_answer
     text_unwritten why e = rw (← moment_is, sym answer_is ∙ e)

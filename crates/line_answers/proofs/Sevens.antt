@@ -3,21 +3,19 @@
 -- `too_few`, `no_number`, `too_many`, `ended`: where they are not seven numbers there are only zeros, else they are
 -- stored.
 use mathlib.Core.Path.{◌≡◌, ◌∙◌, refl, ap}
-use mathlib.Core.Bool.{true, false, and-false}
+use mathlib.Core.Bool.{and-false}
 use mathlib.Core.List.{List, [], ◌∷◌, ◌++◌, append_assoc, append-nil}
 use Prim.Native.Nat.{ℕ, zero, suc, ◌+◌, ◌-◌, ◌≤◌, ◌<◌}
 use native.Mathlib.Numerals.{add-one}
 use native.Mathlib.Omega.{arith}
 use borrow.Author.Tests.{eq-eqb, ne_eqb}
-use lib.Dec.{eqb}
 use lib.IntN.{ℤ, pos}
 use lib.ListN.{length, take, drop, set, replicate, length-set, length-take}
 use lib.Seq.{drop-drop, take_all, take-suc-set}
-use Rattle.base_strtol.specs.Runs.{leading}
 use Rattle.line_buffers.specs.Input.{before}
 use Rattle.line_numbers.specs.Items.{items_of, items_after}
 use Rattle.line_numbers.specs.Numbers.{int_of}
-use Rattle.line_numbers.specs.declared.Int.TheVariants.{Value, Malformed}
+use Rattle.std.proofs.Common.{Some, None}
 use Rattle.line_numbers.proofs.Items.{first_item}
 use Rattle.line_answers.specs.Moments.{numbers_in, seven_of}
 
@@ -91,7 +89,7 @@ module _ (s : List ℕ) where
 
     -- the item at the place, which ends before a space or the text does
     module _ (end : ℕ) (l : i < 7) (h : at ≤ length s) (e : end ≡ at + before 32 (drop at s)) where
-      pub more : (n : ℤ) → int_of (take (end - at) (drop at s)) ≡ Value n → Read (set values i n) (end + 1) (i + 1)
+      pub more : (n : ℤ) → int_of (take (end - at) (drop at s)) ≡ Some n → Read (set values i n) (end + 1) (i + 1)
       unfolding numbers_in
       more n v =
           let on = left_on at end h e in
@@ -102,7 +100,7 @@ module _ (s : List ℕ) where
             count = omega (arith, r.count, ap length on);
           }
 
-      pub no_number : int_of (take (end - at) (drop at s)) ≡ Malformed → seven_of s ≡ replicate 7 (pos 0)
+      pub no_number : int_of (take (end - at) (drop at s)) ≡ None → seven_of s ≡ replicate 7 (pos 0)
       unfolding numbers_in
       no_number v =
           let none_after : numbers_in (items_of s) ≡ take i values = r.numbers ∙ rw (left_on at end h e, v, append-nil) in

@@ -1,20 +1,17 @@
 -- The moment of a line to write: seven numbers with a space between two.
-use Rattle.std.specs.Prelude.{◌≡◌, refl, ◌&&◌, List, [], ◌∷◌, map, ℕ, eqb, ℤ, pos, negsuc, length, get_or, replicate}
-use Prim.Native.Char.{code}
+use Rattle.std.specs.Prelude.{◌≡◌, refl, Option, Some, None, ◌&&◌, List, [], ◌∷◌, map, ℕ, eqb, ℤ, pos, negsuc, length, get_or, replicate}
 use Rattle.base_notation.specs.Choice.{when◌then◌else◌}
 use Rattle.base_notation.specs.Text.{utf8}
 use Rattle.base_strtol.specs.Strtol.{strtol_computes}
 use Rattle.line_numbers.specs.Items.{items_of}
 use Rattle.line_numbers.specs.Numbers.{int_of, narrow, narrowed, number_of}
-use Rattle.line_numbers.specs.declared.Int.{Int}
-use Rattle.line_numbers.specs.declared.Int.TheVariants.{Value, Malformed}
 use Rattle.write_pieces.specs.Moment.{seven_numbers}
 use Rattle.write_pieces.specs.declared.Moment.{Moment}
 
 -- the numbers of 32 bits that items are, up to the first that is none
-abbrev pub number_then : Int → List ℤ → List ℤ
-number_then (Value z) rest = z ∷ rest
-number_then Malformed rest = []
+abbrev pub number_then : Option ℤ → List ℤ → List ℤ
+number_then (Some z) rest = z ∷ rest
+number_then None rest = []
 
 unfoldable pub numbers_in : List (List ℕ) → List ℤ
 numbers_in [] = []

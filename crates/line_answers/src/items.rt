@@ -9,7 +9,6 @@ ghost use Rattle.line_answers.specs.Lines.{Answered};
 
 use base_refusals::{NO_PATTERN, Report};
 use moment_parts::Parts;
-use moment_time::Offset;
 
 fn put_number(value: i64, out: &mut [u8], at: usize) -> usize
     ensures { Put out.old at (item (decimal value)) out.new result }
@@ -21,7 +20,7 @@ fn put_number(value: i64, out: &mut [u8], at: usize) -> usize
 fn put_int(value: i32, out: &mut [u8], at: usize) -> usize
     ensures { Put out.old at (item (decimal value)) out.new result }
 {
-    put_number(value as i64, out, at)
+    put_number(i64::from(value), out, at)
 }
 
 pub fn put_item(text: &[u8], out: &mut [u8], at: usize) -> usize
@@ -46,12 +45,12 @@ pub fn put_value(value: i64, out: &mut [u8], at: usize) -> usize
     put_number(value, out, next)
 }
 
-fn put_offset(offset: Offset, out: &mut [u8], at: usize) -> usize
+fn put_offset(offset: Option<i32>, out: &mut [u8], at: usize) -> usize
     ensures { (Put out.old at (item (offset_text offset)) out.new result) × (length (offset_text offset) ≤ 20) }
 {
     match offset {
-        Offset::Absent => put_item(b"none", out, at),
-        Offset::East(seconds) => put_int(seconds, out, at),
+        None => put_item(b"none", out, at),
+        Some(seconds) => put_int(seconds, out, at),
     }
 }
 
@@ -82,7 +81,7 @@ pub fn put_moment(p: Parts, out: &mut [u8], at: usize) -> usize
     let precision = put_int(p.precision, out, time);
     let east = p.offset;
     let offset = put_offset(east, out, precision);
-    put_number(p.marks as i64, out, offset)
+    put_number(i64::from(p.marks), out, offset)
 }
 
 // A pattern by its name, which fills its row up to a space, or `-` for none.
@@ -93,7 +92,7 @@ fn put_pattern(pattern: u8, out: &mut [u8], at: usize) -> usize
         return put_item(b"-", out, at);
     }
     let names = template_patterns::dch_names();
-    let from = 5 * pattern as usize;
+    let from = 5 * usize::from(pattern);
     let row = &names[from..from + 5];
     let len = line_buffers::find(row, 0, b' ');
     put_item(&row[0..len], out, at)
@@ -102,7 +101,7 @@ fn put_pattern(pattern: u8, out: &mut [u8], at: usize) -> usize
 pub fn put_report(r: Report, out: &mut [u8], at: usize) -> usize
     ensures { Answered out.old at (report_text r) out.new result }
 {
-    let number = line_buffers::put_decimal(r.number as i64, out, at);
+    let number = line_buffers::put_decimal(i64::from(r.number), out, at);
     let pattern = put_pattern(r.pattern, out, number);
     let first = put_number(r.first, out, pattern);
     put_number(r.second, out, first)

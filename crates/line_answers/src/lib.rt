@@ -25,27 +25,23 @@ pub enum Mode {
 const LINE: usize = 769;
 
 // How many bytes of a line count where a moment is written: a carriage return at the end is no part of the line.
+#[tactic(auto, unfolding(crate::specs::Lines::without_return))]
 fn without_return(line: &[u8]) -> usize
     ensures { result ≡ without_return line.now }
 {
-    let len = line.len();
-    if len == 0 {
-        return 0;
+    match line {
+        [front @ .., b'\r'] => front.len(),
+        _ => line.len(),
     }
-    if line[len - 1] == b'\r' {
-        return len - 1;
-    }
-    len
 }
 
 // How many count in a mode.
+#[tactic(auto, unfolding(crate::specs::Lines::counted))]
 fn counted(mode: Mode, line: &[u8]) -> usize
     ensures { result ≡ counted mode line.now }
 {
     match mode {
-        Mode::Parts => line.len(),
-        Mode::Instant => line.len(),
-        Mode::Date => line.len(),
+        Mode::Parts | Mode::Instant | Mode::Date => line.len(),
         Mode::Write => without_return(line),
     }
 }

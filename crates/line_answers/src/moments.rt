@@ -7,34 +7,33 @@ ghost use Rattle.line_answers.specs.Lines.{Answered, pair_answer};
 ghost use Rattle.line_answers.specs.declared.Mode.TheVariants.{Write};
 
 use crate::items::{put_accepted, put_item, put_report};
-use line_numbers::Int;
 use write_pieces::Moment;
-use write_text::Written;
 
 // The longest text that can be read back.
 const TEXT: usize = 512;
 
+// The numbers of a moment.
+const NUMBERS: usize = 7;
+
 // Seven numbers with a space between two; all zeros, which are no moment, for anything else.
-fn seven_of(s: &[u8]) -> [i32; 7]
+fn seven_of(s: &[u8]) -> [i32; NUMBERS]
     ensures { result ≡ seven_of s.now }
 {
-    let mut values = [0i32; 7];
+    let mut values = [0i32; NUMBERS];
     let mut at = 0;
-    let mut i = 0;
-    while i < 7 {
+    for value in &mut values {
         if s.len() < at {
-            return [0i32; 7];
+            return [0i32; NUMBERS];
         }
         let end = line_buffers::find(s, at, b' ');
-        let Int::Value(n) = line_numbers::read_int(&s[at..end]) else {
-            return [0i32; 7];
+        let Some(n) = line_numbers::read_int(&s[at..end]) else {
+            return [0i32; NUMBERS];
         };
-        values[i] = n;
+        *value = n;
         at = end + 1;
-        i += 1;
     }
     if at <= s.len() {
-        return [0i32; 7];
+        return [0i32; NUMBERS];
     }
     values
 }
@@ -60,7 +59,7 @@ pub fn text(t: &[u8], s: &[u8], out: &mut [u8], at: usize) -> usize
 {
     let mut buffer = [0u8; TEXT];
     match write_text::write(base_settings::pages(), t, moment_of(s), &mut buffer) {
-        Written::Length(len) => put_text(&buffer[0..len], out, at),
-        Written::Refused(why) => put_report(write_text::report_of(why), out, at),
+        Ok(len) => put_text(&buffer[0..len], out, at),
+        Err(why) => put_report(write_text::report_of(why), out, at),
     }
 }

@@ -5,7 +5,7 @@ pub mod Puts
 mod Digits
 -- the magnitude of a number and its text, by its sign
 pub mod Magnitude
--- a part of a buffer moved to its front, and what is kept of a line
+-- a part of a buffer moved to its front
 mod Moves
 -- where a byte is, from a place on
 mod Places

@@ -1,7 +1,7 @@
 -- Where a byte is, from a place on.
 -- `passed`: a byte that is another is passed. `here`, `nowhere`: at the byte, and at the text's end, none is passed.
 -- `found`: the place by its equation is within the text. Assumes nothing.
-use mathlib.Core.Path.{◌≡◌, ◌∙◌, sym}
+use mathlib.Core.Path.{◌≡◌}
 use mathlib.Core.Bool.{not}
 use mathlib.Core.List.{List}
 use Prim.Native.Nat.{ℕ, suc, ◌+◌, ◌≤◌, ◌<◌}

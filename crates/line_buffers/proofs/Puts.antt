@@ -1,18 +1,18 @@
 -- Texts put one after the other, and what is left off where a buffer ends.
 -- `put_then`: a text put after another is the two put as one. `put_size`: the buffer keeps its size.
--- `put_fitting`: to put as many bytes as fit is to put the text. `put_out`: a byte past the end changes nothing.
--- `sets_suc`: one byte more of a text is stored. `kept_after`: what follows the text stays. Assumes nothing.
+-- `put_fitting`: to put as many bytes as fit is to put the text. `put_none`: a text past the end changes nothing.
+-- `sets_paste`: bytes copied as a whole are as if stored one by one. Assumes nothing.
 use mathlib.Core.Path.{◌≡◌, ◌∙◌, refl, sym, ap}
 use mathlib.Core.Bool.{Bool, true, false}
 use mathlib.Core.List.{List, [], ◌∷◌, ◌++◌}
-use Prim.Native.Nat.{ℕ, zero, suc, ◌+◌, ◌-◌, ◌<◌, ◌≤◌, min}
-use native.Mathlib.Numerals.{add-one}
+use Prim.Native.Nat.{ℕ, zero, suc, ◌+◌, ◌-◌, ◌≤◌, min}
 use native.Mathlib.Nat.{add-zero, add-suc, suc-add}
 use native.Mathlib.Omega.{arith}
 use borrow.Author.Tests.{leb-true, leb-false}
 use lib.Dec.{leb}
-use lib.ListN.{length, take, get_or, set, length-append, length-set, length-take}
-use lib.Seq.{sets, length-sets, set_out, take-suc, get_or-set_other}
+use lib.ListN.{length, take, drop, set, length-append, length-set}
+use lib.Seq.{sets, sets-eq, paste, length-sets, set_out}
+use Rattle.std.proofs.lemmas.List.{length-take-le}
 use Rattle.line_buffers.specs.Output.{Put}
 
 -- past the end nothing is stored
@@ -31,18 +31,13 @@ sets_fitting l i [] (suc n) h = refl
 sets_fitting l i (v ∷ vs) zero h = sym (sets_out l i (v ∷ vs) (omega arith))
 sets_fitting l i (v ∷ vs) (suc n) h = sets_fitting (set l i v) (suc i) vs n (rw length-set (omega arith))
 
--- what follows the text stays
-pub kept_after : (l : List ℕ) (i : ℕ) (vs : List ℕ) (k : ℕ) → i + length vs ≤ k → get_or (sets l i vs) k 0 ≡ get_or l k 0
-kept_after l i [] k h = refl
-kept_after l i (v ∷ vs) k h = kept_after (set l i v) (suc i) vs k (omega arith) ∙ get_or-set_other l i k v 0 (λ e. omega arith)
+-- bytes copied into a buffer as a whole, where they fit, are stored one by one
+pub sets_paste : (l s : List ℕ) (i n : ℕ) → n ≤ length s → i + n ≤ length l → paste l i s n ≡ sets l i (take n s)
+sets_paste l s i n h k =
+    let e : length (take n s) ≡ n = length-take-le n s h in
+    sym (sets-eq (take n s) l i (omega arith) ∙ ap (λ (m : ℕ). take i l ++ take n s ++ drop (i + m) l) e)
 
 module _ (l : List ℕ) (at : ℕ) where
-  -- one byte more
-  pub sets_suc : (vs : List ℕ) (j : ℕ) → j < length vs → set (sets l at (take j vs)) (at + j) (get_or vs j 0) ≡ sets l at (take (j + 1) vs)
-  sets_suc vs j h =
-      let e : length (take j vs) ≡ j = length-take j vs ∙ omega arith in
-      rw (add-one j, take-suc vs j 0 h, ← sets-append l at (take j vs) (get_or vs j 0 ∷ []), e)
-
   pub put_size : {r : ℕ} {vs l' : List ℕ} → Put l at vs l' r → length l' ≡ length l
   put_size {r} {vs} p = ap length p.is ∙ length-sets l at vs
 
@@ -50,8 +45,8 @@ module _ (l : List ℕ) (at : ℕ) where
   pub put_fitting : (vs : List ℕ) (n : ℕ) → n ≡ min (length vs) (length l - at) → Put l at vs (sets l at (take n vs)) (at + n)
   put_fitting vs n e = record { is = sets_fitting l at vs n (omega arith); next = ap (λ (k : ℕ). at + k) e }
 
-  pub put_out : (b : ℕ) → length l ≤ at → Put l at (b ∷ []) l at
-  put_out b h = record { is = sym (sets_out l at (b ∷ []) h); next = omega arith }
+  pub put_none : (vs : List ℕ) → length l ≤ at → Put l at vs l at
+  put_none vs h = record { is = sym (sets_out l at vs h); next = omega arith }
 
   -- a text put after another: the two as one
   pub put_then : {m r : ℕ} {xs ys l₁ l₂ : List ℕ} → Put l at xs l₁ m → Put l₁ m ys l₂ r → Put l at (xs ++ ys) l₂ r

@@ -1,12 +1,11 @@
 -- Where a byte is, and what a buffer keeps of an unfinished line.
-use Rattle.std.specs.Prelude.{◌≡◌, refl, Bool, true, false, not, ◌&&◌, ◌||◌, List, [], ℕ, ◌+◌, ◌-◌, ◌≤◌, max, eqb, leb, length, drop}
+use Rattle.std.specs.Prelude.{◌≡◌, refl, ⊤, Bool, true, false, not, Option, Some, None, MatchOption, ◌&&◌, ◌||◌, List, [], ℕ, ◌+◌, ◌-◌, ◌≤◌, max, eqb, leb, length, drop}
 use Prim.Native.Char.{code}
 use Rattle.std.proofs.lemmas.List.Edits.{sets}
 use Rattle.std.proofs.Math.Seq.{slice}
 use Rattle.base_notation.specs.Choice.{when◌then◌else◌}
 use Rattle.base_notation.specs.Text.{utf8}
 use Rattle.base_strtol.specs.Runs.{leading}
-use Rattle.line_buffers.specs.declared.input.Kept.{Kept}
 
 -- how many bytes are before the first b, or in the whole text where it has none
 abbrev pub before : ℕ → List ℕ → ℕ
@@ -26,11 +25,11 @@ too_long size from to long = long || (eqb from 0 && leb size to)
 abbrev pub kept : List ℕ → ℕ → ℕ → Bool → List ℕ
 kept buf from to long = when too_long (length buf) from to long then [] else slice from to buf
 
--- the kept bytes are in front, with room after them
-pub record Keeps (buf : List ℕ) (from to : ℕ) (long : Bool) (after : List ℕ) (r : Kept) : Type 0 where
-  pub is : r ≡ record { count = length (kept buf from to long); long = too_long (length buf) from to long }
+-- the kept bytes are in front, with room after them; none where the line is too long
+pub record Keeps (buf : List ℕ) (from to : ℕ) (long : Bool) (after : List ℕ) (r : Option ℕ) : Type 0 where
+  pub is : r ≡ (when too_long (length buf) from to long then None else Some (length (kept buf from to long)))
   pub front : after ≡ sets buf 0 (kept buf from to long)
-  pub room : r.count ≤ length buf - 1
+  pub room : MatchOption r ⊤ (λ count. count ≤ length buf - 1)
 
 -- two lines and the beginning of a third, in a buffer of 8 bytes
 pub found : (before (code "\n") (utf8 "ab\nc\nde") ≡ 2) × (before (code "\n") (utf8 "de") ≡ 2)

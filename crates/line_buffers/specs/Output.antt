@@ -1,7 +1,6 @@
 -- A text put into a buffer.
-use Rattle.std.specs.Prelude.{◌≡◌, refl, List, [], ◌∷◌, ℕ, ◌+◌, ◌-◌, ◌≤◌, min, length, take}
+use Rattle.std.specs.Prelude.{◌≡◌, List, ℕ, ◌+◌, ◌-◌, min, length}
 use Rattle.std.proofs.lemmas.List.Edits.{sets}
-use Rattle.base_notation.specs.Text.{utf8}
 
 -- the buffer `after` is `before` with the text's bytes stored one by one from a place on, those past its end left off;
 -- r is the place after them

@@ -1,6 +1,6 @@
 // Lines in a buffer that is read into again and again: the unfinished one at its end moves to the front before the
 // next read.
-ghost use Rattle.std.specs.Prelude.{◌≡◌, min};
+ghost use Rattle.std.specs.Prelude.{◌≡◌};
 ghost use Rattle.std.proofs.Math.Seq.{slice};
 ghost use Rattle.line_buffers.specs.Input.{Found, Keeps, too_long};
 ghost use Rattle.line_buffers.specs.Output.{Put};
@@ -9,67 +9,40 @@ ghost use Rattle.line_buffers.specs.Output.{Put};
 pub fn find(s: &[u8], from: usize, b: u8) -> usize
     ensures { Found s.now from b result }
 {
-    let mut i = from;
-    while i < s.len() {
+    for i in from..s.len() {
         if s[i] == b {
             return i;
         }
-        i += 1;
     }
-    i
-}
-
-fn least(a: usize, b: usize) -> usize
-    ensures { result ≡ min a b }
-{
-    if a <= b { a } else { b }
+    from.max(s.len())
 }
 
 // Moves the bytes from `from` to `to` to the front; the result is their number.
 pub fn move_down(buf: &mut [u8], from: usize, to: usize) -> usize
     ensures { Put buf.old 0 (slice from to buf.old) buf.new result }
 {
-    let end = least(to, buf.len());
-    let mut i = from;
-    let mut n = 0;
-    while i < end {
-        buf[n] = buf[i];
-        i += 1;
-        n += 1;
+    let end = to.min(buf.len());
+    if from >= end {
+        return 0;
     }
-    n
-}
-
-// What a buffer keeps for the next read: its first `count` bytes. `long` says that the line is longer than the buffer;
-// nothing is kept of it.
-#[derive(Clone, Copy)]
-pub struct Kept {
-    pub count: usize,
-    pub long: bool,
+    buf.copy_within(from..end, 0);
+    end - from
 }
 
 fn too_long(size: usize, from: usize, to: usize, long: bool) -> bool
     ensures { result ≡ too_long size from to long }
 {
-    if long {
-        return true;
-    }
-    if from == 0 {
-        return size <= to;
-    }
-    false
+    long || (from == 0 && size <= to)
 }
 
-// Keeps the unfinished line from `from` to `to`; `long` says whether its beginning was left off before.
-pub fn keep(buf: &mut [u8], from: usize, to: usize, long: bool) -> Kept
+// Keeps the unfinished line from `from` to `to` in front of the buffer, for the next read; `long` says whether its
+// beginning was left off before. The result is the number of bytes kept. None says that the line is longer than the
+// buffer; nothing is kept of it.
+pub fn keep(buf: &mut [u8], from: usize, to: usize, long: bool) -> Option<usize>
     ensures { Keeps buf.old from to long buf.new result }
 {
     if too_long(buf.len(), from, to, long) {
-        return Kept {
-            count: 0,
-            long: true,
-        };
+        return None;
     }
-    let count = move_down(buf, from, to);
-    Kept { count, long: false }
+    Some(move_down(buf, from, to))
 }

@@ -4,5 +4,5 @@
 mod input;
 mod output;
 
-pub use input::{Kept, find, keep, move_down};
+pub use input::{find, keep, move_down};
 pub use output::{put_byte, put_bytes, put_decimal};

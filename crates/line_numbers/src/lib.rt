@@ -1,73 +1,50 @@
 // The items of a line: numbers, and bytes in hexadecimal digits.
 #![tactic(auto)]
 
-ghost use Rattle.std.specs.Prelude.{◌≡◌};
+ghost use Rattle.std.specs.Prelude.{◌≡◌, ◌<◌, ⊤, MatchOption};
 ghost use Rattle.line_numbers.specs.Numbers.{number_of, narrowed, int_of, hex_digit, bytes_of};
 ghost use Rattle.line_buffers.specs.Output.{Put};
 
 use line_buffers::put_byte;
 
-#[derive(Clone, Copy)]
-pub enum Number {
-    Value(i64),
-    Malformed,
-}
-
-// A number of 32 bits.
-#[derive(Clone, Copy)]
-pub enum Int {
-    Value(i32),
-    Malformed,
-}
-
 // An item as a number of 64 bits, as strtol reads it to the item's end.
-pub fn read_number(text: &[u8]) -> Number
+#[tactic(auto, unfolding(crate::specs::Numbers::number_of))]
+pub fn read_number(text: &[u8]) -> Option<i64>
     ensures { result ≡ number_of text.now }
 {
     let n = base_strtol::c_strtol(text, 0);
-    if n.overflow {
-        return Number::Malformed;
+    if n.overflow || n.end == 0 || n.end != text.len() {
+        return None;
     }
-    if n.end == 0 {
-        return Number::Malformed;
-    }
-    if n.end == text.len() {
-        return Number::Value(n.value);
-    }
-    Number::Malformed
+    Some(n.value)
 }
 
-fn narrow(n: i64) -> Int
+#[tactic(auto, unfolding(crate::specs::Numbers::narrowed))]
+fn narrow(n: i64) -> Option<i32>
     ensures { result ≡ narrowed n }
 {
-    if n < -2147483648 {
-        return Int::Malformed;
-    }
-    if 2147483647 < n {
-        return Int::Malformed;
-    }
-    Int::Value(n as i32)
+    i32::try_from(n).ok()
 }
 
 // An item as a number of 32 bits.
-pub fn read_int(text: &[u8]) -> Int
+#[tactic(auto, unfolding(crate::specs::Numbers::narrow))]
+pub fn read_int(text: &[u8]) -> Option<i32>
     ensures { result ≡ int_of text.now }
 {
-    match read_number(text) {
-        Number::Value(n) => narrow(n),
-        Number::Malformed => Int::Malformed,
-    }
+    narrow(read_number(text)?)
 }
 
-// The value of a hexadecimal digit, 16 for any other byte.
-fn hex_digit(b: u8) -> u8
-    ensures { result ≡ hex_digit b }
+// The value of a hexadecimal digit.
+#[tactic(auto, unfolding(crate::specs::Numbers::hex_digit))]
+fn hex_digit(b: u8) -> Option<u8>
+    ensures value { result ≡ hex_digit b }
+    ensures below { MatchOption result ⊤ (λ d. d < 16) }
 {
     match b {
-        b'0'..=b'9' => b - b'0',
-        b'a'..=b'f' => b - b'a' + 10,
-        b'A'..=b'F' => b - b'A' + 10,
-        _ => 16,
+        b'0'..=b'9' => Some(b - b'0'),
+        b'a'..=b'f' => Some(b - b'a' + 10),
+        b'A'..=b'F' => Some(b - b'A' + 10),
+        _ => None,
     }
 }
 
@@ -76,18 +53,14 @@ pub fn put_hex(text: &[u8], out: &mut [u8], at: usize) -> usize
     ensures { Put out.old at (bytes_of text.now) out.new result }
 {
     let mut next = at;
-    let mut i = 0;
-    while i + 1 < text.len() {
-        let high = hex_digit(text[i]);
-        let low = hex_digit(text[i + 1]);
-        if high > 15 {
+    for pair in text.chunks_exact(2) {
+        let Some(high) = hex_digit(pair[0]) else {
             return next;
-        }
-        if low > 15 {
+        };
+        let Some(low) = hex_digit(pair[1]) else {
             return next;
-        }
+        };
         next = put_byte(high * 16 + low, out, next);
-        i += 2;
     }
     next
 }

@@ -1,10 +1,8 @@
 -- The modes by their names.
-use Rattle.std.specs.Prelude.{◌≡◌, List, ℕ}
+use Rattle.std.specs.Prelude.{◌≡◌, Option, Some, List, ℕ}
 use Rattle.base_notation.specs.Text.{utf8}
 use Rattle.line_answers.specs.declared.Mode.{Mode}
 use Rattle.line_answers.specs.declared.Mode.TheVariants.{Parts, Instant, Date, Write}
-use Rattle.line_texts.specs.declared.modes.Choice.{Choice}
-use Rattle.line_texts.specs.declared.modes.Choice.TheVariants.{Of, Unknown}
 
 -- the name of each mode
 abbrev pub mode_name : Mode → List ℕ
@@ -14,6 +12,6 @@ mode_name Date = utf8 "date"
 mode_name Write = utf8 "write"
 
 -- r is the mode that has the name, and none where no mode has it
-pub record Chosen (name : List ℕ) (r : Choice) : Type 0 where
-  pub named : (m : Mode) → name ≡ mode_name m → r ≡ Of m
-  pub own : (m : Mode) → r ≡ Of m → name ≡ mode_name m
+pub record Chosen (name : List ℕ) (r : Option Mode) : Type 0 where
+  pub named : (m : Mode) → name ≡ mode_name m → r ≡ Some m
+  pub own : (m : Mode) → r ≡ Some m → name ≡ mode_name m

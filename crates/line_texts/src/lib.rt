@@ -6,7 +6,7 @@ mod modes;
 ghost use Rattle.line_texts.specs.Texts.{AnswersLine, AnswersLines};
 
 use line_answers::Mode;
-pub use modes::{Choice, choice_of};
+pub use modes::choice_of;
 
 // Room for any answer: the longest is a 0, a space, a text of 512 bytes and the newline.
 const LONGEST: usize = 515;

@@ -1,5 +1,5 @@
 -- The date, from the year and the fields that were read, and which of year, month and day are set.
-use Rattle.std.specs.Prelude.{◌≡◌, refl, Bool, true, false, not, ◌&&◌, ◌||◌, ℕ, ◌+◌, eqb, ℤ, pos, negsuc, nat_abs}
+use Rattle.std.specs.Prelude.{◌≡◌, refl, Bool, true, false, not, ◌&&◌, ◌||◌, ℕ, ◌+◌, eqb, ℤ, pos, negsuc, nat_abs, Err, Ok, Result}
 use Rattle.std.specs.Int.Bits.{bit_and, bit_or}
 use Rattle.std.specs.Int.Signed.{lt_z, le_z}
 use Rattle.base_notation.specs.Choice.{when◌then◌else◌}
@@ -17,10 +17,7 @@ use Rattle.base_wrapping.specs.Wrap.{◌⊕◌, ◌⊖◌}
 use Rattle.moment_sums.specs.Checked.{◌plus◌, ◌times◌}
 use Rattle.moment_year.specs.Year.{year_of, year_computes}
 use Rattle.moment_date.specs.declared.Days.{Days}
-use Rattle.moment_date.specs.declared.Dated.{Dated}
-use Rattle.moment_date.specs.declared.Dated.TheVariants.{Date as DateOf, Refused}
-use Rattle.moment_sums.specs.declared.Value.{Value}
-use Rattle.moment_sums.specs.declared.Value.TheVariants.{Is, Not}
+use Rattle.base_refusals.specs.declared.Refusal.{Refusal}
 
 -- the bits of what is set
 abbrev pub year_bit : ℕ
@@ -62,28 +59,28 @@ abbrev pub day_of_week : ℤ → ℤ → ℤ
 day_of_week monday n = when is_zero n then monday else when lt_z (pos 1) n then monday ⊕ (n ⊖ pos 2) else monday ⊕ pos 6
 
 -- the first day of week n, counted from day 1
-unfoldable pub first_of_week : ℤ → Value
-first_of_week n = Is n plus negsuc 0 times 7 plus pos 1
+unfoldable pub first_of_week : ℤ → Result ℤ Refusal
+first_of_week n = Ok n plus negsuc 0 times 7 plus pos 1
 
 -- such a day as the day of the year, and as the day of the month
-abbrev pub on_day_of_year : Days → Value → Dated
-on_day_of_year r (Is n) = DateOf (days r.year r.month r.day r.set r.dd n)
-on_day_of_year r (Not why) = Refused why
+abbrev pub on_day_of_year : Days → Result ℤ Refusal → Result Days Refusal
+on_day_of_year r (Ok n) = Ok (days r.year r.month r.day r.set r.dd n)
+on_day_of_year r (Err why) = Err why
 
-abbrev pub on_day_of_month : Days → Value → Dated
-on_day_of_month r (Is n) = DateOf (days r.year r.month r.day r.set n r.ddd)
-on_day_of_month r (Not why) = Refused why
+abbrev pub on_day_of_month : Days → Result ℤ Refusal → Result Days Refusal
+on_day_of_month r (Ok n) = Ok (days r.year r.month r.day r.set n r.ddd)
+on_day_of_month r (Err why) = Err why
 
 -- a week of the year: of the ISO year it gives the date, else the day of the year
-unfoldable pub with_week : Fields → Days → Dated
+unfoldable pub with_week : Fields → Days → Result Days Refusal
 with_week f r =
-    when is_zero (get f ww) then DateOf r
-    else when eq_ℤ (get f mode) (pos iso_week) then DateOf (whole (j2date (day_of_week (isoweek2j r.year (get f ww)) (get f d))) r)
+    when is_zero (get f ww) then Ok r
+    else when eq_ℤ (get f mode) (pos iso_week) then Ok (whole (j2date (day_of_week (isoweek2j r.year (get f ww)) (get f d))) r)
     else on_day_of_year r (first_of_week (get f ww))
 
 -- a week of the month gives the day of the month
-unfoldable pub with_month_week : Fields → Days → Dated
-with_month_week f r = when is_zero (get f w) then DateOf r else on_day_of_month r (first_of_week (get f w))
+unfoldable pub with_month_week : Fields → Days → Result Days Refusal
+with_month_week f r = when is_zero (get f w) then Ok r else on_day_of_month r (first_of_week (get f w))
 
 -- the day of the month and the month
 abbrev pub with_day : Days → Days
@@ -116,28 +113,28 @@ counts_day_of_year r = not (is_zero r.ddd) && (le_z r.month (pos 1) || le_z r.da
 abbrev pub lacks_year : Fields → Days → Bool
 lacks_year f r = is_zero r.year && is_zero (get f bc)
 
-unfoldable pub with_day_of_year : Fields → Days → Dated
+unfoldable pub with_day_of_year : Fields → Days → Result Days Refusal
 with_day_of_year f r =
-    when not (counts_day_of_year r) then DateOf r
-    else when lacks_year f r then Refused NoYear
-    else when eq_ℤ (get f mode) (pos iso_week) then DateOf (from_day_of_iso_year r)
-    else DateOf (from_day_of_year r)
+    when not (counts_day_of_year r) then Ok r
+    else when lacks_year f r then Err NoYear
+    else when eq_ℤ (get f mode) (pos iso_week) then Ok (from_day_of_iso_year r)
+    else Ok (from_day_of_year r)
 
 -- the date that the fields make, each step refused in this order: the year, a Julian day, weeks, the day and the month,
 -- the day of the year
-abbrev pub then_day_of_year : Fields → Dated → Dated
-then_day_of_year f (Refused why) = Refused why
-then_day_of_year f (DateOf r) = with_day_of_year f (with_month f (with_day r))
+abbrev pub then_day_of_year : Fields → Result Days Refusal → Result Days Refusal
+then_day_of_year f (Err why) = Err why
+then_day_of_year f (Ok r) = with_day_of_year f (with_month f (with_day r))
 
-abbrev pub then_month_week : Fields → Dated → Dated
-then_month_week f (Refused why) = Refused why
-then_month_week f (DateOf r) = then_day_of_year f (with_month_week f r)
+abbrev pub then_month_week : Fields → Result Days Refusal → Result Days Refusal
+then_month_week f (Err why) = Err why
+then_month_week f (Ok r) = then_day_of_year f (with_month_week f r)
 
-abbrev pub then_week : Fields → Value → Dated
-then_week f (Not why) = Refused why
-then_week f (Is y) = then_month_week f (with_week f (with_julian f (begun f y)))
+abbrev pub then_week : Fields → Result ℤ Refusal → Result Days Refusal
+then_week f (Err why) = Err why
+then_week f (Ok y) = then_month_week f (with_week f (with_julian f (begun f y)))
 
-unfoldable pub dated_of : Fields → Dated
+unfoldable pub dated_of : Fields → Result Days Refusal
 dated_of f = then_week f (year_of f)
 
 -- a number outside its range

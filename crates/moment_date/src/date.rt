@@ -3,12 +3,12 @@ ghost use Rattle.std.specs.Prelude.{◌≡◌, ◌&&◌};
 ghost use Rattle.calendar_julian.specs.ToDate.{j2date};
 ghost use Rattle.moment_date.specs.Dates.{year_mask, whole, begun, with_julian, day_of_week, first_of_week, with_week, with_month_week, with_day, with_month, above_one, from_day_of_year, from_day_of_iso_year, counts_day_of_year, lacks_year, with_day_of_year, dated_of, part_in_range, day_in_month, date_in_range, no_such_day};
 
-use super::{Dated, Days};
+use super::Days;
 use base_refusals::Refusal;
 use base_wrapping::{wrapping_add, wrapping_sub};
 use calendar_gregorian::{days_before, month_length, month_of_day, pg_is_leap};
 use calendar_julian::{pg_isoweek2j, pg_j2date};
-use moment_sums::{Value, checked_add, checked_mul};
+use moment_sums::{checked_add, checked_mul};
 use moment_year::year_of;
 use read_fields::{Fields, field};
 use template_patterns::MODE_ISOWEEK;
@@ -26,16 +26,14 @@ const ISO_WEEKS: i32 = MODE_ISOWEEK as i32;
 fn year_mask(f: Fields) -> u8
     ensures { result ≡ year_mask f }
 {
-    if f.values[field::YEAR] != 0 {
-        return M_YEAR;
-    }
-    if f.values[field::CC] != 0 {
+    if f.values[field::YEAR] != 0 || f.values[field::CC] != 0 {
         return M_YEAR;
     }
     0
 }
 
 // At first: the year, January 1, the day of the month and of the year as they were read.
+#[tactic(auto, unfolding(crate::specs::Dates::begun))]
 pub fn begun(f: Fields, year: i32) -> Days
     ensures { result ≡ begun f year }
 {
@@ -66,6 +64,7 @@ fn whole(jd: i32, r: Days) -> Days
     }
 }
 
+#[tactic(auto, unfolding(crate::specs::Dates::with_julian))]
 pub fn with_julian(f: Fields, r: Days) -> Days
     ensures { result ≡ with_julian f r }
 {
@@ -90,42 +89,41 @@ fn day_of_week(monday: i32, d: i32) -> i32
 }
 
 // The first day of a week, counted from day 1.
-fn first_of_week(week: i32) -> Value
+#[tactic(auto, unfolding(crate::specs::Dates::first_of_week))]
+fn first_of_week(week: i32) -> Result<i32, Refusal>
     ensures { result ≡ first_of_week week }
 {
-    checked_add(checked_mul(checked_add(Value::Is(week), -1), 7), 1)
+    checked_add(checked_mul(checked_add(Ok(week), -1), 7), 1)
 }
 
 // A week of the year: of the ISO year it gives the date, else the day of the year.
-pub fn with_week(f: Fields, r: Days) -> Dated
+#[tactic(auto, unfolding(crate::specs::Dates::with_week))]
+pub fn with_week(f: Fields, r: Days) -> Result<Days, Refusal>
     ensures { result ≡ with_week f r }
 {
     let week = f.values[field::WW];
     if week == 0 {
-        return Dated::Date(r);
+        return Ok(r);
     }
     if f.values[field::MODE] == ISO_WEEKS {
         let monday = pg_isoweek2j(r.year, week);
-        return Dated::Date(whole(day_of_week(monday, f.values[field::D]), r));
+        return Ok(whole(day_of_week(monday, f.values[field::D]), r));
     }
-    match first_of_week(week) {
-        Value::Is(ddd) => Dated::Date(Days { ddd, ..r }),
-        Value::Not(why) => Dated::Refused(why),
-    }
+    let ddd = first_of_week(week)?;
+    Ok(Days { ddd, ..r })
 }
 
 // A week of the month gives the day of the month.
-pub fn with_month_week(f: Fields, r: Days) -> Dated
+#[tactic(auto, unfolding(crate::specs::Dates::with_month_week))]
+pub fn with_month_week(f: Fields, r: Days) -> Result<Days, Refusal>
     ensures { result ≡ with_month_week f r }
 {
     let week = f.values[field::W];
     if week == 0 {
-        return Dated::Date(r);
+        return Ok(r);
     }
-    match first_of_week(week) {
-        Value::Is(dd) => Dated::Date(Days { dd, ..r }),
-        Value::Not(why) => Dated::Refused(why),
-    }
+    let dd = first_of_week(week)?;
+    Ok(Days { dd, ..r })
 }
 
 pub fn with_day(r: Days) -> Days
@@ -159,13 +157,11 @@ pub fn with_month(f: Fields, r: Days) -> Days
 fn above_one(value: i32, other: i32) -> i32
     ensures { result ≡ above_one value other }
 {
-    if value <= 1 {
-        return other;
-    }
-    value
+    if value <= 1 { other } else { value }
 }
 
 // Month and day from the day of a Gregorian year.
+#[tactic(auto, unfolding(crate::specs::Dates::from_day_of_year))]
 pub fn from_day_of_year(r: Days) -> Days
     ensures { result ≡ from_day_of_year r }
 {
@@ -192,101 +188,71 @@ fn from_day_of_iso_year(r: Days) -> Days
 fn counts_day_of_year(r: Days) -> bool
     ensures { result ≡ counts_day_of_year r }
 {
-    if r.ddd == 0 {
-        return false;
-    }
-    if r.month <= 1 {
-        return true;
-    }
-    r.day <= 1
+    r.ddd != 0 && (r.month <= 1 || r.day <= 1)
 }
 
 // It needs a year: one that is not 0, or BC.
 fn lacks_year(f: Fields, r: Days) -> bool
     ensures { result ≡ lacks_year f r }
 {
-    if r.year != 0 {
-        return false;
-    }
-    f.values[field::BC] == 0
+    r.year == 0 && f.values[field::BC] == 0
 }
 
-pub fn with_day_of_year(f: Fields, r: Days) -> Dated
+#[tactic(auto, unfolding(crate::specs::Dates::with_day_of_year))]
+pub fn with_day_of_year(f: Fields, r: Days) -> Result<Days, Refusal>
     ensures { result ≡ with_day_of_year f r }
 {
     if !counts_day_of_year(r) {
-        return Dated::Date(r);
+        return Ok(r);
     }
     if lacks_year(f, r) {
-        return Dated::Refused(Refusal::NoYear);
+        return Err(Refusal::NoYear);
     }
     if f.values[field::MODE] == ISO_WEEKS {
-        return Dated::Date(from_day_of_iso_year(r));
+        return Ok(from_day_of_iso_year(r));
     }
-    Dated::Date(from_day_of_year(r))
+    Ok(from_day_of_year(r))
 }
 
 // The date that the fields make, each step refused in this order.
-pub fn dated_of(f: Fields) -> Dated
+#[tactic(auto, unfolding(crate::specs::Dates::dated_of))]
+pub fn dated_of(f: Fields) -> Result<Days, Refusal>
     ensures { result ≡ dated_of f }
 {
-    match year_of(f) {
-        Value::Is(year) => match with_week(f, with_julian(f, begun(f, year))) {
-            Dated::Date(r) => match with_month_week(f, r) {
-                Dated::Date(r) => with_day_of_year(f, with_month(f, with_day(r))),
-                Dated::Refused(why) => Dated::Refused(why),
-            },
-            Dated::Refused(why) => Dated::Refused(why),
-        },
-        Value::Not(why) => Dated::Refused(why),
-    }
+    let year = year_of(f)?;
+    let of_week = with_week(f, with_julian(f, begun(f, year)))?;
+    let of_month_week = with_month_week(f, of_week)?;
+    with_day_of_year(f, with_month(f, with_day(of_month_week)))
 }
 
 // A month or day that is set lies from 1 to its limit.
 fn part_in_range(set: u8, bit: u8, value: i32, limit: i32) -> bool
     ensures { result ≡ part_in_range set bit value limit }
 {
-    if set & bit == 0 {
-        return true;
-    }
-    if value < 1 {
-        return false;
-    }
-    value <= limit
+    set & bit == 0 || (1 <= value && value <= limit)
 }
 
 // Where year, month and day are all set the month has the day.
 fn day_in_month(r: Days) -> bool
     ensures { result ≡ day_in_month r }
 {
-    if r.set != M_YEAR | M_MONTH | M_DAY {
-        return true;
-    }
-    r.day <= month_length(pg_is_leap(r.year), r.month)
+    r.set != M_YEAR | M_MONTH | M_DAY || r.day <= month_length(pg_is_leap(r.year), r.month)
 }
 
+#[tactic(auto, unfolding(crate::specs::Dates::date_in_range))]
 pub fn date_in_range(r: Days) -> bool
     ensures { result ≡ date_in_range r }
 {
-    if !part_in_range(r.set, M_MONTH, r.month, 12) {
-        return false;
-    }
-    if !part_in_range(r.set, M_DAY, r.day, 31) {
-        return false;
-    }
-    day_in_month(r)
+    part_in_range(r.set, M_MONTH, r.month, 12)
+        && part_in_range(r.set, M_DAY, r.day, 31)
+        && day_in_month(r)
 }
 
 // Under the strict switch: month and day are set, the year is not, and the month never has the day. In a leap year each
 // month has its most days.
+#[tactic(auto, unfolding(crate::specs::Dates::no_such_day))]
 pub fn no_such_day(strict: bool, set: u8, month: i32, day: i32) -> bool
     ensures { result ≡ (strict && no_such_day set month day) }
 {
-    if !strict {
-        return false;
-    }
-    if set != M_MONTH | M_DAY {
-        return false;
-    }
-    day > month_length(true, month)
+    strict && set == M_MONTH | M_DAY && day > month_length(true, month)
 }

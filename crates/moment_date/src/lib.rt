@@ -3,7 +3,6 @@
 
 mod date;
 
-use base_refusals::Refusal;
 pub use date::{
     begun, date_in_range, dated_of, from_day_of_year, no_such_day, with_day, with_day_of_year,
     with_julian, with_month, with_month_week, with_week,
@@ -19,10 +18,4 @@ pub struct Days {
     pub set: u8,
     pub dd: i32,
     pub ddd: i32,
-}
-
-#[derive(Clone, Copy)]
-pub enum Dated {
-    Date(Days),
-    Refused(Refusal),
 }

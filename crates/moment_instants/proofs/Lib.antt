@@ -2,7 +2,7 @@
 
 -- the order of whole numbers: a sum is below a bound where one summand is below the bound less the other
 mod Order
--- sums tested against the ends of the 64-bit range before they are made
+-- numbers tested against the ends of the 64-bit range
 mod Range
 -- the seconds of a moment's parts, and their microseconds, fit 64 bits
 pub mod Seconds

@@ -2,13 +2,14 @@
 -- `plain_parts`: the parts of a date and time with no offset, no precision and all three marks.
 -- `day_is`: their day is the calendar's, counted from 1970-01-01.
 -- `instant_is`: their instant is the calendar's microseconds since then.
-use mathlib.Core.Path.{◌≡◌, refl, ◌∙◌, ap, sym}
-use mathlib.Core.Bool.{true, false, ◌&&◌}
-use Prim.Native.Nat.{ℕ, zero, suc, ◌+◌, ◌-◌, ◌*◌, ◌≤◌, ◌<◌, ◌^◌}
+use Rattle.std.specs.Prelude.{None, Ok}
+use mathlib.Core.Path.{◌≡◌, refl, ap, sym}
+use mathlib.Core.Bool.{true, ◌&&◌}
+use Prim.Native.Nat.{ℕ, zero, suc, ◌+◌, ◌-◌, ◌*◌, ◌<◌, ◌^◌}
 use native.Mathlib.Nat.{zero-mul}
 use native.Mathlib.Omega.{arith}
 use borrow.Author.Tests.{lt-ltb, le-ltb}
-use lib.IntN.{ℤ, pos, negsuc, neg_ℤ, ◌+ℤ◌, ◌-ℤ◌, ◌*ℤ◌}
+use lib.IntN.{ℤ, pos, negsuc, neg_ℤ, ◌+ℤ◌, ◌*ℤ◌}
 use lib.Signed.{lt_z, mag}
 use Rattle.base_notation.proofs.Magnitudes.{add_mag, sub_mag}
 use Rattle.calendar_gregorian.specs.Civil.{days_from_civil}
@@ -16,12 +17,9 @@ use Rattle.calendar_gregorian.specs.Gregorian.{Valid, day_number, day_number_ℤ
 use Rattle.calendar_gregorian.proofs.Dates.{first_to_last}
 use Rattle.calendar_gregorian.proofs.DaysFrom.{civil}
 use Rattle.moment_date.specs.Dates.{all_bits}
-use Rattle.moment_time.specs.declared.Offset.TheVariants.{Absent}
 use Rattle.moment_parts.specs.declared.Parts.{Parts}
 use Rattle.moment_instants.specs.Instant.{within, seconds_of, wall_of, less_offset, rounded_to, instant_of, day_of}
-use Rattle.moment_instants.specs.Plain.{days_since_1970, micros_of_day, micros_since_1970}
-use Rattle.moment_instants.specs.declared.epoch.Day.TheVariants.{Number}
-use Rattle.moment_instants.specs.declared.epoch.Instant.TheVariants.{Micros}
+use Rattle.moment_instants.specs.Plain.{days_since_1970, micros_since_1970}
 use Rattle.moment_instants.proofs.Range.{between}
 use Rattle.moment_instants.proofs.Seconds.{times_mag}
 
@@ -36,7 +34,7 @@ plain_parts y m d h mi s us = record {
   second = pos s;
   micros = pos us;
   precision = pos 0;
-  offset = Absent;
+  offset = None;
   marks = all_bits;
 }
 
@@ -66,7 +64,7 @@ scaled (negsuc n) t us h k =
     )
 
 -- a number far from the ends is an instant, or a day
-plain_within : (z : ℤ) → mag z < 2 ^ 62 → within z ≡ Micros z
+plain_within : (z : ℤ) → mag z < 2 ^ 62 → within z ≡ Ok z
 plain_within (pos n) h = sym (between (pos n) (le-ltb 9223372036854775806 n (omega arith)) refl)
 plain_within (negsuc n) h = sym (between (negsuc n) refl (le-ltb 9223372036854775806 n (omega arith)))
 
@@ -84,7 +82,7 @@ module _ {y m d : ℕ} (v : Valid y m d) where
   days_mag = omega (arith, sub_mag (day_number y m d) 2440588, first_to_last v)
 
   -- the day of the date
-  pub day_is : (h mi s us : ℕ) → day_of (plain_parts y m d h mi s us) ≡ Number (days_since_1970 y m d)
+  pub day_is : (h mi s us : ℕ) → day_of (plain_parts y m d h mi s us) ≡ Ok (days_since_1970 y m d)
   unfolding day_of
   day_is h mi s us = rw (civil_days, plain_day (days_since_1970 y m d) (omega (arith, days_mag)))
 
@@ -115,7 +113,7 @@ module _ {y m d : ℕ} (v : Valid y m d) where
         rw (← sum_is)
         (omega (arith, whole_mag, add_mag ((days_since_1970 y m d *ℤ pos 86400 +ℤ pos time) *ℤ pos 1000000) (pos us)))
 
-    wall_is : wall_of (plain_parts y m d h mi s us) ≡ Micros (micros_since_1970 y m d h mi s us)
+    wall_is : wall_of (plain_parts y m d h mi s us) ≡ Ok (micros_since_1970 y m d h mi s us)
     unfolding wall_of
     wall_is =
         rw (
@@ -126,6 +124,6 @@ module _ {y m d : ℕ} (v : Valid y m d) where
         (plain_within (micros_since_1970 y m d h mi s us) sum_mag)
 
     -- the instant of the date and time
-    pub instant_is : instant_of (plain_parts y m d h mi s us) ≡ Micros (micros_since_1970 y m d h mi s us)
+    pub instant_is : instant_of (plain_parts y m d h mi s us) ≡ Ok (micros_since_1970 y m d h mi s us)
     unfolding instant_of less_offset rounded_to
     instant_is = rw (wall_is, plain_within (micros_since_1970 y m d h mi s us) sum_mag)

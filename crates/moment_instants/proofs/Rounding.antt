@@ -1,7 +1,4 @@
--- Rounding half away from 2000: by magnitude and sign, and where the count with its half fits 64 bits. Assumes nothing.
--- `turned`, `away_before`: a count before 2000 is turned positive, and what it is rounded to is turned back.
--- `kept`, `away_after`: a count from 2000 on is rounded as it is.
--- `rounded_fits`, `turned_fits`: what a magnitude is rounded to fits 64 bits, and so does its negative.
+-- Rounding half away from 2000: where the count with its half fits 64 bits. Assumes nothing.
 -- `limit_fits`: the limit that the code compares an instant with fits 64 bits.
 -- `early`, `counted`: an instant below the limit has no count from 2000 that fits with its half; any other has.
 -- `digits`: what passes the tests of the precision is one to five digits.
@@ -22,35 +19,6 @@ use Rattle.calendar_gregorian.proofs.Dates.{each}
 use Rattle.moment_instants.proofs.Order.{below_sum, sum_below}
 use Rattle.moment_instants.proofs.Range.{first, sub_small}
 use Rattle.base_notation.proofs.Magnitudes.{neg_mag}
-
--- a count before 2000
-pub turned : (z : ℤ) → lt_z z (pos 0) ≡ true → pos 0 -ℤ z ≡ pos (nat_abs z)
-turned (pos n) h = absurd (let bound = ltb-true n 0 h in omega arith)
-turned (negsuc n) h = ap pos (omega arith)
-
-pub away_before : (scale : ℕ) (z : ℤ) → lt_z z (pos 0) ≡ true → neg_ℤ (pos (rounded scale (nat_abs z))) ≡ away scale z
-away_before scale (pos n) h = absurd (let bound = ltb-true n 0 h in omega arith)
-away_before scale (negsuc n) h = ap (λ (k : ℕ). neg_ℤ (pos (rounded scale k))) (omega arith)
-
--- and one from then on
-pub kept : (z : ℤ) → lt_z z (pos 0) ≡ false → z ≡ pos (nat_abs z)
-kept (pos n) h = refl
-kept (negsuc n) h = absurd (false≢true (sym h))
-
-pub away_after : (scale : ℕ) (z : ℤ) → lt_z z (pos 0) ≡ false → pos (rounded scale (nat_abs z)) ≡ away scale z
-away_after scale (pos n) h = refl
-away_after scale (negsuc n) h = absurd (false≢true (sym h))
-
--- rounding adds at most the half
-rounded-le : (scale n : ℕ) → rounded scale n ≤ n + scale / 2
-rounded-le scale n = div-mul-le_self (n + scale / 2) scale
-
-module _ (scale n : ℕ) (h : n + scale / 2 < 2 ^ 63) where
-  pub rounded_fits : SFits w64 (pos (rounded scale n))
-  rounded_fits = omega (arith, rounded-le scale n)
-
-  pub turned_fits : SFits w64 (neg_ℤ (pos (rounded scale n)))
-  turned_fits = omega (arith, rounded-le scale n, neg_mag (rounded scale n))
 
 -- the first count that fits with its half, of one to five digits
 lowest : (half : ℕ) → half ≤ 50000 → first +ℤ pos half ≡ negsuc (9223372036854775807 - suc half)

@@ -1,35 +1,32 @@
 -- The instant and the day of an input by a template, as to_timestamp and to_date give them.
-use Rattle.std.specs.Prelude.{◌≡◌, refl, List, ℕ}
+use Rattle.std.specs.Prelude.{◌≡◌, refl, List, ℕ, Err, Ok, Result, ℤ}
 use Rattle.base_settings.specs.declared.Settings.{Settings}
 use Rattle.base_refusals.specs.declared.Refusal.TheVariants.{FieldOverflow}
 use Rattle.moment_instants.specs.Instant.{day_of, instant_of}
-use Rattle.moment_instants.specs.declared.epoch.Day.{Day}
-use Rattle.moment_instants.specs.declared.epoch.Day.TheVariants.{Refused as NoDay}
-use Rattle.moment_instants.specs.declared.epoch.Instant.{Instant}
-use Rattle.moment_instants.specs.declared.epoch.Instant.TheVariants.{Refused as NoInstant}
-use Rattle.moment_instants.specs.declared.epoch.Undated.TheVariants.{Unread}
+use Rattle.moment_instants.specs.declared.epoch.Undated.TheVariants.{Unread as NoParts}
 use Rattle.moment_parts.specs.Parts.{parts_of, refused_by}
-use Rattle.moment_parts.specs.declared.Answer.{Answer}
-use Rattle.moment_parts.specs.declared.Answer.TheVariants.{Moment, Refused}
 use Rattle.moment_parts.specs.declared.Unread.TheVariants.{By, NoSuchDay}
+use Rattle.moment_parts.specs.declared.Parts.{Parts}
+use Rattle.moment_parts.specs.declared.Unread.{Unread}
+use Rattle.moment_instants.specs.declared.epoch.Undated.{Undated}
 
 -- the instant and the day of an answer
-abbrev pub instant_by : Answer → Instant
-instant_by (Refused why) = NoInstant (Unread why)
-instant_by (Moment p) = instant_of p
+abbrev pub instant_by : Result Parts Unread → Result ℤ Undated
+instant_by (Err why) = Err (NoParts why)
+instant_by (Ok p) = instant_of p
 
-abbrev pub day_by : Answer → Day
-day_by (Refused why) = NoDay (Unread why)
-day_by (Moment p) = day_of p
+abbrev pub day_by : Result Parts Unread → Result ℤ Undated
+day_by (Err why) = Err (NoParts why)
+day_by (Ok p) = day_of p
 
 -- the instant and the day of an input by a template, for a caller with settings
-unfoldable pub timestamp_of : Settings → List ℕ → List ℕ → Instant
+unfoldable pub timestamp_of : Settings → List ℕ → List ℕ → Result ℤ Undated
 timestamp_of set t s = instant_by (parts_of set t s)
 
-unfoldable pub date_of : Settings → List ℕ → List ℕ → Day
+unfoldable pub date_of : Settings → List ℕ → List ℕ → Result ℤ Undated
 date_of set t s = day_by (parts_of set t s)
 
 -- what is not read has neither, for the same cause
 pub worked
-    : (instant_by (refused_by FieldOverflow) ≡ NoInstant (Unread (By FieldOverflow))) × (day_by (Refused NoSuchDay) ≡ NoDay (Unread NoSuchDay))
+    : (instant_by (refused_by FieldOverflow) ≡ Err (NoParts (By FieldOverflow))) × (day_by (Err NoSuchDay) ≡ Err (NoParts NoSuchDay))
 worked = (refl, refl)

@@ -1,12 +1,9 @@
 -- What every instant and day that is given keeps to, and the numbers of refusals.
-use Rattle.std.specs.Prelude.{◌≡◌, refl, Bool, true, ◌⊎◌, ℕ, ℤ, pos, negsuc}
+use Rattle.std.specs.Prelude.{◌≡◌, refl, Bool, true, ◌⊎◌, ℕ, ℤ, pos, negsuc, Err, Ok, Result}
 use Rattle.std.specs.Int.Signed.{lt_z}
 use Rattle.moment_parts.specs.Ranges.{ReadNumber}
 use Rattle.moment_instants.specs.Report.{undated_report}
-use Rattle.moment_instants.specs.declared.epoch.Day.{Day}
-use Rattle.moment_instants.specs.declared.epoch.Day.TheVariants.{Number, Refused as NoDay}
-use Rattle.moment_instants.specs.declared.epoch.Instant.{Instant}
-use Rattle.moment_instants.specs.declared.epoch.Instant.TheVariants.{Micros, Refused as NoInstant}
+use Rattle.moment_instants.specs.declared.epoch.Undated.{Undated}
 
 -- a number above one number and below another
 pub record Between (low high z : ℤ) : Type 0 where
@@ -28,19 +25,19 @@ abbrev pub DayNumber : Bool → ℕ → Type 0
 DayNumber strict n = ReadNumber strict n ⊎ (n ≡ 18)
 
 -- an instant is from -9223372036854775807 to 9223372036854775806, or it is refused by its number
-abbrev pub InstantAnswered : Bool → Instant → Type 0
-InstantAnswered strict (Micros z) = Finite64 z
-InstantAnswered strict (NoInstant why) = InstantNumber strict (undated_report why).number
+abbrev pub InstantAnswered : Bool → Result ℤ Undated → Type 0
+InstantAnswered strict (Ok z) = Finite64 z
+InstantAnswered strict (Err why) = InstantNumber strict (undated_report why).number
 
 -- a day is from -2147483647 to 2147483646, or it is refused by its number
-abbrev pub DayAnswered : Bool → Day → Type 0
-DayAnswered strict (Number z) = Finite32 z
-DayAnswered strict (NoDay why) = DayNumber strict (undated_report why).number
+abbrev pub DayAnswered : Bool → Result ℤ Undated → Type 0
+DayAnswered strict (Ok z) = Finite32 z
+DayAnswered strict (Err why) = DayNumber strict (undated_report why).number
 
 -- the first and the last instant, and the first and the last day
 pub worked
-    : (InstantAnswered true (Micros (negsuc 9223372036854775806)) × InstantAnswered true (Micros (pos 9223372036854775806)))
-    × (DayAnswered true (Number (negsuc 2147483646)) × DayAnswered true (Number (pos 2147483646)))
+    : (InstantAnswered true (Ok (negsuc 9223372036854775806)) × InstantAnswered true (Ok (pos 9223372036854775806)))
+    × (DayAnswered true (Ok (negsuc 2147483646)) × DayAnswered true (Ok (pos 2147483646)))
 worked = (
   (record { above = refl; below = refl }, record { above = refl; below = refl }),
   (record { above = refl; below = refl }, record { above = refl; below = refl }),

@@ -1,5 +1,5 @@
 -- The number, pattern and figures by which users know why there is no instant or no day.
-use Rattle.std.specs.Prelude.{◌≡◌, refl, pos}
+use Rattle.std.specs.Prelude.{◌≡◌, refl}
 use Rattle.base_refusals.specs.Report.{alone, report_of}
 use Rattle.base_refusals.specs.declared.Refusal.TheVariants.{Short}
 use Rattle.base_refusals.specs.declared.Report.{Report}

@@ -3,11 +3,11 @@ ghost use Rattle.std.specs.Prelude.{◌≡◌, ◌+◌, ◌-◌, ◌/◌, ◌<�
 ghost use Rattle.calendar_gregorian.specs.Civil.{days_from_civil};
 ghost use Rattle.moment_instants.specs.Instant.{within, seconds_of, wall_of, less_offset, rounded, away, rounded_to, instant_of, day_of};
 ghost use Rattle.moment_instants.specs.Report.{undated_report};
+ghost use Rattle.moment_instants.specs.declared.epoch.Undated.TheVariants.{Unread as NoParts};
 
 use base_refusals::Report;
 use calendar_gregorian::days_from_civil;
 use moment_parts::{Parts, Unread};
-use moment_time::Offset;
 
 // Why there is no instant, or no day.
 #[derive(Clone, Copy)]
@@ -19,18 +19,12 @@ pub enum Undated {
     DateRange,
 }
 
-#[derive(Clone, Copy)]
-pub enum Instant {
-    // Microseconds since 1970-01-01, UTC.
-    Micros(i64),
-    Refused(Undated),
-}
+impl From<Unread> for Undated {
+    ghost from_gives = { λ why r. r ≡ NoParts why };
 
-#[derive(Clone, Copy)]
-pub enum Day {
-    // Days since 1970-01-01.
-    Number(i32),
-    Refused(Undated),
+    fn from(unread: Unread) -> Undated {
+        Undated::Unread(unread)
+    }
 }
 
 // The ends of the 64-bit range mean the infinities. These are next to them.
@@ -44,30 +38,21 @@ const MOST_SECONDS: i64 = 9223372036854;
 // January 1 of 2000, from which PostgreSQL counts.
 const EPOCH_2000: i64 = 946684800000000;
 
-// A sum, tested before it is made.
-fn added(a: i64, b: i64) -> Instant
+// A sum, unless it is outside 64 bits or at one of their ends.
+fn added(a: i64, b: i64) -> Result<i64, Undated>
     ensures { result ≡ within (a +ℤ b) }
 {
-    if 0 < b {
-        if LAST - b < a {
-            return Instant::Refused(Undated::InstantRange);
-        }
-        return Instant::Micros(a + b);
+    match a.checked_add(b) {
+        Some(sum) if FIRST <= sum && sum <= LAST => Ok(sum),
+        _ => Err(Undated::InstantRange),
     }
-    if a < FIRST - b {
-        return Instant::Refused(Undated::InstantRange);
-    }
-    if LAST < a + b {
-        return Instant::Refused(Undated::InstantRange);
-    }
-    Instant::Micros(a + b)
 }
 
 // The seconds of the day.
 fn clock_seconds(hour: i32, minute: i32, second: i32) -> i64
     ensures { result ≡ hour *ℤ pos 3600 +ℤ minute *ℤ pos 60 +ℤ second }
 {
-    hour as i64 * 3600 + minute as i64 * 60 + second as i64
+    i64::from(hour) * 3600 + i64::from(minute) * 60 + i64::from(second)
 }
 
 // The days since 1970.
@@ -86,26 +71,23 @@ fn seconds_of(p: Parts) -> i64
 }
 
 // The microseconds of the wall clock.
-pub fn wall_from_tm(p: Parts) -> Instant
+pub fn wall_from_tm(p: Parts) -> Result<i64, Undated>
     ensures { result ≡ wall_of p }
 {
     let seconds = seconds_of(p);
-    if seconds < 0 - MOST_SECONDS {
-        return Instant::Refused(Undated::InstantRange);
+    if seconds < -MOST_SECONDS || MOST_SECONDS < seconds {
+        return Err(Undated::InstantRange);
     }
-    if MOST_SECONDS < seconds {
-        return Instant::Refused(Undated::InstantRange);
-    }
-    added(seconds * 1000000, p.micros as i64)
+    added(seconds * 1000000, i64::from(p.micros))
 }
 
 // The offset is subtracted; without one the wall clock is read as UTC.
-pub fn less_offset(offset: Offset, wall: i64) -> Instant
+pub fn less_offset(offset: Option<i32>, wall: i64) -> Result<i64, Undated>
     ensures { result ≡ less_offset offset wall }
 {
     match offset {
-        Offset::Absent => added(wall, 0),
-        Offset::East(seconds) => added(wall, 0 - seconds as i64 * 1000000),
+        None => added(wall, 0),
+        Some(seconds) => added(wall, -(i64::from(seconds) * 1000000)),
     }
 }
 
@@ -136,60 +118,48 @@ fn rounded_count(scale: u64, count: i64) -> i64
     requires { (0 < scale) × (nat_abs count + scale / 2 < 2 ^ 63) }
     ensures { result ≡ away scale count }
 {
-    if count < 0 {
-        0 - rounded_magnitude(scale, (0 - count) as u64) as i64
-    } else {
-        rounded_magnitude(scale, count as u64) as i64
-    }
+    let rounded = rounded_magnitude(scale, count.unsigned_abs()) as i64;
+    if count < 0 { -rounded } else { rounded }
 }
 
 // An instant rounded to one to five digits of a second; any other precision leaves it as it is.
-pub fn round_to_precision(t: i64, precision: i32) -> Instant
+pub fn round_to_precision(t: i64, precision: i32) -> Result<i64, Undated>
     ensures { result ≡ rounded_to precision t }
 {
-    if precision < 1 {
-        return Instant::Micros(t);
-    }
-    if 5 < precision {
-        return Instant::Micros(t);
+    if precision < 1 || 5 < precision {
+        return Ok(t);
     }
     let scale = scale_of(precision as u32);
     if t < FIRST + EPOCH_2000 + (scale / 2) as i64 {
-        return Instant::Refused(Undated::InstantRange);
+        return Err(Undated::InstantRange);
     }
     added(rounded_count(scale, t - EPOCH_2000), EPOCH_2000)
 }
 
 // The instant of a moment's parts.
-pub fn instant_of(p: Parts) -> Instant
+#[tactic(auto, unfolding(crate::specs::Instant::instant_of))]
+pub fn instant_of(p: Parts) -> Result<i64, Undated>
     ensures { result ≡ instant_of p }
 {
-    let wall = wall_from_tm(p);
-    let Instant::Micros(micros) = wall else {
-        return wall;
-    };
-    let offset = p.offset;
-    let exact = less_offset(offset, micros);
-    let Instant::Micros(t) = exact else {
-        return exact;
-    };
+    let wall = wall_from_tm(p)?;
+    let t = less_offset(p.offset, wall)?;
     round_to_precision(t, p.precision)
 }
 
 // The day of a moment's parts. The ends of the 32-bit range mean the infinities.
-pub fn day_of(p: Parts) -> Day
+#[tactic(auto, unfolding(crate::specs::Instant::day_of))]
+pub fn day_of(p: Parts) -> Result<i32, Undated>
     ensures { result ≡ day_of p }
 {
     let days = days_of(p);
-    if -2147483648 < days {
-        if days < 2147483647 {
-            return Day::Number(days as i32);
-        }
+    match i32::try_from(days) {
+        Ok(day) if i32::MIN < day && day < i32::MAX => Ok(day),
+        _ => Err(Undated::DateRange),
     }
-    Day::Refused(Undated::DateRange)
 }
 
 // By which number a refusal is known, with its pattern and figures.
+#[tactic(auto, unfolding(crate::specs::Report::undated_report))]
 pub fn report_of(why: Undated) -> Report
     ensures { result ≡ undated_report why }
 {

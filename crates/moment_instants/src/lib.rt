@@ -10,51 +10,46 @@ ghost use Rattle.moment_instants.specs.ByTemplate.{instant_by, day_by, timestamp
 
 use base_settings::Settings;
 pub use epoch::{
-    Day, Instant, Undated, day_of, instant_of, less_offset, report_of, round_to_precision,
-    wall_from_tm,
+    Undated, day_of, instant_of, less_offset, report_of, round_to_precision, wall_from_tm,
 };
-use moment_parts::Answer;
+use moment_parts::{Parts, Unread};
 
 // The instant and the day of an answer.
-fn instant_from(answer: Answer) -> Instant
+fn instant_from(answer: Result<Parts, Unread>) -> Result<i64, Undated>
     ensures { result ≡ instant_by answer }
 {
-    match answer {
-        Answer::Moment(p) => instant_of(p),
-        Answer::Refused(why) => Instant::Refused(Undated::Unread(why)),
-    }
+    instant_of(answer?)
 }
 
-fn day_from(answer: Answer) -> Day
+fn day_from(answer: Result<Parts, Unread>) -> Result<i32, Undated>
     ensures { result ≡ day_by answer }
 {
-    match answer {
-        Answer::Moment(p) => day_of(p),
-        Answer::Refused(why) => Day::Refused(Undated::Unread(why)),
-    }
+    day_of(answer?)
 }
 
 // The instant and the day of an input by a template.
-pub fn to_timestamp_text(set: Settings, t: &[u8], s: &[u8]) -> Instant
+#[tactic(auto, unfolding(crate::specs::ByTemplate::timestamp_of))]
+pub fn to_timestamp_text(set: Settings, t: &[u8], s: &[u8]) -> Result<i64, Undated>
     ensures { result ≡ timestamp_of set t.now s.now }
 {
     instant_from(moment_parts::to_timestamp_parts(set, t, s))
 }
 
-pub fn to_date_text(set: Settings, t: &[u8], s: &[u8]) -> Day
+#[tactic(auto, unfolding(crate::specs::ByTemplate::date_of))]
+pub fn to_date_text(set: Settings, t: &[u8], s: &[u8]) -> Result<i32, Undated>
     ensures { result ≡ date_of set t.now s.now }
 {
     day_from(moment_parts::to_timestamp_parts(set, t, s))
 }
 
 // The same by the nodes that any bytes hold. t is the template that they were made from.
-pub fn instant_by(set: Settings, c: &[u8], t: &[u8], s: &[u8]) -> Instant
+pub fn instant_by(set: Settings, c: &[u8], t: &[u8], s: &[u8]) -> Result<i64, Undated>
     ensures { result ≡ instant_by (parts_by set (nodes_in c.now) t.now s.now) }
 {
     instant_from(moment_parts::parts_by(set, c, t, s))
 }
 
-pub fn day_by(set: Settings, c: &[u8], t: &[u8], s: &[u8]) -> Day
+pub fn day_by(set: Settings, c: &[u8], t: &[u8], s: &[u8]) -> Result<i32, Undated>
     ensures { result ≡ day_by (parts_by set (nodes_in c.now) t.now s.now) }
 {
     day_from(moment_parts::parts_by(set, c, t, s))

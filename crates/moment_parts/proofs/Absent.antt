@@ -1,7 +1,7 @@
 -- Fields that are absent, told by the bits of them all at once. Assumes nothing.
 -- `all_zero_lem`: one test of the bits of numbers, joined, is the test of each number.
 -- `zeros`: fields that are absent are 0.
-use mathlib.Core.Path.{◌≡◌, refl, sym, ◌∙◌, ap}
+use mathlib.Core.Path.{◌≡◌, refl, ◌∙◌, ap}
 use mathlib.Core.Bool.{Bool, true, false, ◌&&◌, false≢true}
 use mathlib.Core.List.{List, [], ◌∷◌}
 use Prim.Native.Nat.{ℕ, ◌≤◌, ◌<◌, ◌^◌}

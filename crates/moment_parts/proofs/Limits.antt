@@ -3,8 +3,6 @@
 -- `bad_text`: where both are within their limits, and one of them is not UTF-8, that is refused.
 -- `read_by`, `by_nodes`: the answer to any others is what the nodes make; to a template in UTF-8 and any input it is
 -- that of its nodes.
--- `input_long`: by any nodes, an input over its limit is refused. `input_within`: any other is read.
--- `input_bad`: an input that is not UTF-8 is refused. `input_good`: to any other the answer is what the nodes make.
 use mathlib.Core.Path.{◌≡◌, refl, sym}
 use mathlib.Core.Bool.{Bool, true, false, not, ◌&&◌, false≢true}
 use mathlib.Core.List.{List}
@@ -18,7 +16,6 @@ use Rattle.base_settings.specs.declared.Settings.{Settings}
 use Rattle.base_refusals.specs.declared.Refusal.TheVariants.{TooLong, NotUtf8}
 use Rattle.base_chars.specs.Utf8.{well_formed}
 use Rattle.template_nodes.specs.Template.{nodes_by}
-use Rattle.template_nodes.specs.declared.Node.{Node}
 use Rattle.moment_parts.specs.Parts.{answer_by, parts_by, parts_of, parts_read, refused_by}
 
 -- by a template
@@ -54,21 +51,3 @@ module _ (set : Settings) (t s : List ℕ) where
     pub by_nodes : well_formed t ≡ true → parts_by set (nodes_by set.accents t) t s ≡ parts_of set t s
     unfolding parts_of parts_by
     by_nodes e = rw (le-ltb (template_limit set) (length t) short, e)
-
--- by any nodes
-module _ (ns : List Node) (t s : List ℕ) where
-  pub input_long : (set : Settings) → input_limit set < length s → refused_by TooLong ≡ parts_by set ns t s
-  unfolding parts_by
-  input_long set h = rw (lt-ltb (input_limit set) (length s) h)
-
-  pub input_within : (set : Settings) → length s ≤ input_limit set → parts_read set.strict ns t s ≡ parts_by set ns t s
-  unfolding parts_by
-  input_within set h = rw (le-ltb (input_limit set) (length s) h)
-
-  pub input_bad : (strict : Bool) → well_formed s ≡ false → refused_by NotUtf8 ≡ parts_read strict ns t s
-  unfolding parts_read
-  input_bad strict e = rw e
-
-  pub input_good : (strict : Bool) → well_formed s ≡ true → answer_by strict ns t s ≡ parts_read strict ns t s
-  unfolding parts_read
-  input_good strict e = rw e

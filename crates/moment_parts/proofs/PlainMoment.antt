@@ -1,7 +1,8 @@
 -- The moment of plain fields in range. From the definitions alone; assumes nothing.
 -- `plain_moment`: it is that of year, month, day, hour, minute, second and microsecond as they were read, with the first
 -- of the year or the month where a month or a day is absent, without an offset; the strict switch does not change it.
-use mathlib.Core.Path.{◌≡◌, refl, sym, ◌∙◌, ap}
+use Rattle.std.specs.Prelude.{None, Ok}
+use mathlib.Core.Path.{◌≡◌, refl, sym, ap}
 use mathlib.Core.Bool.{Bool, true, false, not, ◌&&◌, false≢true}
 use mathlib.Core.List.{[], ◌∷◌}
 use Prim.Native.Nat.{ℕ, ◌+◌, ◌%◌, ◌≤◌, ◌^◌}
@@ -22,19 +23,14 @@ use Rattle.base_wrapping.specs.Wrap.{wrap32, ◌⊕◌}
 use Rattle.read_fields.specs.Fields.{get, is_zero, hh, mi, ss, ssss, dd, ddd, mm, ms, year, bc, ww, w, cc, j, us, clock, tzsign}
 use Rattle.read_fields.specs.declared.Fields.{Fields}
 use Rattle.moment_date.specs.Dates.{days, begun, with_julian, with_week, with_month_week, with_day_of_year, dated_of, date_in_range, no_such_day}
-use Rattle.moment_date.specs.declared.Dated.TheVariants.{Date}
 use Rattle.moment_date.specs.declared.Days.{Days}
 use Rattle.moment_sums.specs.Within.{Within, below}
-use Rattle.moment_sums.specs.declared.Value.TheVariants.{Is}
 use Rattle.moment_sums.proofs.Tests.{failed}
 use Rattle.moment_sums.proofs.Within.{from_zero, within}
 use Rattle.moment_time.specs.Time.{◌or◌, hour_of, minute_of, second_of, clock_hour, micros_of, time_in_range, offset_of, offset_in_range, checked_offset}
-use Rattle.moment_time.specs.declared.Offset.TheVariants.{Absent}
-use Rattle.moment_time.specs.declared.Zoned.TheVariants.{At}
 use Rattle.moment_year.specs.Year.{year_of}
 use Rattle.moment_parts.specs.Parts.{checked_moment, moment_of}
 use Rattle.moment_parts.specs.Plain.{is_plain, or_first, plain_marks, has_day, has_plain_moment, plain_parts}
-use Rattle.moment_parts.specs.declared.Answer.TheVariants.{Moment}
 use Rattle.moment_parts.proofs.Absent.{zero_is, zeros}
 
 -- the fields of other steps are 0
@@ -116,9 +112,9 @@ abbrev plain_date : Fields → Days
 plain_date f = days (get f year) (or_first (get f mm)) (or_first (get f dd)) (plain_marks (get f mm) (get f dd)) (get f dd) (get f ddd)
 
 module _ (f : Fields) (p : Plain f) where
-  hour_is : clock_hour f ≡ Is (get f hh)
+  hour_is : clock_hour f ≡ Ok (get f hh)
   unfolding clock_hour hour_of
-  hour_is = rw (p.clock_is, p.ssss_is) (ap Is (or_zero (get f hh)))
+  hour_is = rw (p.clock_is, p.ssss_is) (ap Ok (or_zero (get f hh)))
 
   minute_is : minute_of f ≡ get f mi
   unfolding minute_of
@@ -128,31 +124,31 @@ module _ (f : Fields) (p : Plain f) where
   unfolding second_of
   second_is = rw p.ssss_is (or_zero (get f ss))
 
-  micros_is : Within 0 999999 (get f us) → micros_of f ≡ Is (get f us)
+  micros_is : Within 0 999999 (get f us) → micros_of f ≡ Ok (get f us)
   unfolding micros_of
-  micros_is h = rw (p.ms_is, h.is) (ap Is (small_sum h.at h.to))
+  micros_is h = rw (p.ms_is, h.is) (ap Ok (small_sum h.at h.to))
 
-  offset_is : checked_offset f ≡ At Absent
+  offset_is : checked_offset f ≡ Ok None
   unfolding checked_offset offset_in_range offset_of
   offset_is = rw p.tzsign_is
 
   -- a year above 0
   module _ (y : Above (get f year)) where
-    year_is : year_of f ≡ Is (get f year)
+    year_is : year_of f ≡ Ok (get f year)
     unfolding year_of
     year_is = rw (p.cc_is, p.bc_is, y.is, ne_eqb y.at 0 (λ e. omega (arith, e, y.from)), le-ltb y.at 0 (omega arith))
 
     not_absent : is_zero (get f year) ≡ false
     not_absent = rw y.is (ne_eqb y.at 0 (λ e. omega (arith, e, y.from)))
 
-    date_by : (a b : Bool) → is_zero (get f mm) ≡ a → is_zero (get f dd) ≡ b → dated_of f ≡ Date (plain_date f)
+    date_by : (a b : Bool) → is_zero (get f mm) ≡ a → is_zero (get f dd) ≡ b → dated_of f ≡ Ok (plain_date f)
     unfolding dated_of begun with_julian with_week with_month_week with_day_of_year or_first plain_marks
     date_by true true u v = simp (year_is, not_absent, p.j_is, p.ww_is, p.w_is, p.ddd_is, u, v)
     date_by true false u v = simp (year_is, not_absent, p.j_is, p.ww_is, p.w_is, p.ddd_is, u, v)
     date_by false true u v = simp (year_is, not_absent, p.j_is, p.ww_is, p.w_is, p.ddd_is, u, v)
     date_by false false u v = simp (year_is, not_absent, p.j_is, p.ww_is, p.w_is, p.ddd_is, u, v)
 
-    date_is : dated_of f ≡ Date (plain_date f)
+    date_is : dated_of f ≡ Ok (plain_date f)
     date_is = date_by (is_zero (get f mm)) (is_zero (get f dd)) refl refl
 
 -- a month from 1 to 12, by its tests; none has more than 31 days
@@ -187,7 +183,7 @@ module _ (y m n : ℤ) (has : has_day y m n ≡ true) where
       let month_tests = of_year m month_within.0 month_within.1 in
       simp (month_tests.0, month_tests.1, tests.0, tests.1, at_most, and-false)
 
-pub plain_moment : (strict : Bool) (f : Fields) → has_plain_moment f ≡ true → moment_of strict f ≡ Moment (plain_parts f)
+pub plain_moment : (strict : Bool) (f : Fields) → has_plain_moment f ≡ true → moment_of strict f ≡ Ok (plain_parts f)
 unfolding has_plain_moment moment_of checked_moment plain_parts
 plain_moment strict f e =
     let plain_test = both (is_plain f) _ e in

@@ -5,6 +5,7 @@
 -- `parts_in_range`: so the parts of every moment that is answered are in range.
 -- `moment_answered`, `moment_in_range`: the same for any fields whose digits of a fraction are 0 to 6, however they
 -- were read.
+use Rattle.std.specs.Prelude.{Err, None, Ok, Result, Some, ⊤}
 use mathlib.Core.Path.{◌≡◌, refl, subst}
 use mathlib.Core.Bool.{Bool, true, false, not, ◌&&◌, ◌||◌, false≢true}
 use mathlib.Core.List.{List}
@@ -29,27 +30,16 @@ use Rattle.calendar_gregorian.specs.Gregorian.{is_leap}
 use Rattle.read_fields.specs.Fields.{get, is_zero, tzsign, tzh, tzm, ff}
 use Rattle.read_input.specs.Reader.{read_all}
 use Rattle.read_fields.specs.declared.Fields.{Fields}
-use Rattle.read_fields.specs.declared.Reading.{Reading}
-use Rattle.read_fields.specs.declared.Verdict.{Verdict}
-use Rattle.read_fields.specs.declared.Verdict.TheVariants.{Read, Refused as Stopped}
 use Rattle.template_nodes.specs.Template.{nodes_by}
 use Rattle.template_nodes.specs.declared.Node.{Node}
-use Rattle.moment_date.specs.Dates.{year_bit, month_bit, day_bit, all_bits, is_set, outside, part_in_range, day_in_month, date_in_range, dated_of, no_such_day}
+use Rattle.moment_date.specs.Dates.{year_bit, month_bit, day_bit, all_bits, is_set, part_in_range, day_in_month, date_in_range, dated_of, no_such_day}
 use Rattle.moment_parts.specs.Parts.{with_offset, checked_moment, then_moment, then_micros, then_date, moment_of, then_fields, parts_read, parts_by, parts_of, refused_by}
 use Rattle.moment_sums.specs.Within.{Within, below}
 use Rattle.moment_parts.specs.Ranges.{OffsetWithin, InRange, Answered}
 use Rattle.moment_parts.specs.Report.{unread_report}
 use Rattle.moment_time.specs.Time.{minute_of, second_of, clock_hour, micros_of, time_in_range, east_of, offset_of, offset_in_range, checked_offset}
-use Rattle.moment_parts.specs.declared.Answer.{Answer}
-use Rattle.moment_parts.specs.declared.Answer.TheVariants.{Moment, Refused}
-use Rattle.moment_date.specs.declared.Dated.{Dated}
-use Rattle.moment_date.specs.declared.Dated.TheVariants.{Date, Refused as NoDate}
 use Rattle.moment_date.specs.declared.Days.{Days}
-use Rattle.moment_time.specs.declared.Offset.TheVariants.{Absent, East}
 use Rattle.moment_parts.specs.declared.Parts.{Parts}
-use Rattle.moment_sums.specs.declared.Value.{Value}
-use Rattle.moment_sums.specs.declared.Value.TheVariants.{Is, Not}
-use Rattle.moment_time.specs.declared.Zoned.TheVariants.{At, Refused as NoZone}
 use Rattle.read_input.proofs.Precision.{read_precise}
 use Rattle.moment_date.proofs.Marks.{Marked, MarkedDate, marked}
 use Rattle.moment_date.proofs.Never.{has_first, longest, three_bits}
@@ -92,7 +82,7 @@ offset_within : (f : Fields) → offset_in_range f ≡ true → OffsetWithin (of
 unfolding offset_in_range offset_of
 offset_within f e = split (is_zero (get f tzsign)) e
   where
-    split : (b : Bool) → (b || below (get f tzh) 16 && below (get f tzm) 60) ≡ true → OffsetWithin (when b then Absent else East (east_of f))
+    split : (b : Bool) → (b || below (get f tzh) 16 && below (get f tzm) 60) ≡ true → OffsetWithin (when b then None else Some (east_of f))
     split true e = tt
     split false e =
         let tests = both (below (get f tzh) 16) (below (get f tzm) 60) e in
@@ -153,7 +143,7 @@ second a b e p = rw p at e
 module _ (strict : Bool) (f : Fields) (few : Within 0 6 (get f ff)) (r : Days) (hour us : ℤ) (m : Marked r) where
   in_range_of : date_in_range r ≡ true → (strict && no_such_day r.set r.month r.day) ≡ false
       → time_in_range hour (minute_of f) (second_of f) us ≡ true → offset_in_range f ≡ true
-      → Answered strict (with_offset f r hour us (At (offset_of f)))
+      → Answered strict (with_offset f r hour us (Ok (offset_of f)))
   unfolding date_in_range time_in_range
   in_range_of d n t o =
       let month_test = both (part_in_range r.set month_bit r.month (pos 12)) _ d in
@@ -190,34 +180,34 @@ module _ (strict : Bool) (f : Fields) (few : Within 0 6 (get f ff)) (r : Days) (
       (λ d. by_if (Answered strict) (strict && no_such_day r.set r.month r.day) _ _
       (λ e. inr (refl, (both strict _ e).0))
       (λ n. by_if (Answered strict) (not (time_in_range hour (minute_of f) (second_of f) us)) _ _ (λ e. refused strict FieldOverflow)
-      (λ t. by_if (λ z. Answered strict (with_offset f r hour us z)) (offset_in_range f) (At (offset_of f)) (NoZone OffsetRange)
+      (λ t. by_if (λ z. Answered strict (with_offset f r hour us z)) (offset_in_range f) (Ok (offset_of f)) (Err OffsetRange)
       (in_range_of (passed _ d) n (passed _ t)) (λ o. refused strict OffsetRange))))
 
 -- each step of the definition, on what the one before left
 module _ (strict : Bool) (f : Fields) (few : Within 0 6 (get f ff)) where
-  then_moment_lem : (r : Days) (hour : ℤ) (v : Value) → Marked r → Answered strict (then_moment strict f r hour v)
-  then_moment_lem r hour (Not why) m = refused strict why
-  then_moment_lem r hour (Is us) m = checked_answered strict f few r hour us m
+  then_moment_lem : (r : Days) (hour : ℤ) (v : Result ℤ Refusal) → Marked r → Answered strict (then_moment strict f r hour v)
+  then_moment_lem r hour (Err why) m = refused strict why
+  then_moment_lem r hour (Ok us) m = checked_answered strict f few r hour us m
 
-  then_micros_lem : (hour : ℤ) (a : Dated) → MarkedDate a → Answered strict (then_micros strict f hour a)
-  then_micros_lem hour (NoDate why) m = refused strict why
-  then_micros_lem hour (Date r) m = then_moment_lem r hour (micros_of f) m
+  then_micros_lem : (hour : ℤ) (a : Result Days Refusal) → MarkedDate a → Answered strict (then_micros strict f hour a)
+  then_micros_lem hour (Err why) m = refused strict why
+  then_micros_lem hour (Ok r) m = then_moment_lem r hour (micros_of f) m
 
-  then_date_lem : (v : Value) → Answered strict (then_date strict f v)
-  then_date_lem (Not why) = refused strict why
-  then_date_lem (Is hour) = then_micros_lem hour (dated_of f) (marked f)
+  then_date_lem : (v : Result ℤ Refusal) → Answered strict (then_date strict f v)
+  then_date_lem (Err why) = refused strict why
+  then_date_lem (Ok hour) = then_micros_lem hour (dated_of f) (marked f)
 
   -- for all fields
   pub moment_answered : Answered strict (moment_of strict f)
   unfolding moment_of
   moment_answered = then_date_lem (clock_hour f)
 
-  pub moment_in_range : {p : Parts} → moment_of strict f ≡ Moment p → InRange strict p
+  pub moment_in_range : {p : Parts} → moment_of strict f ≡ Ok p → InRange strict p
   moment_in_range e = subst (Answered strict) e moment_answered
 
-  then_fields_lem : (v : Verdict) → Answered strict (then_fields strict v f)
-  then_fields_lem Read = moment_answered
-  then_fields_lem (Stopped why) = refused strict why
+  then_fields_lem : (v : Result ⊤ Refusal) → Answered strict (then_fields strict v f)
+  then_fields_lem (Ok tt) = moment_answered
+  then_fields_lem (Err why) = refused strict why
 
 -- for all nodes, templates and inputs, of any bytes and length
 module _ (strict : Bool) (ns : List Node) (t s : List ℕ) where
@@ -247,5 +237,5 @@ module _ (set : Settings) (t s : List ℕ) where
       by_if P (ltb (template_limit set) (length t) || ltb (input_limit set) (length s)) _ _ (λ e. refused set.strict TooLong)
       (λ e. by_if P (not (well_formed t)) _ _ (λ e. refused set.strict NotUtf8) (λ e. read_answered set.strict (nodes_by set.accents t) t s))
 
-  pub parts_in_range : {p : Parts} → parts_of set t s ≡ Moment p → InRange set.strict p
+  pub parts_in_range : {p : Parts} → parts_of set t s ≡ Ok p → InRange set.strict p
   parts_in_range e = subst (Answered set.strict) e answered

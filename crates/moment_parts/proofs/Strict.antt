@@ -1,6 +1,7 @@
 -- What the strict switch changes. Assumes nothing.
 -- `strict_alone`: under it a moment whose month never has its day is refused, and nothing else changes, but that this
 -- refusal comes before those of the time and of the offset.
+use Rattle.std.specs.Prelude.{Err, Ok, Result, ⊤}
 use mathlib.Core.Path.{◌≡◌, refl}
 use mathlib.Core.Bool.{Bool, true, false, not, ◌||◌}
 use mathlib.Core.List.{List}
@@ -17,22 +18,17 @@ use Rattle.base_refusals.specs.declared.Refusal.{Refusal}
 use Rattle.base_refusals.specs.declared.Refusal.TheVariants.{NotUtf8, TooLong}
 use Rattle.base_chars.specs.Utf8.{well_formed}
 use Rattle.read_fields.specs.declared.Fields.{Fields}
-use Rattle.read_fields.specs.declared.Verdict.{Verdict}
-use Rattle.read_fields.specs.declared.Verdict.TheVariants.{Read, Refused as Stopped}
 use Rattle.read_input.specs.Reader.{read_all}
 use Rattle.template_nodes.specs.Template.{nodes_by}
 use Rattle.template_nodes.specs.declared.Node.{Node}
 use Rattle.moment_date.specs.Dates.{dated_of, date_in_range, no_such_day}
-use Rattle.moment_date.specs.declared.Dated.{Dated}
-use Rattle.moment_date.specs.declared.Dated.TheVariants.{Date, Refused as NoDate}
 use Rattle.moment_date.specs.declared.Days.{Days}
 use Rattle.moment_date.proofs.Never.{longest}
-use Rattle.moment_sums.specs.declared.Value.{Value}
-use Rattle.moment_sums.specs.declared.Value.TheVariants.{Is, Not}
 use Rattle.moment_time.specs.Time.{minute_of, second_of, clock_hour, micros_of, offset_in_range, time_in_range, checked_offset}
 use Rattle.moment_parts.specs.Parts.{checked_moment, moment_of, parts_by, parts_of, parts_read, refused_by, then_date, then_fields, then_micros, then_moment}
 use Rattle.moment_parts.specs.Strict.{StrictAlone, Strictly}
-use Rattle.moment_parts.specs.declared.Answer.{Answer}
+use Rattle.moment_parts.specs.declared.Parts.{Parts}
+use Rattle.moment_parts.specs.declared.Unread.{Unread}
 
 -- what is refused before the switch is asked stays
 stays : (why : Refusal) → Strictly (refused_by why) (refused_by why)
@@ -55,25 +51,25 @@ checked f r hour us =
     split true false true true ed en et eo = rw (ed, en, et, eo) (rw en refl)
 
 -- what comes before them is the same in both
-then_moment_lem : (f : Fields) (r : Days) (hour : ℤ) (v : Value) → Strictly (then_moment false f r hour v) (then_moment true f r hour v)
-then_moment_lem f r hour (Not why) = stays why
-then_moment_lem f r hour (Is us) = checked f r hour us
+then_moment_lem : (f : Fields) (r : Days) (hour : ℤ) (v : Result ℤ Refusal) → Strictly (then_moment false f r hour v) (then_moment true f r hour v)
+then_moment_lem f r hour (Err why) = stays why
+then_moment_lem f r hour (Ok us) = checked f r hour us
 
-then_micros_lem : (f : Fields) (hour : ℤ) (a : Dated) → Strictly (then_micros false f hour a) (then_micros true f hour a)
-then_micros_lem f hour (NoDate why) = stays why
-then_micros_lem f hour (Date r) = then_moment_lem f r hour (micros_of f)
+then_micros_lem : (f : Fields) (hour : ℤ) (a : Result Days Refusal) → Strictly (then_micros false f hour a) (then_micros true f hour a)
+then_micros_lem f hour (Err why) = stays why
+then_micros_lem f hour (Ok r) = then_moment_lem f r hour (micros_of f)
 
-then_date_lem : (f : Fields) (v : Value) → Strictly (then_date false f v) (then_date true f v)
-then_date_lem f (Not why) = stays why
-then_date_lem f (Is hour) = then_micros_lem f hour (dated_of f)
+then_date_lem : (f : Fields) (v : Result ℤ Refusal) → Strictly (then_date false f v) (then_date true f v)
+then_date_lem f (Err why) = stays why
+then_date_lem f (Ok hour) = then_micros_lem f hour (dated_of f)
 
-then_fields_lem : (v : Verdict) (f : Fields) → Strictly (then_fields false v f) (then_fields true v f)
+then_fields_lem : (v : Result ⊤ Refusal) (f : Fields) → Strictly (then_fields false v f) (then_fields true v f)
 unfolding moment_of
-then_fields_lem Read f = then_date_lem f (clock_hour f)
-then_fields_lem (Stopped why) f = stays why
+then_fields_lem (Ok tt) f = then_date_lem f (clock_hour f)
+then_fields_lem (Err why) f = stays why
 
 -- a test that both make
-same_test : (b : Bool) (x y x' y' : Answer) → Strictly x x' → Strictly y y' → Strictly (when b then x else y) (when b then x' else y')
+same_test : (b : Bool) (x y x' y' : Result Parts Unread) → Strictly x x' → Strictly y y' → Strictly (when b then x else y) (when b then x' else y')
 same_test true x y x' y' h k = h
 same_test false x y x' y' h k = k
 

@@ -1,6 +1,6 @@
 -- Worked examples: the table P1 to P15, proved in one statement, the limits, and days without a year. Each answer is as
 -- users see it: the numbers of a moment, or a refusal's number, the name of its pattern and its two figures.
-use Rattle.std.specs.Prelude.{◌≡◌, refl, true, List, [], ℕ, ℤ, pos, replicate}
+use Rattle.std.specs.Prelude.{◌≡◌, refl, true, List, [], ℕ, ℤ, pos, replicate, Err, None, Ok, Option, Result, Some}
 use Prim.Native.String.{String}
 use Rattle.moment_date.specs.Dates.{date_computes}
 use Rattle.moment_time.specs.Time.{time_computes}
@@ -15,11 +15,8 @@ use Rattle.base_chars.specs.Utf8.{sequence, well_formed_after}
 use Rattle.moment_parts.specs.Parts.{checked_moment, moment_of, parts_of, parts_read, refused_by}
 use Rattle.moment_parts.specs.Patterns.{pattern_name}
 use Rattle.moment_parts.specs.Report.{unread_report}
-use Rattle.moment_parts.specs.declared.Answer.{Answer}
-use Rattle.moment_parts.specs.declared.Answer.TheVariants.{Moment, Refused}
 use Rattle.moment_parts.specs.declared.Parts.{Parts}
-use Rattle.moment_time.specs.declared.Offset.{Offset}
-use Rattle.moment_time.specs.declared.Offset.TheVariants.{Absent, East}
+use Rattle.moment_parts.specs.declared.Unread.{Unread}
 
 -- what users see: the parts of a moment, or a refusal by its number, its pattern's name and two figures
 pub data Shown : Type 0 where
@@ -30,22 +27,22 @@ pub data Shown : Type 0 where
 abbrev pub reported : Report → Shown
 reported r = refused r.number (pattern_name r.pattern) r.first r.second
 
-abbrev pub shown : Answer → Shown
-shown (Moment p) = accepted p
-shown (Refused why) = reported (unread_report why)
+abbrev pub shown : Result Parts Unread → Shown
+shown (Ok p) = accepted p
+shown (Err why) = reported (unread_report why)
 
 -- what users of the exercise pages see for a template and an input
 abbrev pub reads : String → String → Shown
 reads t s = shown (parts_of pages (utf8 t) (utf8 s))
 
 -- a moment by its year, month, day, hour, microseconds, offset and marks; minute, second and precision are 0
-abbrev pub moment : ℕ → ℕ → ℕ → ℕ → ℕ → Offset → ℕ → Shown
+abbrev pub moment : ℕ → ℕ → ℕ → ℕ → ℕ → Option ℤ → ℕ → Shown
 moment y m d h us offset marks =
     accepted (record { year = pos y; month = pos m; day = pos d; hour = pos h; minute = pos 0; second = pos 0; micros = pos us; precision = pos 0; offset = offset; marks = marks })
 
 -- a moment at midnight, without an offset; the marks are 1 for the year, 2 for the month and 4 for the day
 abbrev pub date : ℕ → ℕ → ℕ → ℕ → Shown
-date y m d marks = moment y m d 0 0 Absent marks
+date y m d marks = moment y m d 0 0 None marks
 
 -- a refusal by its number, its pattern's name and two figures that are not negative
 abbrev pub refusal : ℕ → String → ℕ → ℕ → Shown
@@ -64,9 +61,9 @@ Table =
     × (reads "HH12 PM" "12 AM" ≡ date 0 1 1 0)  -- P8
     × (reads "YY" "69" ≡ date 2069 1 1 1)  -- P9
     × (reads "YY" "70" ≡ date 1970 1 1 1)  -- P9
-    × (reads "MS" "5" ≡ moment 0 1 1 0 500000 Absent 0)  -- P10
+    × (reads "MS" "5" ≡ moment 0 1 1 0 500000 None 0)  -- P10
     × (reads "IYYY-IW-ID" "2020-53-5" ≡ date 2021 1 1 7)  -- P11
-    × (reads "OF" "+15:59" ≡ moment 0 1 1 0 0 (East (pos 57540)) 0)  -- P12
+    × (reads "OF" "+15:59" ≡ moment 0 1 1 0 0 (Some (pos 57540)) 0)  -- P12
     × (reads "OF" "+16" ≡ refusal 16 "-" 0 0)  -- P12
     × (reads "CC YY" "21 00" ≡ date 2100 1 1 1)  -- P13
     × (reads "YYYY DDD" "-1 5" ≡ refusal 14 "-" 0 0)  -- P14

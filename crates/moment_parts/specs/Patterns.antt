@@ -1,5 +1,5 @@
 -- Which pattern a refusal names: none, or one of the template's.
-use Rattle.std.specs.Prelude.{◌≡◌, refl, List, [], ◌∷◌, ◌⊎◌, ℕ, ltb}
+use Rattle.std.specs.Prelude.{◌≡◌, refl, List, [], ◌∷◌, ◌⊎◌, ℕ, ltb, Err, Ok, Result}
 use Rattle.std.proofs.Common.{inl, inr, ⊎_elim, arith}
 use Rattle.base_notation.specs.Choice.{when◌then◌else◌}
 use Rattle.base_notation.specs.Text.{utf8}
@@ -9,11 +9,10 @@ use Rattle.template_patterns.specs.Patterns.{name_of}
 use Rattle.template_nodes.specs.Examples.{nodes_compute}
 use Rattle.template_nodes.specs.Template.{action, nodes_of}
 use Rattle.template_nodes.specs.declared.Node.{Node}
-use Rattle.moment_parts.specs.declared.Answer.{Answer}
 use Rattle.moment_parts.specs.Report.{unread_report}
-use Rattle.moment_parts.specs.declared.Answer.TheVariants.{Moment, Refused}
 use Rattle.moment_parts.specs.declared.Unread.{Unread}
 use Rattle.moment_parts.specs.declared.Unread.TheVariants.{By, NoSuchDay}
+use Rattle.moment_parts.specs.declared.Parts.{Parts}
 
 -- a pattern by its name, or - for none
 unfoldable pub pattern_name : ℕ → List ℕ
@@ -33,9 +32,9 @@ abbrev pub NamedBy : List Node → Unread → Type 0
 NamedBy ns why = NoneOrIn ns (unread_report why).pattern
 
 -- so does an answer, if it is a refusal
-abbrev pub NamesOwn : List Node → Answer → Type 0
-NamesOwn ns (Moment p) = Unit {0}
-NamesOwn ns (Refused why) = NamedBy ns why
+abbrev pub NamesOwn : List Node → Result Parts Unread → Type 0
+NamesOwn ns (Ok p) = Unit {0}
+NamesOwn ns (Err why) = NamedBy ns why
 
 -- by the template -DD a day that is too short names DD, the second node; a missing year and a day that its month never
 -- has name none

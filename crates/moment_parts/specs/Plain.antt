@@ -1,6 +1,6 @@
 -- The moment of plain fields, which takes no other steps than those of year, month, day, hour, minute, second and
 -- microsecond.
-use Rattle.std.specs.Prelude.{◌≡◌, refl, Bool, true, false, not, ◌&&◌, List, [], ◌∷◌, ℕ, ℤ, pos, nat_abs}
+use Rattle.std.specs.Prelude.{◌≡◌, refl, Bool, true, false, not, ◌&&◌, List, [], ◌∷◌, ℕ, ℤ, pos, nat_abs, None}
 use Rattle.std.specs.Int.Signed.{lt_z}
 use Rattle.base_notation.specs.Choice.{when◌then◌else◌}
 use Rattle.calendar_gregorian.specs.Civil.{length_of}
@@ -8,7 +8,6 @@ use Rattle.calendar_gregorian.specs.Gregorian.{is_leap}
 use Rattle.read_fields.specs.Fields.{get, put, no_fields, is_zero, hh, mi, ss, ssss, dd, ddd, mm, ms, year, bc, ww, w, cc, j, us, clock, tzsign, ff}
 use Rattle.read_fields.specs.declared.Fields.{Fields}
 use Rattle.moment_time.specs.Time.{◌or◌, time_in_range}
-use Rattle.moment_time.specs.declared.Offset.TheVariants.{Absent}
 use Rattle.moment_parts.specs.declared.Parts.{Parts}
 
 -- the fields of a list are absent
@@ -50,7 +49,7 @@ plain_parts f = record {
   second = get f ss;
   micros = get f us;
   precision = get f ff;
-  offset = Absent;
+  offset = None;
   marks = plain_marks (get f mm) (get f dd);
 }
 

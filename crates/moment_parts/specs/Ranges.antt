@@ -1,6 +1,6 @@
 -- What every answer keeps to: the ranges of a moment's parts, what its marks say, and the numbers of refusals. All of
 -- it speaks of the answer alone, and of the strict switch.
-use Rattle.std.specs.Prelude.{◌≡◌, refl, Bool, true, false, ◌⊎◌, ℕ, ◌≤◌, ◌<◌, ℤ, pos, negsuc, nat_abs}
+use Rattle.std.specs.Prelude.{◌≡◌, refl, Bool, true, false, ◌⊎◌, ℕ, ◌≤◌, ◌<◌, ℤ, pos, negsuc, nat_abs, Err, None, Ok, Option, Result, Some}
 use Rattle.std.proofs.Common.{ap, ⊎_elim, arith}
 use Rattle.std.proofs.lemmas.Bool.{false≢true}
 use Rattle.calendar_gregorian.specs.Civil.{length_of}
@@ -8,16 +8,13 @@ use Rattle.calendar_gregorian.specs.Gregorian.{is_leap}
 use Rattle.moment_date.specs.Dates.{year_bit, month_bit, day_bit, all_bits, is_set}
 pub use Rattle.moment_sums.specs.Within.{Within}
 use Rattle.moment_parts.specs.Report.{unread_report}
-use Rattle.moment_parts.specs.declared.Answer.{Answer}
-use Rattle.moment_parts.specs.declared.Answer.TheVariants.{Moment, Refused}
-use Rattle.moment_time.specs.declared.Offset.{Offset}
-use Rattle.moment_time.specs.declared.Offset.TheVariants.{Absent, East}
 use Rattle.moment_parts.specs.declared.Parts.{Parts}
+use Rattle.moment_parts.specs.declared.Unread.{Unread}
 
 -- an offset, if there is one, lies between 15:59 west and 15:59 east
-abbrev pub OffsetWithin : Offset → Type 0
-OffsetWithin Absent = Unit {0}
-OffsetWithin (East z) = nat_abs z ≤ 57540
+abbrev pub OffsetWithin : Option ℤ → Type 0
+OffsetWithin None = Unit {0}
+OffsetWithin (Some z) = nat_abs z ≤ 57540
 
 -- the day is one that its month has in that year
 abbrev pub HasDay : Parts → Type 0
@@ -53,18 +50,18 @@ abbrev pub ReadNumber : Bool → ℕ → Type 0
 ReadNumber strict n = ((1 ≤ n) × (n ≤ 16)) ⊎ ((n ≡ 25) × (strict ≡ true))
 
 -- an answer is a moment in range, or a refusal by such a number, with a pattern and two figures
-abbrev pub Answered : Bool → Answer → Type 0
-Answered strict (Moment p) = InRange strict p
-Answered strict (Refused why) = ReadNumber strict (unread_report why).number
+abbrev pub Answered : Bool → Result Parts Unread → Type 0
+Answered strict (Ok p) = InRange strict p
+Answered strict (Err why) = ReadNumber strict (unread_report why).number
 
 -- 15:59 east and 15:59 west
-pub ends : OffsetWithin (East (pos 57540)) × OffsetWithin (East (negsuc 57539))
+pub ends : OffsetWithin (Some (pos 57540)) × OffsetWithin (Some (negsuc 57539))
 ends = (omega arith, omega arith)
 
 -- midnight of a day, by its year, month, day and marks
 abbrev pub midnight : ℕ → ℕ → ℕ → ℕ → Parts
 midnight y m d marks =
-    record { year = pos y; month = pos m; day = pos d; hour = pos 0; minute = pos 0; second = pos 0; micros = pos 0; precision = pos 0; offset = Absent; marks = marks }
+    record { year = pos y; month = pos m; day = pos d; hour = pos 0; minute = pos 0; second = pos 0; micros = pos 0; precision = pos 0; offset = None; marks = marks }
 
 -- February can have a 29th, and has none in 2023
 pub some_year : CanHaveDay (midnight 2023 2 29 7) × (HasDay (midnight 2023 2 29 7) → ⊥)

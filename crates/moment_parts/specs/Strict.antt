@@ -1,5 +1,5 @@
 -- What the strict switch changes: a day that its month never has is refused, and nothing else.
-use Rattle.std.specs.Prelude.{◌≡◌, refl, Bool, true, false, List, ◌⊎◌, ℕ, ◌≤◌, ℤ}
+use Rattle.std.specs.Prelude.{◌≡◌, refl, Bool, true, false, List, ◌⊎◌, ℕ, ◌≤◌, ℤ, Err, Ok, Result}
 use Rattle.base_notation.specs.Choice.{when◌then◌else◌}
 use Rattle.base_settings.specs.Strict.{with_strict}
 use Rattle.base_settings.specs.declared.Settings.{Settings}
@@ -9,21 +9,21 @@ use Rattle.template_nodes.specs.declared.Node.{Node}
 use Rattle.moment_date.specs.Dates.{no_such_day}
 use Rattle.moment_parts.specs.Parts.{parts_by, parts_of}
 use Rattle.moment_parts.specs.Ranges.{midnight}
-use Rattle.moment_parts.specs.declared.Answer.{Answer}
-use Rattle.moment_parts.specs.declared.Answer.TheVariants.{Moment, Refused}
 use Rattle.moment_parts.specs.declared.Unread.TheVariants.{By, NoSuchDay}
+use Rattle.moment_parts.specs.declared.Parts.{Parts}
+use Rattle.moment_parts.specs.declared.Unread.{Unread}
 
 -- what the strict answer a is where the other one is given: a moment stays, unless its month never has its day; a
 -- refusal stays, but 15 and 16 may come after such a day
-abbrev pub Strictly : (other a : Answer) → Type 0
-Strictly (Moment p) a = a ≡ (when no_such_day p.marks p.month p.day then Refused NoSuchDay else Moment p)
-Strictly (Refused why) a =
-    (a ≡ Refused why) ⊎ ((a ≡ Refused NoSuchDay) × ((why ≡ By FieldOverflow) ⊎ (why ≡ By OffsetRange)))
+abbrev pub Strictly : (other a : Result Parts Unread) → Type 0
+Strictly (Ok p) a = a ≡ (when no_such_day p.marks p.month p.day then Err NoSuchDay else Ok p)
+Strictly (Err why) a =
+    (a ≡ Err why) ⊎ ((a ≡ Err NoSuchDay) × ((why ≡ By FieldOverflow) ⊎ (why ≡ By OffsetRange)))
 
 -- without a year February 30 is refused, and February 29 stays; what has no mark of its month stays too
 pub worked
-    : Strictly (Moment (midnight 0 2 30 6)) (Refused NoSuchDay) × Strictly (Moment (midnight 0 2 29 6)) (Moment (midnight 0 2 29 6))
-    × Strictly (Moment (midnight 0 1 31 4)) (Moment (midnight 0 1 31 4))
+    : Strictly (Ok (midnight 0 2 30 6)) (Err NoSuchDay) × Strictly (Ok (midnight 0 2 29 6)) (Ok (midnight 0 2 29 6))
+    × Strictly (Ok (midnight 0 1 31 4)) (Ok (midnight 0 1 31 4))
 unfolding no_such_day
 worked = (refl, refl, refl)
 

@@ -9,16 +9,14 @@ ghost use Rattle.base_chars.specs.Utf8.{well_formed};
 ghost use Rattle.template_nodes.specs.Bytes.{nodes_in};
 ghost use Rattle.moment_parts.specs.Parts.{Makes, checked_moment, moment_of, parts_by, parts_of, then_fields};
 ghost use Rattle.moment_parts.specs.Report.{unread_report};
+ghost use Rattle.moment_parts.specs.declared.Unread.TheVariants.{By};
 
 use base_refusals::{Refusal, Report};
 use base_settings::Settings;
-use moment_date::{Dated, Days, date_in_range, dated_of, no_such_day};
-use moment_sums::Value;
-use moment_time::{
-    Offset, Zoned, clock_hour, micros_of, minute_of, offset_of, second_of, time_in_range,
-};
+use moment_date::{Days, date_in_range, dated_of, no_such_day};
+use moment_time::{clock_hour, micros_of, minute_of, offset_of, second_of, time_in_range};
 pub use plain::{has_plain_moment, is_plain, plain_parts};
-use read_fields::{Fields, Verdict, field};
+use read_fields::{Fields, field};
 use template_nodes::{NODE, NODES};
 
 // The marks say which of year, month and day are set (bits 1, 2 and 4).
@@ -32,7 +30,7 @@ pub struct Parts {
     pub second: i32,
     pub micros: i32,
     pub precision: i32,
-    pub offset: Offset,
+    pub offset: Option<i32>,
     pub marks: u8,
 }
 
@@ -44,13 +42,16 @@ pub enum Unread {
     NoSuchDay,
 }
 
-#[derive(Clone, Copy)]
-pub enum Answer {
-    Moment(Parts),
-    Refused(Unread),
+impl From<Refusal> for Unread {
+    ghost from_gives = { λ why r. r ≡ By why };
+
+    fn from(why: Refusal) -> Unread {
+        Unread::By(why)
+    }
 }
 
 // By which number a refusal is known, with its pattern and figures.
+#[tactic(auto, unfolding(crate::specs::Report::unread_report))]
 pub fn report_of(why: Unread) -> Report
     ensures { result ≡ unread_report why }
 {
@@ -62,66 +63,64 @@ pub fn report_of(why: Unread) -> Report
 
 // The moment of a date, an hour and microseconds. The checks in order: date, under the strict switch the day without a
 // year, time, offset.
-pub fn checked_moment(strict: bool, f: Fields, r: Days, hour: i32, micros: i32) -> Answer
+#[tactic(auto, unfolding(crate::specs::Parts::checked_moment))]
+pub fn checked_moment(
+    strict: bool,
+    f: Fields,
+    r: Days,
+    hour: i32,
+    micros: i32,
+) -> Result<Parts, Unread>
     ensures { result ≡ checked_moment strict f r hour micros }
 {
     let precision = f.values[field::FF];
     let minute = minute_of(f);
     let second = second_of(f);
     if !date_in_range(r) {
-        return Answer::Refused(Unread::By(Refusal::FieldOverflow));
+        return Err(Refusal::FieldOverflow.into());
     }
     if no_such_day(strict, r.set, r.month, r.day) {
-        return Answer::Refused(Unread::NoSuchDay);
+        return Err(Unread::NoSuchDay);
     }
     if !time_in_range(hour, minute, second, micros) {
-        return Answer::Refused(Unread::By(Refusal::FieldOverflow));
+        return Err(Refusal::FieldOverflow.into());
     }
-    match offset_of(f) {
-        Zoned::At(offset) => Answer::Moment(Parts {
-            year: r.year,
-            month: r.month,
-            day: r.day,
-            hour,
-            minute,
-            second,
-            micros,
-            precision,
-            offset,
-            marks: r.set,
-        }),
-        Zoned::Refused(why) => Answer::Refused(Unread::By(why)),
-    }
+    let offset = offset_of(f)?;
+    Ok(Parts {
+        year: r.year,
+        month: r.month,
+        day: r.day,
+        hour,
+        minute,
+        second,
+        micros,
+        precision,
+        offset,
+        marks: r.set,
+    })
 }
 
 // The moment that the fields make: the hour, the date and the fraction, each refused in this order.
-pub fn moment_of(strict: bool, f: Fields) -> Answer
+#[tactic(auto, unfolding(crate::specs::Parts::moment_of))]
+pub fn moment_of(strict: bool, f: Fields) -> Result<Parts, Unread>
     ensures { result ≡ moment_of strict f }
 {
-    match clock_hour(f) {
-        Value::Is(hour) => match dated_of(f) {
-            Dated::Date(r) => match micros_of(f) {
-                Value::Is(micros) => checked_moment(strict, f, r, hour, micros),
-                Value::Not(why) => Answer::Refused(Unread::By(why)),
-            },
-            Dated::Refused(why) => Answer::Refused(Unread::By(why)),
-        },
-        Value::Not(why) => Answer::Refused(Unread::By(why)),
-    }
+    let hour = clock_hour(f)?;
+    let date = dated_of(f)?;
+    let micros = micros_of(f)?;
+    checked_moment(strict, f, date, hour, micros)
 }
 
 // The answer once the fields are read.
-fn answered(strict: bool, verdict: Verdict, f: Fields) -> Answer
+fn answered(strict: bool, verdict: Result<(), Refusal>, f: Fields) -> Result<Parts, Unread>
     ensures { result ≡ then_fields strict verdict f }
 {
-    match verdict {
-        Verdict::Read => moment_of(strict, f),
-        Verdict::Refused(why) => Answer::Refused(Unread::By(why)),
-    }
+    verdict?;
+    moment_of(strict, f)
 }
 
 // What is read of an input that is UTF-8 and within its limit goes into fields that are lent, all absent at first.
-fn fields_within(c: &[u8], t: &[u8], s: &[u8], f: &mut [i32; 24]) -> Verdict
+fn fields_within(c: &[u8], t: &[u8], s: &[u8], f: &mut [i32; 24]) -> Result<(), Refusal>
     requires { (length s.now ≤ 512) × (fields_of f.old ≡ no_fields) }
     ensures { Makes result (fields_of f.new) (nodes_in c.now) t.now s.now }
 {
@@ -130,16 +129,23 @@ fn fields_within(c: &[u8], t: &[u8], s: &[u8], f: &mut [i32; 24]) -> Verdict
 }
 
 // The fields of an input by the nodes that any bytes hold. t is the template that they were made from.
-pub fn fields_by(set: Settings, c: &[u8], t: &[u8], s: &[u8], f: &mut [i32; 24]) -> Verdict
+#[tactic(auto, unfolding(crate::specs::Parts::parts_by, crate::specs::Parts::parts_read, base_settings::specs::Limits::input_limit))]
+pub fn fields_by(
+    set: Settings,
+    c: &[u8],
+    t: &[u8],
+    s: &[u8],
+    f: &mut [i32; 24],
+) -> Result<(), Refusal>
     requires { fields_of f.old ≡ no_fields }
     ensures { then_fields set.strict result (fields_of f.new) ≡ parts_by set (nodes_in c.now) t.now s.now }
 {
     let limit = base_settings::input_limit(set);
     if limit < s.len() {
-        return Verdict::Refused(Refusal::TooLong);
+        return Err(Refusal::TooLong);
     }
     if !base_chars::is_utf8(s) {
-        return Verdict::Refused(Refusal::NotUtf8);
+        return Err(Refusal::NotUtf8);
     }
     fields_within(c, t, s, f)
 }
@@ -147,25 +153,20 @@ pub fn fields_by(set: Settings, c: &[u8], t: &[u8], s: &[u8], f: &mut [i32; 24])
 fn are_utf8(t: &[u8], s: &[u8]) -> bool
     ensures { result ≡ (well_formed t.now && well_formed s.now) }
 {
-    if !base_chars::is_utf8(t) {
-        return false;
-    }
-    base_chars::is_utf8(s)
+    base_chars::is_utf8(t) && base_chars::is_utf8(s)
 }
 
 // The fields of an input by a template.
-pub fn fields_of(set: Settings, t: &[u8], s: &[u8], f: &mut [i32; 24]) -> Verdict
+#[tactic(auto, unfolding(crate::specs::Parts::parts_of))]
+pub fn fields_of(set: Settings, t: &[u8], s: &[u8], f: &mut [i32; 24]) -> Result<(), Refusal>
     requires { fields_of f.old ≡ no_fields }
     ensures { then_fields set.strict result (fields_of f.new) ≡ parts_of set t.now s.now }
 {
-    if base_settings::template_limit(set) < t.len() {
-        return Verdict::Refused(Refusal::TooLong);
-    }
-    if base_settings::input_limit(set) < s.len() {
-        return Verdict::Refused(Refusal::TooLong);
+    if base_settings::template_limit(set) < t.len() || base_settings::input_limit(set) < s.len() {
+        return Err(Refusal::TooLong);
     }
     if !are_utf8(t, s) {
-        return Verdict::Refused(Refusal::NotUtf8);
+        return Err(Refusal::NotUtf8);
     }
     let mut nodes = [0u8; NODES];
     let end = NODE * template_nodes::parse_format(set.accents, t, &mut nodes);
@@ -173,7 +174,7 @@ pub fn fields_of(set: Settings, t: &[u8], s: &[u8], f: &mut [i32; 24]) -> Verdic
 }
 
 // The parts of an input by the nodes that any bytes hold, and by a template.
-pub fn parts_by(set: Settings, c: &[u8], t: &[u8], s: &[u8]) -> Answer
+pub fn parts_by(set: Settings, c: &[u8], t: &[u8], s: &[u8]) -> Result<Parts, Unread>
     ensures { result ≡ parts_by set (nodes_in c.now) t.now s.now }
 {
     let mut values = [0; 24];
@@ -181,7 +182,7 @@ pub fn parts_by(set: Settings, c: &[u8], t: &[u8], s: &[u8]) -> Answer
     answered(set.strict, verdict, Fields { values })
 }
 
-pub fn to_timestamp_parts(set: Settings, t: &[u8], s: &[u8]) -> Answer
+pub fn to_timestamp_parts(set: Settings, t: &[u8], s: &[u8]) -> Result<Parts, Unread>
     ensures { result ≡ parts_of set t.now s.now }
 {
     let mut values = [0; 24];

@@ -6,7 +6,7 @@ ghost use Rattle.moment_parts.specs.Plain.{has_day, has_plain_moment, is_plain, 
 
 use crate::Parts;
 use calendar_gregorian::{month_length, pg_is_leap};
-use moment_time::{Offset, time_in_range};
+use moment_time::time_in_range;
 use read_fields::field;
 use read_fields::state::get;
 
@@ -28,42 +28,36 @@ pub fn is_plain(f: &[i32; 24]) -> bool
 }
 
 // A month or a day that is absent is the first.
+#[tactic(auto, unfolding(crate::specs::Plain::or_first))]
 fn or_first(value: i32) -> i32
     ensures { result ≡ or_first value }
 {
-    if value == 0 {
-        return 1;
-    }
-    value
+    if value == 0 { 1 } else { value }
 }
 
 // The marks of a date with a year: which of month and day were read.
+#[tactic(auto, unfolding(crate::specs::Plain::plain_marks))]
 fn plain_marks(month: i32, day: i32) -> u8
     ensures { result ≡ plain_marks month day }
 {
-    if month == 0 {
-        if day == 0 {
-            return 1;
-        }
-        return 5;
+    match (month, day) {
+        (0, 0) => 1,
+        (0, _) => 5,
+        (_, 0) => 3,
+        _ => 7,
     }
-    if day == 0 {
-        return 3;
-    }
-    7
 }
 
 // Whether a month of a year has a day. No other number than 1 to 12 is a month.
+#[tactic(auto, unfolding(crate::specs::Plain::has_day))]
 fn has_day(year: i32, month: i32, day: i32) -> bool
     ensures { result ≡ has_day year month day }
 {
-    if day < 1 {
-        return false;
-    }
-    day <= month_length(pg_is_leap(year), month)
+    1 <= day && day <= month_length(pg_is_leap(year), month)
 }
 
 // Whether the fields are plain, with a year above 0, and in range.
+#[tactic(auto, unfolding(crate::specs::Plain::has_plain_moment))]
 pub fn has_plain_moment(f: &[i32; 24]) -> bool
     ensures { result ≡ has_plain_moment (fields_of f.now) }
 {
@@ -86,6 +80,7 @@ pub fn has_plain_moment(f: &[i32; 24]) -> bool
 }
 
 // The parts of that moment.
+#[tactic(auto, unfolding(crate::specs::Plain::plain_parts))]
 pub fn plain_parts(f: &[i32; 24]) -> Parts
     ensures { result ≡ plain_parts (fields_of f.now) }
 {
@@ -100,7 +95,7 @@ pub fn plain_parts(f: &[i32; 24]) -> Parts
         second: get(f, field::SS),
         micros: get(f, field::US),
         precision: get(f, field::FF),
-        offset: Offset::Absent,
+        offset: None,
         marks: plain_marks(mm, dd),
     }
 }

@@ -1,7 +1,6 @@
 -- What fits an i32. Assumes nothing.
 -- `rem_fits`: a remainder of a number that fits; `neg_rem_fits`: a remainder with the other sign.
 -- `mixed_fits`: the difference of two naturals below 2 ^ 31.
--- `next_fits`: one more than a negative number.
 -- `back`: a number below 2 ^ 31 in size reads back from its bits as itself.
 -- `wrap_twice`: what was wrapped to 32 bits wraps to itself.
 use mathlib.Core.Path.{◌≡◌, refl, ◌∙◌, ap}
@@ -12,8 +11,8 @@ use native.Mathlib.Omega.{arith}
 use borrow.Author.Rules.{sfits_of}
 use borrow.Author.Tests.{ltb-true}
 use lib.Dec.{ltb}
-use lib.IntN.{ℤ, pos, negsuc, neg_ℤ, sub_ℕ, ◌+ℤ◌}
-use lib.Signed.{mag, lt_z, rem_z, mag_rem}
+use lib.IntN.{ℤ, pos, negsuc, neg_ℤ, sub_ℕ}
+use lib.Signed.{mag, rem_z, mag_rem}
 use mir.Facts.{to_z-of_z}
 use mir.Syntax.{w32}
 use mir.Val.{SFits, to_z, of_z}
@@ -44,11 +43,6 @@ rem_le (negsuc a) k h = neg_mag_le (suc a % k) k (omega (arith, mod-lt (suc a) h
 
 pub neg_rem_fits : (z : ℤ) (k : ℕ) → 0 < k → k < 2147483647 → SFits w32 (neg_ℤ (rem_z z (pos k)))
 neg_rem_fits z k h l = neg_fits (rem_z z (pos k)) (omega (arith, rem_le z k h))
-
--- one more than a negative number
-pub next_fits : (z : ℤ) → SFits w32 z → lt_z z (pos 0) ≡ true → SFits w32 (z +ℤ pos 1)
-next_fits (pos n) f e = absurd (let h : n < 0 = ltb-true n 0 e in omega arith)
-next_fits (negsuc n) f e = mixed_fits 1 n (omega arith) (omega arith)
 
 -- a number that a match bound reads back as itself
 pub back : (z : ℤ) → mag z < 2 ^ 31 → read z ≡ z

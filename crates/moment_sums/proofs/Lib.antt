@@ -7,9 +7,5 @@ pub mod Tests
 pub mod Within
 -- each field that was read fits an i32
 pub mod Known
--- when a sum fits an i32
-mod Sums
--- when a product fits an i32
-mod Products
 -- sums and products that are refused name no pattern
 pub mod Unnamed

@@ -1,8 +1,7 @@
 -- Hours and minutes of an offset, joined. Assumes nothing.
 -- Of 0 to 15 hours and 0 to 59 minutes:
--- `hours_fit`, `minutes_fit`, `seconds_fit`: the products and the sum fit an i32; `neg_minutes_fit`, `neg_seconds_fit`:
--- so they do with the other sign.
--- `neg_seconds_is`: the seconds of the negated minutes are the negated seconds.
+-- `hours_fit`, `minutes_fit`, `seconds_fit`: the products and the sum fit an i32; `neg_seconds_fit`: so do the seconds
+-- with the other sign.
 -- `east_range`, `west_range`: the offset is at most 57540 seconds, 15 hours and 59 minutes, with either sign.
 use mathlib.Core.Path.{◌≡◌, refl}
 use Prim.Native.Nat.{ℕ, zero, suc, ◌+◌, ◌*◌, ◌≤◌}
@@ -20,12 +19,7 @@ minutes h m = h *ℤ pos 60 +ℤ m
 abbrev pub seconds : ℤ → ℤ → ℤ
 seconds h m = minutes h m *ℤ pos 60
 
--- n minutes with the other sign
-neg_seconds : (n : ℕ) → neg_ℤ (pos n) *ℤ pos 60 ≡ neg_ℤ (pos (n * 60))
-neg_seconds zero = refl
-neg_seconds (suc n) = refl
-
--- its magnitude, and that it fits
+-- the magnitude of n with the other sign, and that it fits
 neg_abs : (n : ℕ) → nat_abs (neg_ℤ (pos n)) ≡ n
 neg_abs zero = refl
 neg_abs (suc n) = refl
@@ -44,14 +38,8 @@ module _ {h m : ℤ} (p : Within 0 15 h) (q : Within 0 59 m) where
   pub seconds_fit : SFits w32 (seconds h m)
   seconds_fit = rw (p.is, q.is) (omega arith)
 
-  pub neg_minutes_fit : SFits w32 (neg_ℤ (minutes h m))
-  neg_minutes_fit = rw (p.is, q.is) (neg_fits (p.at * 60 + q.at) (omega arith))
-
   pub neg_seconds_fit : SFits w32 (neg_ℤ (seconds h m))
   neg_seconds_fit = rw (p.is, q.is) (neg_fits ((p.at * 60 + q.at) * 60) (omega arith))
-
-  pub neg_seconds_is : neg_ℤ (minutes h m) *ℤ pos 60 ≡ neg_ℤ (seconds h m)
-  neg_seconds_is = rw (p.is, q.is) (neg_seconds (p.at * 60 + q.at))
 
   pub east_range : nat_abs (seconds h m) ≤ 57540
   east_range = rw (p.is, q.is) (omega arith)

@@ -1,5 +1,5 @@
 -- The time of day, its fraction and the offset, from the fields that were read.
-use Rattle.std.specs.Prelude.{◌≡◌, refl, Bool, true, false, not, ◌&&◌, ◌||◌, ℕ, ℤ, pos, negsuc, neg_ℤ, ◌+ℤ◌, ◌*ℤ◌}
+use Rattle.std.specs.Prelude.{◌≡◌, refl, Bool, not, ◌&&◌, ◌||◌, ℕ, ℤ, pos, negsuc, neg_ℤ, ◌+ℤ◌, ◌*ℤ◌, Err, None, Ok, Option, Result, Some}
 use Rattle.std.specs.Int.Signed.{lt_z, quot_z, rem_z}
 use Rattle.base_notation.specs.Choice.{when◌then◌else◌}
 use Rattle.base_refusals.specs.declared.Refusal.TheVariants.{HourOfTwelve, OffsetRange}
@@ -8,12 +8,7 @@ use Rattle.read_fields.specs.declared.Fields.{Fields}
 use Rattle.base_wrapping.specs.Wrap.{wrap32, ◌⊕◌}
 use Rattle.moment_sums.specs.Checked.{◌times◌}
 use Rattle.moment_sums.specs.Within.{below}
-use Rattle.moment_time.specs.declared.Offset.{Offset}
-use Rattle.moment_time.specs.declared.Offset.TheVariants.{Absent, East}
-use Rattle.moment_time.specs.declared.Zoned.{Zoned}
-use Rattle.moment_time.specs.declared.Zoned.TheVariants.{At, Refused}
-use Rattle.moment_sums.specs.declared.Value.{Value}
-use Rattle.moment_sums.specs.declared.Value.TheVariants.{Is, Not}
+use Rattle.base_refusals.specs.declared.Refusal.{Refusal}
 
 -- a field, or another number where it is absent
 infixr 30 ◌or◌
@@ -31,23 +26,23 @@ unfoldable pub second_of : Fields → ℤ
 second_of f = get f ss or rem_z (rem_z (get f ssss) (pos 3600)) (pos 60)
 
 -- an hour of the 12-hour clock, in the second half of the day if it is PM: 12 AM is 0, 12 PM is 12
-unfoldable pub hour_of_twelve : ℤ → ℤ → Value
+unfoldable pub hour_of_twelve : ℤ → ℤ → Result ℤ Refusal
 hour_of_twelve is_pm h =
-    when lt_z h (pos 1) || lt_z (pos 12) h then Not (HourOfTwelve h)
-    else when not (is_zero is_pm) && lt_z h (pos 12) then Is (h +ℤ pos 12)
-    else when is_zero is_pm && eq_ℤ h (pos 12) then Is (pos 0)
-    else Is h
+    when lt_z h (pos 1) || lt_z (pos 12) h then Err (HourOfTwelve h)
+    else when not (is_zero is_pm) && lt_z h (pos 12) then Ok (h +ℤ pos 12)
+    else when is_zero is_pm && eq_ℤ h (pos 12) then Ok (pos 0)
+    else Ok h
 
-unfoldable pub clock_hour : Fields → Value
-clock_hour f = when eq_ℤ (get f clock) (pos 12) then hour_of_twelve (get f pm) (hour_of f) else Is (hour_of f)
+unfoldable pub clock_hour : Fields → Result ℤ Refusal
+clock_hour f = when eq_ℤ (get f clock) (pos 12) then hour_of_twelve (get f pm) (hour_of f) else Ok (hour_of f)
 
 -- microseconds: milliseconds and microseconds together
-abbrev pub with_micros : Value → ℤ → Value
-with_micros (Is whole) n = Is (whole ⊕ n)
-with_micros (Not why) n = Not why
+abbrev pub with_micros : Result ℤ Refusal → ℤ → Result ℤ Refusal
+with_micros (Ok whole) n = Ok (whole ⊕ n)
+with_micros (Err why) n = Err why
 
-unfoldable pub micros_of : Fields → Value
-micros_of f = with_micros (Is (get f ms) times 1000) (get f us)
+unfoldable pub micros_of : Fields → Result ℤ Refusal
+micros_of f = with_micros (Ok (get f ms) times 1000) (get f us)
 
 -- hour, minute, second and fraction are in range
 unfoldable pub time_in_range : ℤ → ℤ → ℤ → ℤ → Bool
@@ -60,16 +55,16 @@ east_of f =
     when lt_z (get f tzsign) (pos 0) then neg_ℤ east else east
 
 -- the offset is given where a sign was set
-unfoldable pub offset_of : Fields → Offset
-offset_of f = when is_zero (get f tzsign) then Absent else East (east_of f)
+unfoldable pub offset_of : Fields → Option ℤ
+offset_of f = when is_zero (get f tzsign) then None else Some (east_of f)
 
 -- its hours are 0 to 15 and its minutes 0 to 59, or it is absent
 unfoldable pub offset_in_range : Fields → Bool
 offset_in_range f = is_zero (get f tzsign) || below (get f tzh) 16 && below (get f tzm) 60
 
 -- the offset, refused out of its range
-unfoldable pub checked_offset : Fields → Zoned
-checked_offset f = when offset_in_range f then At (offset_of f) else Refused OffsetRange
+unfoldable pub checked_offset : Fields → Result (Option ℤ) Refusal
+checked_offset f = when offset_in_range f then Ok (offset_of f) else Err OffsetRange
 
 -- unfolds all that a time and an offset are computed by, for worked examples
 unfoldable pub time_computes : ℕ
@@ -78,8 +73,8 @@ time_computes = 0
 
 -- 12 AM, 12 PM, 1 PM and 0 on the 12-hour clock
 pub clocks
-    : (hour_of_twelve (pos 0) (pos 12) ≡ Is (pos 0)) × (hour_of_twelve (pos 1) (pos 12) ≡ Is (pos 12)) × (hour_of_twelve (pos 1) (pos 1) ≡ Is (pos 13))
-    × (hour_of_twelve (pos 0) (pos 0) ≡ Not (HourOfTwelve (pos 0)))
+    : (hour_of_twelve (pos 0) (pos 12) ≡ Ok (pos 0)) × (hour_of_twelve (pos 1) (pos 12) ≡ Ok (pos 12)) × (hour_of_twelve (pos 1) (pos 1) ≡ Ok (pos 13))
+    × (hour_of_twelve (pos 0) (pos 0) ≡ Err (HourOfTwelve (pos 0)))
 unfolding time_computes
 clocks = (refl, refl, refl, refl)
 

@@ -1,5 +1,6 @@
 -- A year that is refused names no pattern. Assumes nothing.
 -- `year_unnamed`: where P holds of `no_pattern`, it holds of the pattern that a refusal names.
+use Rattle.std.specs.Prelude.{Ok}
 use mathlib.Core.Bool.{not, ◌&&◌}
 use Prim.Native.Nat.{ℕ}
 use lib.IntN.{ℤ, pos, neg_ℤ}
@@ -11,21 +12,20 @@ use Rattle.read_fields.specs.Fields.{get, is_zero, year, bc, cc, yysz}
 use Rattle.read_fields.specs.declared.Fields.{Fields}
 use Rattle.base_wrapping.specs.Wrap.{◌⊕◌, ◌⊖◌}
 use Rattle.moment_sums.specs.Checked.{◌plus◌, ◌times◌}
-use Rattle.moment_sums.specs.declared.Value.TheVariants.{Is}
 use Rattle.moment_sums.proofs.Unnamed.{ValueNames, plus_unnamed, times_unnamed}
 use Rattle.moment_year.specs.Year.{signed_by, year_in_century, first_of_century, year_of}
 
 module _ (P : ℕ → Type 0) (none : P no_pattern) where
   -- hundreds and a number more
-  sum_unnamed : (hundreds more : ℤ) → ValueNames P (Is hundreds times 100 plus more)
-  sum_unnamed hundreds more = plus_unnamed P none (Is hundreds times 100) more (times_unnamed P none (Is hundreds) 100 tt)
+  sum_unnamed : (hundreds more : ℤ) → ValueNames P (Ok hundreds times 100 plus more)
+  sum_unnamed hundreds more = plus_unnamed P none (Ok hundreds times 100) more (times_unnamed P none (Ok hundreds) 100 tt)
 
   in_century_unnamed : (century y : ℤ) → ValueNames P (year_in_century century y)
   unfolding year_in_century
   in_century_unnamed century y =
       by_if (ValueNames P) (is_zero y) _ _ (λ e. tt)
       (λ e. by_if (ValueNames P) (lt_z century (pos 0)) _ _
-      (λ e. plus_unnamed P none (Is (century ⊕ pos 1) times 100 plus neg_ℤ y) (pos 1) (sum_unnamed (century ⊕ pos 1) (neg_ℤ y)))
+      (λ e. plus_unnamed P none (Ok (century ⊕ pos 1) times 100 plus neg_ℤ y) (pos 1) (sum_unnamed (century ⊕ pos 1) (neg_ℤ y)))
       (λ e. sum_unnamed (century ⊖ pos 1) y))
 
   first_unnamed : (century : ℤ) → ValueNames P (first_of_century century)

@@ -1,5 +1,6 @@
 -- `kept`: all that is promised holds. Each promise is a law of the crates below, or the theorem of a function.
 -- `right_and_safe`: answers that are those of the definitions are in range. Assumes nothing.
+use Rattle.std.specs.Prelude.{Err, Result}
 use mathlib.Core.Path.{◌≡◌, ap, subst, sym}
 use mathlib.Core.List.{List}
 use Prim.Native.Nat.{ℕ}
@@ -24,8 +25,6 @@ use Rattle.write_text.proofs.ByName.{by_name}
 use Rattle.write_text.proofs.OwnCase.{own_case}
 use Rattle.write_text.specs.Writer.{buffer_after}
 use Rattle.write_text.specs.declared.Unwritten.{Unwritten}
-use Rattle.write_text.specs.declared.Written.{Written}
-use Rattle.write_text.specs.declared.Written.TheVariants.{Refused}
 use Rattle.sorbilgan_records.proofs.Ranges.{parts_recorded, template_recorded, instant_recorded, day_recorded}
 use Rattle.readback.specs.ReadBack.{joined_needed, six_needed}
 use Rattle.readback.proofs.ReadBack.{every_back}
@@ -69,8 +68,8 @@ use Rattle.promises.specs.Reading.{RightAndSafe}
 use Rattle.promises.specs.declared.Readings.{Readings}
 
 -- after a refusal the buffer is as it was
-left : (text before : List ℕ) {w : Written} {why : Unwritten} → w ≡ Refused why → buffer_after w text before ≡ before
-left text before e = ap (λ (w : Written). buffer_after w text before) e
+left : (text before : List ℕ) {w : (Result ℕ Unwritten)} {why : Unwritten} → w ≡ Err why → buffer_after w text before ≡ before
+left text before e = ap (λ (w : Result ℕ Unwritten). buffer_after w text before) e
 
 pub every_answer : EveryAnswer
 every_answer =

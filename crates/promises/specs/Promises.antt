@@ -3,7 +3,7 @@
 -- promises, demands 1 and 2 together, is beside it in Reading.antt. set is the settings of a caller, t a template, s an
 -- input, c the bytes of a compiled template, ns nodes: any numbers of any length. What a name means is in the file that
 -- it is taken from.
-use Rattle.std.specs.Prelude.{◌≡◌, Bool, true, List, ℕ, length}
+use Rattle.std.specs.Prelude.{◌≡◌, Bool, true, List, ℕ, length, Err, Result}
 use Rattle.base_settings.specs.declared.Settings.{Settings}
 use Rattle.read_words.specs.FoldOnce.{FoldOnce}
 use Rattle.template_nodes.specs.Cover.{Covered}
@@ -15,12 +15,9 @@ use Rattle.moment_parts.specs.Ranges.{Answered}
 use Rattle.moment_parts.specs.Strict.{StrictAlone}
 use Rattle.moment_parts.specs.Patterns.{NamesOwn, NoneOrIn}
 use Rattle.moment_parts.specs.Examples.{Table}
-use Rattle.moment_parts.specs.declared.Answer.{Answer}
 use Rattle.moment_instants.specs.ByTemplate.{instant_by, day_by, timestamp_of, date_of}
 use Rattle.moment_instants.specs.Ranges.{InstantAnswered, DayAnswered}
 use Rattle.moment_instants.specs.Report.{undated_report}
-use Rattle.moment_instants.specs.declared.epoch.Day.TheVariants.{Refused as NoDay}
-use Rattle.moment_instants.specs.declared.epoch.Instant.TheVariants.{Refused as NoInstant}
 use Rattle.moment_instants.specs.declared.epoch.Undated.{Undated}
 use Rattle.write_pieces.specs.Moment.{is_moment, PlainMoment}
 use Rattle.write_pieces.specs.declared.Moment.{Moment}
@@ -30,7 +27,6 @@ use Rattle.write_text.specs.Report.{unwritten_report}
 use Rattle.write_text.specs.Text.{text_of}
 use Rattle.write_text.specs.Writer.{buffer_after, text_in, written_in, written_to}
 use Rattle.write_text.specs.declared.Unwritten.{Unwritten}
-use Rattle.write_text.specs.declared.Written.TheVariants.{Refused as NotWritten}
 use Rattle.sorbilgan_records.specs.Ranges.{PartsRecorded, InstantRecorded, DayRecorded}
 use Rattle.readback.specs.ReadBack.{EveryBack, JoinedNeeded, SixNeeded}
 use Rattle.sorbilgan.specs.Accents.{AccentsMode}
@@ -69,6 +65,8 @@ use Rattle.sorbilgan.proofs.sorbilgan_pattern.Statement as SorbilganPattern
 use Rattle.sorbilgan.proofs.sorbilgan_version.Statement as SorbilganVersion
 use Rattle.line_answers.proofs.answer.Statement as AnswerLine
 use Rattle.line_texts.proofs.answer_lines.Statement as AnswerLines
+use Rattle.moment_parts.specs.declared.Parts.{Parts}
+use Rattle.moment_parts.specs.declared.Unread.{Unread}
 
 -- Demand 1: nothing false is handed out. An answer is in range, or it is a refusal by its number and nothing else.
 -- It holds for every caller, whatever its settings are. That no function traps or hangs is part of the theorems of
@@ -80,33 +78,33 @@ pub record EveryAnswer : Type 0 where
   pub parts_by_nodes : (set : Settings) (ns : List Node) (t s : List ℕ) → Answered set.strict (parts_by set ns t s)
   pub parts : (set : Settings) (t s : List ℕ) → Answered set.strict (parts_of set t s)
   -- the instant and the day of any such answer: neither end of 64 bits, neither end of 32 bits
-  pub instant : (strict : Bool) (a : Answer) → Answered strict a → InstantAnswered strict (instant_by a)
-  pub day : (strict : Bool) (a : Answer) → Answered strict a → DayAnswered strict (day_by a)
+  pub instant : (strict : Bool) (a : Result Parts Unread) → Answered strict a → InstantAnswered strict (instant_by a)
+  pub day : (strict : Bool) (a : Result Parts Unread) → Answered strict a → DayAnswered strict (day_by a)
   -- the records that other languages get, by any nodes and by a template; refused: what would have been read is 0
   pub parts_by_record : (set : Settings) (ns : List Node) (t s : List ℕ) → PartsRecorded set.strict (parts_by set ns t s)
   pub parts_record : (set : Settings) (t s : List ℕ) → PartsRecorded set.strict (parts_of set t s)
-  pub instant_record : (strict : Bool) (a : Answer) → Answered strict a → InstantRecorded strict (instant_by a)
-  pub day_record : (strict : Bool) (a : Answer) → Answered strict a → DayRecorded strict (day_by a)
+  pub instant_record : (strict : Bool) (a : Result Parts Unread) → Answered strict a → InstantRecorded strict (instant_by a)
+  pub day_record : (strict : Bool) (a : Result Parts Unread) → Answered strict a → DayRecorded strict (day_by a)
   -- a refusal names no pattern, or one of the nodes'
   pub names_by : (set : Settings) (ns : List Node) (t s : List ℕ) → NamesOwn ns (parts_by set ns t s)
-  pub instant_names_by : (set : Settings) (ns : List Node) (t s : List ℕ) {why : Undated} → instant_by (parts_by set ns t s) ≡ NoInstant why
+  pub instant_names_by : (set : Settings) (ns : List Node) (t s : List ℕ) {why : Undated} → instant_by (parts_by set ns t s) ≡ Err why
       → NoneOrIn ns (undated_report why).pattern
-  pub day_names_by : (set : Settings) (ns : List Node) (t s : List ℕ) {why : Undated} → day_by (parts_by set ns t s) ≡ NoDay why
+  pub day_names_by : (set : Settings) (ns : List Node) (t s : List ℕ) {why : Undated} → day_by (parts_by set ns t s) ≡ Err why
       → NoneOrIn ns (undated_report why).pattern
-  pub text_names_by : (set : Settings) (c t : List ℕ) (m : Moment) (room : ℕ) {why : Unwritten} → written_in set c t m room ≡ NotWritten why
+  pub text_names_by : (set : Settings) (c t : List ℕ) (m : Moment) (room : ℕ) {why : Unwritten} → written_in set c t m room ≡ Err why
       → NoneOrIn (nodes_in c) (unwritten_report why).pattern
   -- the same by a template: one of the template's
   pub names : (set : Settings) (t s : List ℕ) → NamesOwn (nodes_by set.accents t) (parts_of set t s)
-  pub instant_names : (set : Settings) (t s : List ℕ) {why : Undated} → timestamp_of set t s ≡ NoInstant why
+  pub instant_names : (set : Settings) (t s : List ℕ) {why : Undated} → timestamp_of set t s ≡ Err why
       → NoneOrIn (nodes_by set.accents t) (undated_report why).pattern
-  pub day_names : (set : Settings) (t s : List ℕ) {why : Undated} → date_of set t s ≡ NoDay why
+  pub day_names : (set : Settings) (t s : List ℕ) {why : Undated} → date_of set t s ≡ Err why
       → NoneOrIn (nodes_by set.accents t) (undated_report why).pattern
-  pub text_names : (set : Settings) (t : List ℕ) (m : Moment) (room : ℕ) {why : Unwritten} → written_to set t m room ≡ NotWritten why
+  pub text_names : (set : Settings) (t : List ℕ) (m : Moment) (room : ℕ) {why : Unwritten} → written_to set t m room ≡ Err why
       → NoneOrIn (nodes_of t) (unwritten_report why).pattern
   -- a refusal of the writer leaves the buffer as it was
-  pub buffer : (set : Settings) (t : List ℕ) (m : Moment) (before : List ℕ) {why : Unwritten} → written_to set t m (length before) ≡ NotWritten why
+  pub buffer : (set : Settings) (t : List ℕ) (m : Moment) (before : List ℕ) {why : Unwritten} → written_to set t m (length before) ≡ Err why
       → buffer_after (written_to set t m (length before)) (text_of t m) before ≡ before
-  pub buffer_by : (set : Settings) (c t : List ℕ) (m : Moment) (before : List ℕ) {why : Unwritten} → written_in set c t m (length before) ≡ NotWritten why
+  pub buffer_by : (set : Settings) (c t : List ℕ) (m : Moment) (before : List ℕ) {why : Unwritten} → written_in set c t m (length before) ≡ Err why
       → buffer_after (written_in set c t m (length before)) (text_in c t m) before ≡ before
 
 -- Demand 2: right by the public document. `statement` is the checker's theorem of a function: for all arguments it

@@ -4,15 +4,15 @@
 ghost use Rattle.promises.specs.Reading.{RightAndSafe};
 
 use base_settings::Settings;
-use moment_instants::{Day, Instant};
-use moment_parts::Answer;
+use moment_instants::Undated;
+use moment_parts::{Parts, Unread};
 
 // The three answers to an input.
 #[derive(Clone, Copy)]
 pub struct Readings {
-    pub parts: Answer,
-    pub instant: Instant,
-    pub day: Day,
+    pub parts: Result<Parts, Unread>,
+    pub instant: Result<i64, Undated>,
+    pub day: Result<i32, Undated>,
 }
 
 // Reads an input s by a template t, for a caller with settings.

@@ -5,3 +5,5 @@ pub mod Assigned
 pub mod Held
 -- the pattern that a refused reading names
 pub mod Own
+-- the rows of the patterns as a table
+pub mod Rows

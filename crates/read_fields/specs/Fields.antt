@@ -1,13 +1,11 @@
 -- The fields that a template reads (TmFromChar of formatting.c): a list of numbers, 0 where a field is absent.
-use Rattle.std.specs.Prelude.{Bool, not, List, ℕ, eqb, ℤ, pos, get_or, set, replicate}
+use Rattle.std.specs.Prelude.{Bool, not, List, ℕ, eqb, ℤ, pos, get_or, set, replicate, Err, Ok, Result, ⊤}
 use Rattle.base_refusals.specs.declared.Refusal.{Refusal}
 pub use Rattle.read_integers.specs.Setting.{eq_ℤ, is_zero, conflicts}
 use Rattle.read_fields.specs.declared.Fields.{Fields}
 use Rattle.read_fields.specs.declared.Outcome.{Outcome}
 use Rattle.read_fields.specs.declared.Place.{Place}
 use Rattle.read_fields.specs.declared.Reading.{Reading}
-use Rattle.read_fields.specs.declared.Verdict.{Verdict}
-use Rattle.read_fields.specs.declared.Verdict.TheVariants.{Read, Refused}
 
 -- the fields by number: the date mode; hour, half of the day, minute, second, second of the day; weekday, day of the
 -- month, day of the year, month; millisecond; year, before Christ, week of the year, week of the month, century, Julian
@@ -101,13 +99,13 @@ put f k z = record { values = set f.values k z }
 
 -- a pattern that was read, and one that was refused, with the fields and the place then
 abbrev pub read : Fields → Place → Reading
-read f p = record { verdict = Read; fields = f; place = p }
+read f p = record { verdict = (Ok tt); fields = f; place = p }
 
 abbrev pub refuse : Refusal → Fields → Place → Reading
-refuse why f p = record { verdict = Refused why; fields = f; place = p }
+refuse why f p = record { verdict = Err why; fields = f; place = p }
 
 -- the same with the fields in an array that is lent: how it went, and what the array then holds
-abbrev pub went : Verdict → Place → Outcome
+abbrev pub went : Result ⊤ Refusal → Place → Outcome
 went v p = record { verdict = v; place = p }
 
 abbrev pub read_into : Outcome → List ℤ → Reading
@@ -121,6 +119,6 @@ abbrev pub at_place : Place → ℕ → Place
 at_place p at = record { at = at; extra = p.extra; fx = p.fx }
 
 -- the reading goes on with the rest after what was read, and ends at a refusal
-abbrev pub onward : Verdict → Reading → Reading → Reading
-onward Read r rest = rest
-onward (Refused why) r rest = r
+abbrev pub onward : Result ⊤ Refusal → Reading → Reading → Reading
+onward (Ok tt) r rest = rest
+onward (Err why) r rest = r

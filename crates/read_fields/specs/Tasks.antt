@@ -7,32 +7,61 @@ use Rattle.base_notation.specs.Text.{utf8}
 use Rattle.base_chars.specs.Fold.{folded}
 use Rattle.template_patterns.specs.Patterns.{name_of, pattern_of}
 use Rattle.read_fields.specs.Fields as F
+use Rattle.read_fields.specs.declared.Kind.{Kind}
+use Rattle.read_fields.specs.declared.Kind.TheVariants.{Nothing, Exact, Number, Word, Dropped, CommaYear, Offset, OffsetMinutes}
 use Rattle.read_fields.specs.declared.Task.{Task}
 
 -- kinds of a task: none; FX; a number; a word; a number that is dropped; a year with a comma; an offset; its minutes
-abbrev pub nothing : ℕ
-nothing = 0
+abbrev pub nothing : Kind
+nothing = Nothing
 
-abbrev pub exact : ℕ
-exact = 1
+abbrev pub exact : Kind
+exact = Exact
 
-abbrev pub number : ℕ
-number = 2
+abbrev pub number : Kind
+number = Number
 
-abbrev pub word : ℕ
-word = 3
+abbrev pub word : Kind
+word = Word
 
-abbrev pub dropped : ℕ
-dropped = 4
+abbrev pub dropped : Kind
+dropped = Dropped
 
-abbrev pub comma_year : ℕ
-comma_year = 5
+abbrev pub comma_year : Kind
+comma_year = CommaYear
 
-abbrev pub offset : ℕ
-offset = 6
+abbrev pub offset : Kind
+offset = Offset
 
-abbrev pub offset_minutes : ℕ
-offset_minutes = 7
+abbrev pub offset_minutes : Kind
+offset_minutes = OffsetMinutes
+
+-- a kind by its number in the table; any other number is that of nothing to read
+abbrev pub kind_of : ℕ → Kind
+kind_of k =
+    when eqb k 1 then exact
+    else when eqb k 2 then number
+    else when eqb k 3 then word
+    else when eqb k 4 then dropped
+    else when eqb k 5 then comma_year
+    else when eqb k 6 then offset
+    else when eqb k 7 then offset_minutes
+    else nothing
+
+-- the number of a kind
+abbrev pub kind_number : Kind → ℕ
+kind_number Nothing = 0
+kind_number Exact = 1
+kind_number Number = 2
+kind_number Word = 3
+kind_number Dropped = 4
+kind_number CommaYear = 5
+kind_number Offset = 6
+kind_number OffsetMinutes = 7
+
+-- two kinds are the same, as a test
+abbrev pub same_kind : Kind → Kind → Bool
+same_kind a b = eqb (kind_number a) (kind_number b)
 
 -- rules for a number: as it is; on the 12-hour clock; scaled to milliseconds; scaled to microseconds, without and with
 -- digits of its own; an ISO weekday; a whole year; a year of few digits
@@ -116,7 +145,7 @@ abbrev pub no_letter : ℕ
 no_letter = 2
 
 -- a task by its kind, its field, its rule and its operand: the width of a number, or the number of a word list
-abbrev pub task : ℕ → ℕ → ℕ → ℕ → Task
+abbrev pub task : Kind → ℕ → ℕ → ℕ → Task
 task kind field rule operand = record { kind = kind; field = field; rule = rule; operand = operand }
 
 -- names that are read alike, and their task; a name is meant in either case
@@ -201,7 +230,7 @@ pub record Assigned (k : ℕ) (r : Task) : Type 0 where
 
 -- a task in one number: its operand, its rule, its kind and its field in 4, 4, 3 and 5 bits
 abbrev pub packed : Task → ℕ
-packed t = t.operand * 4096 + t.rule * 256 + t.kind * 32 + t.field
+packed t = t.operand * 4096 + t.rule * 256 + kind_number t.kind * 32 + t.field
 
 -- the task and the date mode of the pattern number k in one number
 abbrev pub row_of : ℕ → ℕ

@@ -5,6 +5,9 @@ pub mod field;
 pub mod state;
 pub mod table;
 
+ghost use Rattle.std.specs.Prelude.{◌≡◌};
+ghost use Rattle.read_fields.specs.Tasks.{kind_of};
+
 use base_refusals::Refusal;
 
 // What is read so far: a number for each field, 0 where it is absent.
@@ -22,32 +25,58 @@ pub struct Place {
     pub fx: usize,
 }
 
-#[derive(Clone, Copy)]
-pub enum Verdict {
-    Read,
-    Refused(Refusal),
-}
-
 // How a pattern was read into fields that are lent, and the place after it.
 #[derive(Clone, Copy)]
 pub struct Outcome {
-    pub verdict: Verdict,
+    pub verdict: Result<(), Refusal>,
     pub place: Place,
 }
 
 // The verdict, the fields and the place together.
 #[derive(Clone, Copy)]
 pub struct Reading {
-    pub verdict: Verdict,
+    pub verdict: Result<(), Refusal>,
     pub fields: Fields,
     pub place: Place,
 }
 
-// What reading a pattern does. The operand is the width of a number, or the number of a word list. Whole registers
-// where they can be, so that no copy packs them into one.
+// What a pattern reads: nothing, FX, a number, a word, a number that is dropped, a year with a comma, an offset, or the
+// minutes of one.
+#[derive(Clone, Copy, PartialEq, Eq)]
+pub enum Kind {
+    Nothing,
+    Exact,
+    Number,
+    Word,
+    Dropped,
+    CommaYear,
+    Offset,
+    OffsetMinutes,
+}
+
+// A kind by its number in the table of tasks. Any other number means that nothing is read.
+impl From<u32> for Kind {
+    ghost from_gives = { λ k kind. kind ≡ kind_of k };
+
+    fn from(k: u32) -> Kind {
+        match k {
+            1 => Kind::Exact,
+            2 => Kind::Number,
+            3 => Kind::Word,
+            4 => Kind::Dropped,
+            5 => Kind::CommaYear,
+            6 => Kind::Offset,
+            7 => Kind::OffsetMinutes,
+            _ => Kind::Nothing,
+        }
+    }
+}
+
+// What reading a pattern does. The operand is the width of a number, or the number of a word list. Field and rule are
+// whole registers, so that no copy packs them into one.
 #[derive(Clone, Copy)]
 pub struct Task {
-    pub kind: usize,
+    pub kind: Kind,
     pub field: usize,
     pub rule: usize,
     pub operand: u8,

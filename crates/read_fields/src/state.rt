@@ -1,9 +1,8 @@
 // The fields in an array that is lent, and the place by value.
-ghost use Rattle.std.specs.Prelude.{◌≡◌, ◌<◌};
+ghost use Rattle.std.specs.Prelude.{◌≡◌, Ok, Err, ◌<◌};
 ghost use Rattle.read_fields.specs.Fields.{at_place, conflicts, fields_of, get, put, went};
-ghost use Rattle.read_fields.specs.declared.Verdict.TheVariants.{Read, Refused};
 
-use crate::{Outcome, Place, Verdict};
+use crate::{Outcome, Place};
 use base_refusals::Refusal;
 
 pub fn get(f: &[i32; 24], k: usize) -> i32
@@ -29,19 +28,19 @@ pub fn holds_other(f: &[i32; 24], k: usize, z: i32) -> bool
 }
 
 pub fn read(p: Place) -> Outcome
-    ensures { result ≡ went Read p }
+    ensures { result ≡ went (Ok tt) p }
 {
     Outcome {
-        verdict: Verdict::Read,
+        verdict: Ok(()),
         place: p,
     }
 }
 
 pub fn refuse(why: Refusal, p: Place) -> Outcome
-    ensures { result ≡ went (Refused why) p }
+    ensures { result ≡ went (Err why) p }
 {
     Outcome {
-        verdict: Verdict::Refused(why),
+        verdict: Err(why),
         place: p,
     }
 }

@@ -1,26 +1,10 @@
 // What reading each pattern does, in table order.
-ghost use Rattle.std.specs.Prelude.{◌≡◌};
+ghost use Rattle.std.specs.Prelude.{◌≡◌, map};
 ghost use Rattle.template_patterns.specs.Patterns.{pattern_of};
+ghost use Rattle.template_patterns.specs.Search.{count_from};
 ghost use Rattle.read_fields.specs.Tasks.{Assigned, row_of};
 
-use crate::Task;
-
-// The kinds of a task.
-pub const NOTHING: usize = 0;
-
-pub const EXACT: usize = 1;
-
-pub const NUMBER: usize = 2;
-
-pub const WORD: usize = 3;
-
-pub const DROPPED: usize = 4;
-
-pub const COMMA_YEAR: usize = 5;
-
-pub const OFFSET: usize = 6;
-
-pub const OFFSET_MINUTES: usize = 7;
+use crate::{Kind, Task};
 
 // The rules for a number. PLAIN keeps it as it is and notes nothing.
 pub const PLAIN: usize = 0;
@@ -71,125 +55,134 @@ pub const AD_BC_LONG: u8 = 7;
 pub const ROMAN_MONTHS: u8 = 8;
 
 // A pattern's task and its date mode in one number: the mode, the task's operand, rule, kind and field have 2, 4, 4, 3
-// and 5 bits. A match with a number in each arm is a table that is there before a call.
+// and 5 bits.
+const ROWS: &[u32; 112] = &[
+    0x0706c, // A.D.
+    0x05162, // A.M.
+    0x0606c, // AD
+    0x04162, // AM
+    0x0706c, // B.C.
+    0x0606c, // BC
+    0x0204f, // CC
+    0x02366, // DAY
+    0x13048, // DDD
+    0x12047, // DD
+    0x03366, // DY
+    0x02366, // Day
+    0x03366, // Dy
+    0x11046, // D
+    0x01451, // FF1
+    0x02451, // FF2
+    0x03451, // FF3
+    0x04451, // FF4
+    0x05451, // FF5
+    0x06451, // FF6
+    0x00020, // FX
+    0x02041, // HH24
+    0x02141, // HH12
+    0x02141, // HH
+    0x23048, // IDDD
+    0x21546, // ID
+    0x2204d, // IW
+    0x2464b, // IYYY
+    0x2374b, // IYY
+    0x2274b, // IY
+    0x2174b, // I
+    0x01050, // J
+    0x02043, // MI
+    0x12049, // MM
+    0x10269, // MONTH
+    0x11269, // MON
+    0x0324a, // MS
+    0x10269, // Month
+    0x11269, // Mon
+    0x021d5, // OF
+    0x05162, // P.M.
+    0x04162, // PM
+    0x01080, // Q
+    0x18469, // RM
+    0x05045, // SSSSS
+    0x04045, // SSSS
+    0x02044, // SS
+    0x020d5, // TZH
+    0x020f6, // TZM
+    0x022d5, // TZ
+    0x06351, // US
+    0x1204d, // WW
+    0x1104e, // W
+    0x146ab, // Y,YYY
+    0x1464b, // YYYY
+    0x1374b, // YYY
+    0x1274b, // YY
+    0x1174b, // Y
+    0x0706c, // a.d.
+    0x05162, // a.m.
+    0x0606c, // ad
+    0x04162, // am
+    0x0706c, // b.c.
+    0x0606c, // bc
+    0x0204f, // cc
+    0x02366, // day
+    0x13048, // ddd
+    0x12047, // dd
+    0x03366, // dy
+    0x11046, // d
+    0x01451, // ff1
+    0x02451, // ff2
+    0x03451, // ff3
+    0x04451, // ff4
+    0x05451, // ff5
+    0x06451, // ff6
+    0x00020, // fx
+    0x02041, // hh24
+    0x02141, // hh12
+    0x02141, // hh
+    0x23048, // iddd
+    0x21546, // id
+    0x2204d, // iw
+    0x2464b, // iyyy
+    0x2374b, // iyy
+    0x2274b, // iy
+    0x2174b, // i
+    0x01050, // j
+    0x02043, // mi
+    0x12049, // mm
+    0x10269, // month
+    0x11269, // mon
+    0x0324a, // ms
+    0x021d5, // of
+    0x05162, // p.m.
+    0x04162, // pm
+    0x01080, // q
+    0x18469, // rm
+    0x05045, // sssss
+    0x04045, // ssss
+    0x02044, // ss
+    0x020d5, // tzh
+    0x020f6, // tzm
+    0x022d5, // tz
+    0x06351, // us
+    0x1204d, // ww
+    0x1104e, // w
+    0x146ab, // y,yyy
+    0x1464b, // yyyy
+    0x1374b, // yyy
+    0x1274b, // yy
+    0x1174b, // y
+];
+
+#[tactic(auto, unfolding(crate::specs::Tasks::task_of))]
+fn rows() -> &'static [u32; 112]
+    ensures { result.now ≡ map row_of (count_from 0 112) }
+{
+    ROWS
+}
+
+// The row of a pattern, 0 past the table.
 fn row_of(pattern: u8) -> u32
     ensures { result ≡ row_of pattern }
 {
-    match pattern {
-        0 => 0x0706c, // A.D.
-        1 => 0x05162, // A.M.
-        2 => 0x0606c, // AD
-        3 => 0x04162, // AM
-        4 => 0x0706c, // B.C.
-        5 => 0x0606c, // BC
-        6 => 0x0204f, // CC
-        7 => 0x02366, // DAY
-        8 => 0x13048, // DDD
-        9 => 0x12047, // DD
-        10 => 0x03366, // DY
-        11 => 0x02366, // Day
-        12 => 0x03366, // Dy
-        13 => 0x11046, // D
-        14 => 0x01451, // FF1
-        15 => 0x02451, // FF2
-        16 => 0x03451, // FF3
-        17 => 0x04451, // FF4
-        18 => 0x05451, // FF5
-        19 => 0x06451, // FF6
-        20 => 0x00020, // FX
-        21 => 0x02041, // HH24
-        22 => 0x02141, // HH12
-        23 => 0x02141, // HH
-        24 => 0x23048, // IDDD
-        25 => 0x21546, // ID
-        26 => 0x2204d, // IW
-        27 => 0x2464b, // IYYY
-        28 => 0x2374b, // IYY
-        29 => 0x2274b, // IY
-        30 => 0x2174b, // I
-        31 => 0x01050, // J
-        32 => 0x02043, // MI
-        33 => 0x12049, // MM
-        34 => 0x10269, // MONTH
-        35 => 0x11269, // MON
-        36 => 0x0324a, // MS
-        37 => 0x10269, // Month
-        38 => 0x11269, // Mon
-        39 => 0x021d5, // OF
-        40 => 0x05162, // P.M.
-        41 => 0x04162, // PM
-        42 => 0x01080, // Q
-        43 => 0x18469, // RM
-        44 => 0x05045, // SSSSS
-        45 => 0x04045, // SSSS
-        46 => 0x02044, // SS
-        47 => 0x020d5, // TZH
-        48 => 0x020f6, // TZM
-        49 => 0x022d5, // TZ
-        50 => 0x06351, // US
-        51 => 0x1204d, // WW
-        52 => 0x1104e, // W
-        53 => 0x146ab, // Y,YYY
-        54 => 0x1464b, // YYYY
-        55 => 0x1374b, // YYY
-        56 => 0x1274b, // YY
-        57 => 0x1174b, // Y
-        58 => 0x0706c, // a.d.
-        59 => 0x05162, // a.m.
-        60 => 0x0606c, // ad
-        61 => 0x04162, // am
-        62 => 0x0706c, // b.c.
-        63 => 0x0606c, // bc
-        64 => 0x0204f, // cc
-        65 => 0x02366, // day
-        66 => 0x13048, // ddd
-        67 => 0x12047, // dd
-        68 => 0x03366, // dy
-        69 => 0x11046, // d
-        70 => 0x01451, // ff1
-        71 => 0x02451, // ff2
-        72 => 0x03451, // ff3
-        73 => 0x04451, // ff4
-        74 => 0x05451, // ff5
-        75 => 0x06451, // ff6
-        76 => 0x00020, // fx
-        77 => 0x02041, // hh24
-        78 => 0x02141, // hh12
-        79 => 0x02141, // hh
-        80 => 0x23048, // iddd
-        81 => 0x21546, // id
-        82 => 0x2204d, // iw
-        83 => 0x2464b, // iyyy
-        84 => 0x2374b, // iyy
-        85 => 0x2274b, // iy
-        86 => 0x2174b, // i
-        87 => 0x01050, // j
-        88 => 0x02043, // mi
-        89 => 0x12049, // mm
-        90 => 0x10269, // month
-        91 => 0x11269, // mon
-        92 => 0x0324a, // ms
-        93 => 0x021d5, // of
-        94 => 0x05162, // p.m.
-        95 => 0x04162, // pm
-        96 => 0x01080, // q
-        97 => 0x18469, // rm
-        98 => 0x05045, // sssss
-        99 => 0x04045, // ssss
-        100 => 0x02044, // ss
-        101 => 0x020d5, // tzh
-        102 => 0x020f6, // tzm
-        103 => 0x022d5, // tz
-        104 => 0x06351, // us
-        105 => 0x1204d, // ww
-        106 => 0x1104e, // w
-        107 => 0x146ab, // y,yyy
-        108 => 0x1464b, // yyyy
-        109 => 0x1374b, // yyy
-        110 => 0x1274b, // yy
-        111 => 0x1174b, // y
-        _ => 0,
-    }
+    rows().get(usize::from(pattern)).copied().unwrap_or(0)
 }
 
 // The date mode of a pattern.
@@ -205,7 +198,7 @@ pub fn task_at(pattern: u8) -> Task
 {
     let x = row_of(pattern);
     Task {
-        kind: (x / 32 % 8) as usize,
+        kind: Kind::from(x / 32 % 8),
         field: (x % 32) as usize,
         rule: (x / 256 % 16) as usize,
         operand: (x / 4096 % 16) as u8,

@@ -1,7 +1,8 @@
 -- A refusal of reading names a pattern of the nodes. Assumes nothing.
 -- `read_own`: where P holds of each pattern among the nodes, it holds of the pattern that a refusal names.
+use Rattle.std.specs.Prelude.{Err, Ok, Result, ⊤}
 use mathlib.Core.Path.{◌≡◌}
-use mathlib.Core.Bool.{Bool, true, false, ◌||◌}
+use mathlib.Core.Bool.{Bool, true, false}
 use mathlib.Core.List.{List, [], ◌∷◌}
 use Prim.Native.Nat.{ℕ}
 use borrow.Author.Tests.{eqb-true}
@@ -14,19 +15,19 @@ use Rattle.template_patterns.specs.Patterns.{pattern_of}
 use Rattle.template_nodes.specs.Template.{action}
 use Rattle.template_nodes.specs.declared.Node.{Node}
 use Rattle.read_fields.specs.Fields.{get, mode, no_fields}
-use Rattle.read_fields.specs.Tasks.{exact, number, word, dropped, comma_year, offset, offset_minutes, task_of}
+use Rattle.read_fields.specs.Tasks.{task_of}
+use Rattle.read_fields.specs.declared.Kind.TheVariants.{Nothing, Exact, Number, Word, Dropped, CommaYear, Offset, OffsetMinutes}
 use Rattle.read_fields.specs.declared.Fields.{Fields}
 use Rattle.read_fields.specs.declared.Place.{Place}
 use Rattle.read_fields.specs.declared.Reading.{Reading}
 use Rattle.read_fields.specs.declared.Task.{Task}
-use Rattle.read_fields.specs.declared.Verdict.{Verdict}
-use Rattle.read_fields.specs.declared.Verdict.TheVariants.{Read, Refused}
 use Rattle.read_fields.proofs.Own.{VerdictNames, ReadingNames, onward_own}
 use Rattle.read_numbers.proofs.Own.{read_number_own, read_dropped_own}
 use Rattle.read_words.proofs.Own.{read_word_own}
 use Rattle.read_offsets.proofs.Own.{read_offset_own, read_minutes_own}
 use Rattle.read_literals.specs.Literals.{place}
-use Rattle.read_input.specs.Reader.{mixes, with_mode, performed, past_spaces, when_read, action_read, entered, node_read, head_of, read_from, read_all}
+use Rattle.read_input.specs.Reader.{mixes, with_mode, by_kind, performed, past_spaces, when_read, action_read, entered, node_read, head_of, read_from, read_all}
+use Rattle.base_refusals.specs.declared.Refusal.{Refusal}
 
 -- P holds of each pattern among the nodes
 abbrev pub Each : (ℕ → Type 0) → List Node → Type 0
@@ -39,17 +40,20 @@ module _ (P : ℕ → Type 0) (t s : List ℕ) where
     performed_own : (free : Bool) (task : Task) → ReadingNames P (performed s n free task f p)
     unfolding performed
     performed_own free task =
-        let kind = task.kind in
-        by_if (ReadingNames P) (eqb kind number || eqb kind comma_year) _ _ (λ e. read_number_own P s n own f p free task)
-        (λ e. by_if (ReadingNames P) (eqb kind word) _ _ (λ e. read_word_own P n own task f p s)
-        (λ e. by_if (ReadingNames P) (eqb kind exact) _ _ (λ e. tt)
-        (λ e. by_if (ReadingNames P) (eqb kind dropped) _ _ (λ e. read_dropped_own P s n own f p free task)
-        (λ e. by_if (ReadingNames P) (eqb kind offset) _ _ (λ e. read_offset_own P s n own free task f p)
-        (λ e. by_if (ReadingNames P) (eqb kind offset_minutes) _ _ (λ e. read_minutes_own P s n own free f p) (λ e. tt))))))
+        (elim task.kind as (λ k. ReadingNames P (by_kind k s n free task f p)) [
+          | Nothing ↦ tt
+          | Exact ↦ tt
+          | Number ↦ read_number_own P s n own f p free task
+          | Word ↦ read_word_own P n own task f p s
+          | Dropped ↦ read_dropped_own P s n own f p free task
+          | CommaYear ↦ read_number_own P s n own f p free task
+          | Offset ↦ read_offset_own P s n own free task f p
+          | OffsetMinutes ↦ read_minutes_own P s n own free f p
+        ])
 
-  when_own : (v : Verdict) (r : Reading) (p : Place) → VerdictNames P v → ReadingNames P r → ReadingNames P (when_read v r p)
-  when_own Read r p named done = done
-  when_own (Refused why) r p named done = named
+  when_own : (v : Result ⊤ Refusal) (r : Reading) (p : Place) → VerdictNames P v → ReadingNames P r → ReadingNames P (when_read v r p)
+  when_own (Ok tt) r p named done = done
+  when_own (Err why) r p named done = named
 
   action_own : (n next : Node) → P n.pattern → (f : Fields) (p : Place) → ReadingNames P (action_read t s n next f p)
   unfolding action_read past_spaces report_of

@@ -4,6 +4,7 @@
 -- `payable_literal`: so after a literal.
 -- `payable_node`: so after any node that was read.
 -- `never`: a refusal is not the verdict Read.
+use Rattle.std.specs.Prelude.{Err, Ok, Result, ⊤}
 use mathlib.Core.Path.{◌≡◌, ◌∙◌, refl, sym}
 use mathlib.Core.Bool.{Bool, true, false, ◌&&◌, ◌||◌, true≢false}
 use mathlib.Core.List.{List}
@@ -28,12 +29,10 @@ use Rattle.read_fields.specs.Tasks.{task_of}
 use Rattle.read_fields.specs.declared.Fields.{Fields}
 use Rattle.read_fields.specs.declared.Place.{Place}
 use Rattle.read_fields.specs.declared.Reading.{Reading}
-use Rattle.read_fields.specs.declared.Verdict.{Verdict}
-use Rattle.read_fields.specs.declared.Verdict.TheVariants.{Read, Refused}
 use Rattle.read_literals.proofs.Literals.{spaces_few}
 
 -- the two verdicts differ
-pub never : {why : Refusal} → Refused why ≡ Read → ⊥
+pub never : {why : Refusal} → ◌≡◌ {A = Result ⊤ Refusal} (Err why) (Ok tt) → ⊥
 never e = let same : ◌≡◌ {A = ℕ} 0 1 = cc in omega arith
 
 module _ (s : List ℕ) where
@@ -46,13 +45,13 @@ module _ (s : List ℕ) where
   -- what holds of every refusal, and of all that is read, holds of a pattern
   module _ (f : Fields) (p : Place) where
     by_verdict
-        : (P : Reading → Type 0) → ((why : Refusal) → P (refuse why no_fields p)) → (r : Reading) (v : Verdict) → (v ≡ Read → P (past_spaces s r))
+        : (P : Reading → Type 0) → ((why : Refusal) → P (refuse why no_fields p)) → (r : Reading) (v : Result ⊤ Refusal) → (v ≡ Ok tt → P (past_spaces s r))
         → P (when_read v (past_spaces s r) p)
-    by_verdict P refused r Read done = done refl
-    by_verdict P refused r (Refused why) done = refused why
+    by_verdict P refused r (Ok tt) done = done refl
+    by_verdict P refused r (Err why) done = refused why
 
     by_action
-        : (P : Reading → Type 0) → ((why : Refusal) → P (refuse why no_fields p)) → ((r : Reading) → r.verdict ≡ Read → P (past_spaces s r))
+        : (P : Reading → Type 0) → ((why : Refusal) → P (refuse why no_fields p)) → ((r : Reading) → r.verdict ≡ Ok tt → P (past_spaces s r))
         → (t : List ℕ) (n next : Node) → P (action_read t s n next f p)
     unfolding action_read
     by_action P refused done t n next =
@@ -60,10 +59,10 @@ module _ (s : List ℕ) where
         let r = performed s n (is_free t n next) (task_of n.pattern) (with_mode new f) p in
         by_if P (mixes new (get f mode)) _ _ (λ e. refused (MixedDates n.pattern)) (λ e. by_verdict P refused r r.verdict (done r))
 
-    pub payable_action : (t : List ℕ) (n next : Node) → (action_read t s n next f p).verdict ≡ Read → Payable s (action_read t s n next f p).place
+    pub payable_action : (t : List ℕ) (n next : Node) → (action_read t s n next f p).verdict ≡ Ok tt → Payable s (action_read t s n next f p).place
     unfolding past_spaces
     payable_action =
-        by_action (λ (r : Reading). r.verdict ≡ Read → Payable s r.place) (λ why e. absurd (never e)) (λ r v e. payable_past r.place)
+        by_action (λ (r : Reading). r.verdict ≡ Ok tt → Payable s r.place) (λ why e. absurd (never e)) (λ r v e. payable_past r.place)
 
   -- the spaces before a node; before the first node none were skipped
   pub payable_entered : (p : Place) (first : Bool) → Payable s p → (first ≡ true → p.extra ≡ 0) → Payable s (entered_by s first p)
@@ -88,8 +87,8 @@ module _ (s : List ℕ) where
   -- a node that is read
   pub payable_node
       : (n next : Node) (f : Fields) (p : Place) (first : Bool) (t : List ℕ) → Payable s p → (first ≡ true → p.extra ≡ 0)
-      → (node_read t s n next first f p).verdict ≡ Read → Payable s (node_read t s n next first f p).place
+      → (node_read t s n next first f p).verdict ≡ Ok tt → Payable s (node_read t s n next first f p).place
   unfolding node_read entered
   payable_node n next f p first t pay none =
-      by_if (λ (r : Reading). r.verdict ≡ Read → Payable s r.place) (eqb n.kind action) _ _ (λ e. payable_action f _ t n next)
+      by_if (λ (r : Reading). r.verdict ≡ Ok tt → Payable s r.place) (eqb n.kind action) _ _ (λ e. payable_action f _ t n next)
       (λ e v. rw e (payable_literal n _ (payable_entered p first pay none)))

@@ -1,6 +1,7 @@
 -- The digits of a fraction, as fields keep them, are 0 to 6, whatever the nodes and the input. Assumes nothing.
 -- `Precise`: the field has a number from 0 to 6.
 -- `read_precise`: so it is in the fields that any nodes read.
+use Rattle.std.specs.Prelude.{Err, Ok, Result, ⊤, None, Some, Option}
 use mathlib.Core.Path.{◌≡◌, refl, ◌∙◌}
 use mathlib.Core.Bool.{Bool, true, false, not, ◌&&◌, ◌||◌}
 use mathlib.Core.List.{List, [], ◌∷◌}
@@ -17,26 +18,24 @@ use Rattle.base_chars.specs.Class.{is_letter}
 use Rattle.base_notation.proofs.Cases.{by_if, both}
 use Rattle.read_integers.specs.Suffix.{is_free}
 use Rattle.read_integers.specs.declared.Number.{Number}
-use Rattle.read_integers.specs.declared.Number.TheVariants.{Read as Integer, Refused as NoInteger}
 use Rattle.template_patterns.specs.Patterns.{pattern_of}
 use Rattle.template_nodes.specs.Template.{action}
 use Rattle.template_nodes.specs.declared.Node.{Node}
 use Rattle.read_fields.specs.Fields.{conflicts, get, put, no_fields, onward, is_zero, mode, clock, yysz, tzsign, tzh, tzm, ff}
-use Rattle.read_fields.specs.Tasks.{number, word, exact, dropped, comma_year, offset, offset_minutes, fraction, hour12, whole_year, part_year, odd_hour12, hours, no_letter, task_of}
+use Rattle.read_fields.specs.Tasks.{number, comma_year, same_kind, fraction, hour12, whole_year, part_year, odd_hour12, hours, no_letter, task_of}
 use Rattle.read_fields.proofs.Assigned.{each_task}
 use Rattle.read_fields.specs.declared.Fields.{Fields}
+use Rattle.read_fields.specs.declared.Kind.TheVariants as K
 use Rattle.read_fields.specs.declared.Place.{Place}
 use Rattle.read_fields.specs.declared.Reading.{Reading}
 use Rattle.read_fields.specs.declared.Task.{Task}
-use Rattle.read_fields.specs.declared.Verdict.{Verdict}
-use Rattle.read_fields.specs.declared.Verdict.TheVariants.{Read, Refused}
 use Rattle.read_numbers.specs.Numbers.{kept, noted, stored_number, dropped_number}
 use Rattle.read_words.specs.Words.{meant, kept_word, noted_word, stored_word}
 use Rattle.read_words.specs.declared.spelling.Word.{Word}
-use Rattle.read_words.specs.declared.spelling.Word.TheVariants.{At, Nothing}
 use Rattle.read_offsets.specs.Offsets.{stored_offset, colon_minutes, then_minutes, read_offset, sign_of, with_sign}
 use Rattle.read_literals.specs.Literals.{place}
-use Rattle.read_input.specs.Reader.{mixes, with_mode, performed, past_spaces, when_read, action_read, entered, node_read, head_of, read_from, read_all}
+use Rattle.read_input.specs.Reader.{mixes, with_mode, by_kind, performed, past_spaces, when_read, action_read, entered, node_read, head_of, read_from, read_all}
+use Rattle.base_refusals.specs.declared.Refusal.{Refusal}
 
 pub record Precise (f : Fields) : Type 0 where
   pub at : ℕ
@@ -66,7 +65,7 @@ module _ (f : Fields) (h : Precise f) where
 
 -- a task sets another field, and one that notes the digits of a fraction has at most 6
 abbrev takes_number : Task → Bool
-takes_number t = eqb t.kind number || eqb t.kind comma_year
+takes_number t = same_kind t.kind number || same_kind t.kind comma_year
 
 abbrev precise : Task → Bool
 precise t = ltb t.field 23 && (not (takes_number t && eqb t.rule fraction) || ltb t.operand 7)
@@ -95,36 +94,36 @@ in_mode new f h = by_if Precise (eqb new 0) _ _ (λ e. h) (λ e. other f h mode 
 
 -- a number or a word that is stored
 module _ (s : List ℕ) (n : Node) (f : Fields) (p : Place) (h : Precise f) where
-  stored_number_lem : (task : Task) → task.field < 23 → (eqb task.rule fraction ≡ true → task.operand ≤ 6) → (z : Number)
+  stored_number_lem : (task : Task) → task.field < 23 → (eqb task.rule fraction ≡ true → task.operand ≤ 6) → (z : Result Number Refusal)
       → PreciseIn (stored_number s n task z f p)
   unfolding stored_number
-  stored_number_lem task l few (NoInteger why) = h
-  stored_number_lem task l few (Integer z next) =
-      by_if PreciseIn (conflicts (get f task.field) z) _ _ (λ e. h)
-      (λ e. noted_precise task.rule task.operand _ few (other f h task.field (kept task.rule z (next - p.at)) l))
+  stored_number_lem task l few (Err why) = h
+  stored_number_lem task l few (Ok z) =
+      by_if PreciseIn (conflicts (get f task.field) z.value) _ _ (λ e. h)
+      (λ e. noted_precise task.rule task.operand _ few (other f h task.field (kept task.rule z.value (z.next - p.at)) l))
 
-  dropped_number_lem : (z : Number) → PreciseIn (dropped_number s n z f p)
+  dropped_number_lem : (z : Result Number Refusal) → PreciseIn (dropped_number s n z f p)
   unfolding dropped_number
-  dropped_number_lem (NoInteger why) = h
-  dropped_number_lem (Integer z next) = h
+  dropped_number_lem (Err why) = h
+  dropped_number_lem (Ok z) = h
 
-  stored_word_lem : (task : Task) → task.field < 23 → (w : Word) → PreciseIn (stored_word n task w f p)
+  stored_word_lem : (task : Task) → task.field < 23 → (w : Option Word) → PreciseIn (stored_word n task w f p)
   unfolding stored_word
-  stored_word_lem task l Nothing = h
-  stored_word_lem task l (At k len) =
-      let z = meant task.rule k in
+  stored_word_lem task l None = h
+  stored_word_lem task l (Some w) =
+      let z = meant task.rule w.index in
       by_if PreciseIn (conflicts (get f task.field) (pos z)) _ _ (λ e. h)
       (λ e. word_noted task.rule _ (other f h task.field (pos (kept_word task.rule z)) l))
 
-  stored_offset_lem : (field : ℕ) → field < 23 → (z : Number) → PreciseIn (stored_offset n field z f p)
+  stored_offset_lem : (field : ℕ) → field < 23 → (z : Result Number Refusal) → PreciseIn (stored_offset n field z f p)
   unfolding stored_offset
-  stored_offset_lem field l (NoInteger why) = h
-  stored_offset_lem field l (Integer z next) = by_if PreciseIn (conflicts (get f field) z) _ _ (λ e. h) (λ e. other f h field z l)
+  stored_offset_lem field l (Err why) = h
+  stored_offset_lem field l (Ok z) = by_if PreciseIn (conflicts (get f field) z.value) _ _ (λ e. h) (λ e. other f h field z.value l)
 
 -- one reading after another
-went_on : (v : Verdict) (r rest : Reading) → PreciseIn r → PreciseIn rest → PreciseIn (onward v r rest)
-went_on Read r rest h k = k
-went_on (Refused why) r rest h k = h
+went_on : (v : Result ⊤ Refusal) (r rest : Reading) → PreciseIn r → PreciseIn rest → PreciseIn (onward v r rest)
+went_on (Ok tt) r rest h k = k
+went_on (Err why) r rest h k = h
 
 -- an offset: hours, then minutes
 module _ (s : List ℕ) (n : Node) (free : Bool) where
@@ -149,20 +148,26 @@ module _ (s : List ℕ) (n : Node) (free : Bool) where
   performed-precise task t f p h =
       let tests = both (ltb task.field 23) _ t in
       let field = ltb-true task.field 23 tests.0 in
-      by_if PreciseIn (takes_number task) _ _
-      (λ k. stored_number_lem s n f p h task field (λ e. let small = ltb-true task.operand 7 (rw (k, e) at tests.1) in omega arith) _)
-      (λ k. by_if PreciseIn (eqb task.kind word) _ _ (λ e. stored_word_lem s n f p h task field _)
-      (λ k. by_if PreciseIn (eqb task.kind exact) _ _ (λ e. h)
-      (λ k. by_if PreciseIn (eqb task.kind dropped) _ _ (λ e. dropped_number_lem s n f p h _)
-      (λ k. by_if PreciseIn (eqb task.kind offset) _ _ (λ e. read_offset_lem task f p h)
-      (λ k. by_if PreciseIn (eqb task.kind offset_minutes) _ _ (λ e. stored_offset_lem s n (with_sign f) p (signed f h) tzm (lit< tt) _) (λ e. h))))))
+      let stored : takes_number task ≡ true → (z : Result Number Refusal) → PreciseIn (stored_number s n task z f p)
+      = λ taken. stored_number_lem s n f p h task field (λ e. let small = ltb-true task.operand 7 (rw (taken, e) at tests.1) in omega arith)
+      in
+      (elim task.kind as (λ k. task.kind ≡ k → PreciseIn (by_kind k s n free task f p)) [
+        | K.Nothing ↦ λ k. h
+        | K.Exact ↦ λ k. h
+        | K.Number ↦ λ k. stored (rw k refl) _
+        | K.Word ↦ λ k. stored_word_lem s n f p h task field _
+        | K.Dropped ↦ λ k. dropped_number_lem s n f p h _
+        | K.CommaYear ↦ λ k. stored (rw k refl) _
+        | K.Offset ↦ λ k. read_offset_lem task f p h
+        | K.OffsetMinutes ↦ λ k. stored_offset_lem s n (with_sign f) p (signed f h) tzm (lit< tt) _
+      ]) refl
 
 -- a node, and all of them
 module _ (t s : List ℕ) where
-  when_read_lem : (v : Verdict) (r : Reading) (p : Place) → PreciseIn r → PreciseIn (when_read v (past_spaces s r) p)
+  when_read_lem : (v : Result ⊤ Refusal) (r : Reading) (p : Place) → PreciseIn r → PreciseIn (when_read v (past_spaces s r) p)
   unfolding past_spaces
-  when_read_lem Read r p h = h
-  when_read_lem (Refused why) r p h = none
+  when_read_lem (Ok tt) r p h = h
+  when_read_lem (Err why) r p h = none
 
   action_read_lem : (n next : Node) (f : Fields) (p : Place) → Precise f → PreciseIn (action_read t s n next f p)
   unfolding action_read

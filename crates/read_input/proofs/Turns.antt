@@ -4,14 +4,15 @@
 -- `goes_on`, `passes`: so after a pattern that is read, and after any node that is.
 -- `input_ends`, `template_ends`: at the end of the input or of the nodes, what was read is the whole.
 -- `stops`: at a pattern that is refused, the refusal is the whole.
+use Rattle.std.specs.Prelude.{Err, Ok, Result, ⊤}
 use mathlib.Core.Path.{◌≡◌, ◌∙◌, refl, sym, ap}
-use mathlib.Core.Bool.{Bool, true, false, not}
+use mathlib.Core.Bool.{Bool, false, not}
 use mathlib.Core.List.{List, [], ◌∷◌}
 use Prim.Native.Nat.{ℕ, zero, suc, ◌+◌, ◌<◌, ◌≤◌}
 use native.Mathlib.Numerals.{add-one}
 use native.Mathlib.Omega.{arith}
 use borrow.Author.Tests.{lt-ltb, le-ltb, eq-eqb, ne_eqb, eqb-true}
-use lib.Dec.{eqb, ltb}
+use lib.Dec.{eqb}
 use lib.ListN.{length, drop, get_or, drop_of_length-le}
 use lib.Seq.{drop-cons}
 use Rattle.base_refusals.specs.declared.Refusal.{Refusal}
@@ -20,13 +21,11 @@ use Rattle.template_nodes.specs.declared.Node.{Node}
 use Rattle.read_fields.specs.Fields.{no_fields, read, onward}
 use Rattle.read_literals.specs.Literals.{Payable, entered_by, place}
 use Rattle.read_input.specs.Reader.{action_read, entered, head_of, node_read, read_all, read_from}
-use Rattle.read_fields.specs.Tasks.{exact, task_of}
+use Rattle.read_fields.specs.Tasks.{exact, same_kind, task_of}
 use Rattle.read_input.specs.Turn.{Turned}
 use Rattle.read_fields.specs.declared.Fields.{Fields}
 use Rattle.read_fields.specs.declared.Place.{Place}
 use Rattle.read_fields.specs.declared.Reading.{Reading}
-use Rattle.read_fields.specs.declared.Verdict.{Verdict}
-use Rattle.read_fields.specs.declared.Verdict.TheVariants.{Read, Refused}
 use Rattle.read_input.proofs.Payable.{payable_action, payable_node}
 
 pub begun : (t s : List ℕ) (ns : List Node) → Turned t s ns (read_all t s ns) 0 no_fields (place 0 0 false)
@@ -76,7 +75,7 @@ module _ (t s : List ℕ) (ns : List Node) (whole : Reading) (i : ℕ) (f : Fiel
         → onward r.verdict r (read_from t s (drop (i + 1) ns) false r.fields r.place) ≡ whole
     turn r is = rw (add-one i) (sym (one t s ns i (eqb i 0) f p h l n next e (rw (add-one i) at q) r is) ∙ turned.left)
 
-    next_turn : (r : Reading) → r ≡ node_read t s n next (eqb i 0) f p → r.verdict ≡ Read → Payable s r.place → Turned t s ns whole (i + 1) r.fields r.place
+    next_turn : (r : Reading) → r ≡ node_read t s n next (eqb i 0) f p → r.verdict ≡ Ok tt → Payable s r.place → Turned t s ns whole (i + 1) r.fields r.place
     next_turn r is v pay =
         record {
           within = omega arith;
@@ -87,20 +86,20 @@ module _ (t s : List ℕ) (ns : List Node) (whole : Reading) (i : ℕ) (f : Fiel
 
     -- a pattern
     module _ (k : n.kind ≡ 1) (r : Reading)
-        (is : r ≡ action_read t s n next f (entered_by s (not (eqb (task_of n.pattern).kind exact)) p))
+        (is : r ≡ action_read t s n next f (entered_by s (not (same_kind (task_of n.pattern).kind exact)) p))
       where
         node : r ≡ node_read t s n next (eqb i 0) f p
         unfolding node_read entered
         node = rw (eq-eqb n.kind 1 k) is
 
-        pub stops : (why : Refusal) → r.verdict ≡ Refused why → r ≡ whole
+        pub stops : (why : Refusal) → r.verdict ≡ Err why → r ≡ whole
         stops why v =
-            sym (ap (λ (v : Verdict). onward v r (read_from t s (drop (i + 1) ns) false r.fields r.place)) v) ∙ turn r node
+            sym (ap (λ (v : Result ⊤ Refusal). onward v r (read_from t s (drop (i + 1) ns) false r.fields r.place)) v) ∙ turn r node
 
-        pub goes_on : r.verdict ≡ Read → Turned t s ns whole (i + 1) r.fields r.place
+        pub goes_on : r.verdict ≡ Ok tt → Turned t s ns whole (i + 1) r.fields r.place
         goes_on v =
             next_turn r node v
-            (rw (← is) at (payable_action s f (entered_by s (not (eqb (task_of n.pattern).kind exact)) p) t n next (rw is at v)))
+            (rw (← is) at (payable_action s f (entered_by s (not (same_kind (task_of n.pattern).kind exact)) p) t n next (rw is at v)))
 
     -- a node that is read, whichever it is
     pub passes : (g : Fields) (q : Place) → read g q ≡ node_read t s n next (eqb i 0) f p → Turned t s ns whole (i + 1) g q

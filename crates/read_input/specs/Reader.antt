@@ -1,5 +1,5 @@
 -- Reading an input by the nodes of a template (DCH_from_char of formatting.c).
-use Rattle.std.specs.Prelude.{◌≡◌, Bool, true, false, not, ◌&&◌, ◌||◌, List, [], ◌∷◌, ℕ, eqb, ltb, ℤ, pos, length}
+use Rattle.std.specs.Prelude.{◌≡◌, Bool, true, false, not, ◌&&◌, List, [], ◌∷◌, ℕ, eqb, ltb, ℤ, pos, length, Err, Ok, Result, ⊤}
 use Rattle.base_notation.specs.Choice.{when◌then◌else◌}
 use Rattle.base_refusals.specs.declared.Refusal.TheVariants.{MixedDates}
 use Rattle.read_integers.specs.Suffix.{is_free}
@@ -8,17 +8,18 @@ use Rattle.template_nodes.specs.Template.{action, end_node}
 use Rattle.template_nodes.specs.declared.Node.{Node}
 use Rattle.read_fields.specs.Fields.{fields_of, mode, no_fields, get, put, read, refuse, onward, conflicts}
 use Rattle.read_numbers.specs.Numbers.{read_number, read_dropped}
-use Rattle.read_fields.specs.Tasks.{exact, number, word, dropped, comma_year, offset, offset_minutes, task_of}
+use Rattle.read_fields.specs.Tasks.{exact, same_kind, task_of}
 use Rattle.read_words.specs.Words.{read_word}
 use Rattle.read_offsets.specs.Offsets.{read_offset, read_offset_minutes}
 use Rattle.read_literals.specs.Literals.{place, past_field, literal_passed, entered_by}
 use Rattle.read_fields.specs.declared.Fields.{Fields}
+use Rattle.read_fields.specs.declared.Kind.{Kind}
+use Rattle.read_fields.specs.declared.Kind.TheVariants.{Nothing, Exact, Number, Word, Dropped, CommaYear, Offset, OffsetMinutes}
 use Rattle.read_fields.specs.declared.Outcome.{Outcome}
 use Rattle.read_fields.specs.declared.Place.{Place}
 use Rattle.read_fields.specs.declared.Reading.{Reading}
 use Rattle.read_fields.specs.declared.Task.{Task}
-use Rattle.read_fields.specs.declared.Verdict.{Verdict}
-use Rattle.read_fields.specs.declared.Verdict.TheVariants.{Read, Refused}
+use Rattle.base_refusals.specs.declared.Refusal.{Refusal}
 
 -- a pattern has a date mode, and another was set before
 abbrev pub mixes : ℕ → ℤ → Bool
@@ -28,15 +29,15 @@ abbrev pub with_mode : ℕ → Fields → Fields
 with_mode new f = when eqb new 0 then f else put f mode (pos new)
 
 -- what a pattern reads, by the kind of its task
-abbrev pub by_kind : ℕ → List ℕ → Node → Bool → Task → Fields → Place → Reading
-by_kind kind s n free task f p =
-    when eqb kind number || eqb kind comma_year then read_number s n free task f p
-    else when eqb kind word then read_word s n task f p
-    else when eqb kind exact then read f (place p.at p.extra true)
-    else when eqb kind dropped then read_dropped s n free task f p
-    else when eqb kind offset then read_offset s n free task f p
-    else when eqb kind offset_minutes then read_offset_minutes s n free f p
-    else read f p
+abbrev pub by_kind : Kind → List ℕ → Node → Bool → Task → Fields → Place → Reading
+by_kind Nothing s n free task f p = read f p
+by_kind Exact s n free task f p = read f (place p.at p.extra true)
+by_kind Number s n free task f p = read_number s n free task f p
+by_kind Word s n free task f p = read_word s n task f p
+by_kind Dropped s n free task f p = read_dropped s n free task f p
+by_kind CommaYear s n free task f p = read_number s n free task f p
+by_kind Offset s n free task f p = read_offset s n free task f p
+by_kind OffsetMinutes s n free task f p = read_offset_minutes s n free f p
 
 unfoldable pub performed : List ℕ → Node → Bool → Task → Fields → Place → Reading
 performed s n free task f p = by_kind task.kind s n free task f p
@@ -45,9 +46,9 @@ unfoldable pub past_spaces : List ℕ → Reading → Reading
 past_spaces s r = record { verdict = r.verdict; fields = r.fields; place = past_field s r.place }
 
 -- a refusal gives no fields, and leaves the place as it was before the pattern
-abbrev pub when_read : Verdict → Reading → Place → Reading
-when_read Read r p = r
-when_read (Refused why) r p = refuse why no_fields p
+abbrev pub when_read : Result ⊤ Refusal → Reading → Place → Reading
+when_read (Ok tt) r p = r
+when_read (Err why) r p = refuse why no_fields p
 
 -- a pattern: its date mode is tested first
 unfoldable pub action_read : List ℕ → List ℕ → Node → Node → Fields → Place → Reading
@@ -61,11 +62,11 @@ action_read t s n next f p =
 pub record Went (r : Reading) (o : Outcome) (values : List ℤ) : Type 0 where
   pub verdict : o.verdict ≡ r.verdict
   pub place : o.place ≡ r.place
-  pub fields : o.verdict ≡ Read → fields_of values ≡ r.fields
+  pub fields : o.verdict ≡ (Ok tt) → fields_of values ≡ r.fields
 
 -- spaces are skipped before a pattern but FX, and before the first node
 abbrev pub skips : Node → Bool → Bool
-skips n first = when eqb n.kind action then not (eqb (task_of n.pattern).kind exact) else first
+skips n first = when eqb n.kind action then not (same_kind (task_of n.pattern).kind exact) else first
 
 unfoldable pub entered : List ℕ → Node → Bool → Place → Place
 entered s n first p = entered_by s (skips n first) p

@@ -11,10 +11,11 @@ ghost use Rattle.template_nodes.specs.Template.{end_node};
 ghost use Rattle.read_literals.specs.Literals.{Payable, entered_by, literal_passed};
 ghost use Rattle.read_integers.specs.Suffix.{is_free, ordinal};
 ghost use Rattle.read_fields.specs.Tasks.{Assigned, number};
-ghost use Rattle.read_input.specs.Lane.{CharsRead, LaneRead, NodeTook, NumberPut, Took, left_at, passed_at};
+ghost use Rattle.read_input.specs.Lane.{CharsRead, LaneRead, NodeTook, NumberPut, Took, passed_at};
 
 use crate::actions;
-use read_fields::{Place, Task, field, state, table};
+use base_strtol::Short;
+use read_fields::{Kind, Place, Task, field, state, table};
 use read_integers::ORDINAL;
 use template_nodes::{FN_ACTION, FN_CHAR, NODE, Node};
 
@@ -37,32 +38,14 @@ fn reached(next: usize, at: usize) -> Passed
     Passed { next, place }
 }
 
-// Whether the lane took a pattern, and the place after it.
-#[derive(Clone, Copy)]
-struct Taken {
-    taken: bool,
-    place: Place,
-}
-
-fn left(place: Place) -> Taken
-    ensures { result ≡ left_at place }
-{
-    Taken {
-        taken: false,
-        place,
-    }
-}
-
 // A number that was read from n bytes goes into its field, with the pattern's date mode; unless the field or the mode
 // was set to another value. Most numbers are put as they are.
+#[tactic(auto, unfolding(read_numbers::specs::Numbers::kept, read_numbers::specs::Numbers::noted))]
 fn number_put(mode: u8, task: Task, z: i32, n: usize, f: &mut [i32; 24]) -> bool
     requires { task.field < 24 }
     ensures { NumberPut mode task z n f.old result f.new }
 {
-    if actions::mixes(mode, state::get(f, field::MODE)) {
-        return false;
-    }
-    if state::holds_other(f, task.field, z) {
+    if actions::mixes(mode, state::get(f, field::MODE)) || state::holds_other(f, task.field, z) {
         return false;
     }
     actions::with_mode(mode, f);
@@ -75,17 +58,15 @@ fn number_put(mode: u8, task: Task, z: i32, n: usize, f: &mut [i32; 24]) -> bool
 }
 
 // Whether node i reads so many digits, where there are no more: they are as many as its width, or it takes all.
+#[tactic(auto, using(template_nodes::proofs::Encoding::nodes_length))]
 fn takes(c: &[u8], t: &[u8], i: usize, n: Node, width: usize, count: usize) -> bool
     requires { i < length (nodes_in c.now) }
     ensures { result ≡ (eqb count width || is_free t.now n (get_or (nodes_in c.now) (i + 1) end_node)) }
 {
-    if count == width {
-        return true;
-    }
-    read_integers::is_free(t, n, template_nodes::node_at(c, i + 1))
+    count == width || read_integers::is_free(t, n, template_nodes::node_at(c, i + 1))
 }
 
-// A pattern that reads a number, where it is digits alone.
+// A pattern that reads a number, where it is digits alone: the place after it, if the lane takes it.
 fn number_taken(
     c: &[u8],
     t: &[u8],
@@ -95,41 +76,27 @@ fn number_taken(
     task: Task,
     f: &mut [i32; 24],
     p: Place,
-) -> Taken
+) -> Option<Place>
     requires { (i < length (nodes_in c.now)) × (length s.now ≤ 512) × Assigned n.pattern task × (task.kind ≡ number) × (ordinal n.suffix ≡ false) × (p.fx ≡ 0) }
     ensures { Took t.now s.now n (get_or (nodes_in c.now) (i + 1) end_node) f.old p result f.new }
 {
-    let at = p.at;
-    let digits = base_strtol::short_number(s, at);
-    let end = digits.end;
-    if end == at {
-        return left(p);
-    }
-    let count = end - at;
+    let Short { value, end } = base_strtol::short_number(s, p.at)?;
+    let count = end - p.at;
     if !takes(c, t, i, n, task.operand as usize, count) {
-        return left(p);
+        return None;
     }
-    if !number_put(
-        table::mode_at(n.pattern),
-        task,
-        digits.value as i32,
-        count,
-        f,
-    ) {
-        return left(p);
+    if !number_put(table::mode_at(n.pattern), task, value as i32, count, f) {
+        return None;
     }
-    let place = read_literals::past_field(
-        s,
-        Place {
-            at: end,
-            extra: 0,
-            fx: 0,
-        },
-    );
-    Taken { taken: true, place }
+    let after = Place {
+        at: end,
+        extra: 0,
+        fx: 0,
+    };
+    Some(read_literals::past_field(s, after))
 }
 
-// A pattern, node i.
+// A pattern, node i: the place after it, if the lane takes it.
 fn pattern_taken(
     c: &[u8],
     t: &[u8],
@@ -138,19 +105,16 @@ fn pattern_taken(
     n: Node,
     f: &mut [i32; 24],
     p: Place,
-) -> Taken
+) -> Option<Place>
     requires { (i < length (nodes_in c.now)) × (length s.now ≤ 512) }
     ensures { Took t.now s.now n (get_or (nodes_in c.now) (i + 1) end_node) f.old p result f.new }
 {
-    if n.suffix & ORDINAL != 0 {
-        return left(p);
-    }
-    if p.fx != 0 {
-        return left(p);
+    if n.suffix & ORDINAL != 0 || p.fx != 0 {
+        return None;
     }
     let task = table::task_at(n.pattern);
-    if task.kind != table::NUMBER {
-        return left(p);
+    if task.kind != Kind::Number {
+        return None;
     }
     number_taken(c, t, s, i, n, task, f, p)
 }
@@ -162,8 +126,7 @@ fn chars_passed(c: &[u8], s: &[u8], from: usize, place: Place) -> Passed
 {
     let count = c.len() / NODE;
     let mut at = place.at;
-    let mut i = from;
-    while i < count {
+    for i in from..count {
         if s.len() <= at {
             return reached(i, at);
         }
@@ -172,23 +135,19 @@ fn chars_passed(c: &[u8], s: &[u8], from: usize, place: Place) -> Passed
             return reached(i, at);
         }
         at += base_accents::measure_usual(s, at, n.accents);
-        i += 1;
     }
-    reached(i, at)
+    reached(count, at)
 }
 
 // A literal, node i, and the characters after it.
+#[tactic(auto, using(template_nodes::proofs::Encoding::nodes_length))]
 fn literal_taken(c: &[u8], s: &[u8], i: usize, n: Node, p: Place) -> Passed
     requires { (i < length (nodes_in c.now)) × Payable s.now p × (p.at ≤ length s.now) × (length s.now ≤ 512) }
     ensures { CharsRead s.now (nodes_in c.now) (i + 1) (literal_passed s.now n (entered_by s.now (eqb i 0) p)) result }
 {
     let q = read_literals::literal_read(s, n, i == 0, p);
-    if n.kind == FN_CHAR {
-        if q.extra == 0 {
-            if q.fx == 0 {
-                return chars_passed(c, s, i + 1, q);
-            }
-        }
+    if n.kind == FN_CHAR && q.extra == 0 && q.fx == 0 {
+        return chars_passed(c, s, i + 1, q);
     }
     Passed {
         next: i + 1,
@@ -196,21 +155,18 @@ fn literal_taken(c: &[u8], s: &[u8], i: usize, n: Node, p: Place) -> Passed
     }
 }
 
-// Node i: a pattern that is read or left, or a literal and the characters after it.
-fn node_taken(c: &[u8], t: &[u8], s: &[u8], i: usize, f: &mut [i32; 24], p: Place) -> Passed
+// Node i: a pattern, or a literal and the characters after it. None where a pattern is left.
+#[tactic(auto, using(template_nodes::proofs::Encoding::nodes_length))]
+fn node_taken(c: &[u8], t: &[u8], s: &[u8], i: usize, f: &mut [i32; 24], p: Place) -> Option<Passed>
     requires { (i < length (nodes_in c.now)) × (i ≡ 0 → p.extra ≡ 0) × Payable s.now p × (p.at < length s.now) × (length s.now ≤ 512) }
     ensures { NodeTook t.now s.now (nodes_in c.now) i f.old p result f.new }
 {
     let n = template_nodes::node_at(c, i);
     if n.kind == FN_ACTION {
-        let r = pattern_taken(c, t, s, i, n, f, p);
-        if r.taken {
-            let place = r.place;
-            return Passed { next: i + 1, place };
-        }
-        return Passed { next: i, place: p };
+        let place = pattern_taken(c, t, s, i, n, f, p)?;
+        return Some(Passed { next: i + 1, place });
     }
-    literal_taken(c, s, i, n, p)
+    Some(literal_taken(c, s, i, n, p))
 }
 
 // One node after another from a node on, up to a pattern that the lane leaves, or the end of the input or of the nodes.
@@ -222,16 +178,14 @@ pub fn lane(c: &[u8], t: &[u8], s: &[u8], f: &mut [i32; 24], from: usize, place:
     let mut p = place;
     let mut i = from;
     while i < count {
-        let at = p.at;
-        if s.len() <= at {
+        if s.len() <= p.at {
             return Passed { next: i, place: p };
         }
-        let r = node_taken(c, t, s, i, f, p);
-        if r.next == i {
-            return r;
-        }
-        p = r.place;
-        i = r.next;
+        let Some(passed) = node_taken(c, t, s, i, f, p) else {
+            return Passed { next: i, place: p };
+        };
+        p = passed.place;
+        i = passed.next;
     }
     Passed { next: i, place: p }
 }

@@ -9,7 +9,7 @@ ghost use Rattle.template_nodes.specs.Bytes.{nodes_in};
 ghost use Rattle.read_input.specs.Reader.{Went, read_all};
 ghost use Rattle.read_fields.specs.Fields.{fields_of, no_fields};
 
-use read_fields::{Outcome, Place, Verdict, state};
+use read_fields::{Outcome, Place, state};
 use template_nodes::NODE;
 
 // The nodes that any bytes hold, one after another, until the input or the nodes end or a node is refused. What they read
@@ -25,9 +25,7 @@ pub fn dch_from_char(c: &[u8], t: &[u8], s: &[u8], f: &mut [i32; 24]) -> Outcome
     };
     let mut i: usize = 0;
     while i < c.len() / NODE {
-        let passed = lane::lane(c, t, s, f, i, p);
-        let place = passed.place;
-        let next = passed.next;
+        let lane::Passed { next, place } = lane::lane(c, t, s, f, i, p);
         if c.len() / NODE <= next {
             return state::read(place);
         }
@@ -38,8 +36,7 @@ pub fn dch_from_char(c: &[u8], t: &[u8], s: &[u8], f: &mut [i32; 24]) -> Outcome
         let following = next + 1;
         let node_after = template_nodes::node_at(c, following);
         let r = actions::pattern_read(t, s, n, node_after, f, place);
-        let verdict = r.verdict;
-        if let Verdict::Refused(_) = verdict {
+        if let Err(_) = r.verdict {
             return r;
         }
         p = r.place;

@@ -1,5 +1,6 @@
 -- Where no number begins. Assumes nothing.
 -- `no_number`: a byte that is no space, sign or digit is refused as no integer, free or by a width within the input.
+use Rattle.std.specs.Prelude.{Err}
 use mathlib.Core.Path.{◌≡◌, refl}
 use mathlib.Core.Bool.{Bool, true, false}
 use mathlib.Core.List.{List, ◌∷◌}
@@ -14,7 +15,6 @@ use Rattle.base_refusals.specs.declared.Refusal.TheVariants.{NotInteger}
 use Rattle.base_chars.specs.Class.{is_digit, is_space}
 use Rattle.base_strtol.specs.Runs.{leading, spaces, digits}
 use Rattle.base_strtol.specs.Strtol.{answer, signs, strtol}
-use Rattle.read_integers.specs.declared.Number.TheVariants.{Refused}
 use Rattle.read_integers.specs.Number.{checked, fixed_at, number_at}
 
 -- no space, sign or digit is in front
@@ -47,7 +47,7 @@ module _ (s : List ℕ) (at : ℕ) (inside : at < length s) (no_space : is_space
     part (suc w) = rw (drop-cons s at 0 inside) (bare (take w (drop (suc at) s)))
 
     pub no_number : (width pattern : ℕ) (free : Bool) → width ≤ length s - at
-        → number_at s at width pattern free ≡ Refused (NotInteger pattern)
+        → number_at s at width pattern free ≡ Err (NotInteger pattern)
     unfolding number_at fixed_at checked
     no_number width pattern true room = rw (nothing s at here, eq-eqb at at refl)
     no_number width pattern false room =

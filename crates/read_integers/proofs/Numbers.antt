@@ -3,14 +3,14 @@
 -- `short`, `narrow`, `whole`: the three answers for a fixed width: too few bytes, too few digits, and the checks.
 -- `part_end`: strtol ends within the part of the width.
 -- `found_free`, `found_fixed`: an answer that is the definition's ends within the input.
-use mathlib.Core.Path.{◌≡◌, ap, subst}
+use Rattle.std.specs.Prelude.{Err, Ok, Result}
+use mathlib.Core.Path.{◌≡◌, ap}
 use mathlib.Core.Bool.{Bool, true, false, not, ◌&&◌, ◌||◌}
 use mathlib.Core.List.{List}
 use Prim.Native.Nat.{ℕ, ◌+◌, ◌-◌, ◌≤◌, ◌<◌}
 use native.Mathlib.Omega.{arith}
 use borrow.Author.Tests.{lt-ltb, le-ltb, ne_eqb, eqb-false, not-false}
 use lib.Dec.{eqb, ltb}
-use lib.IntN.{ℤ}
 use lib.ListN.{length, take, drop, length-take, length-drop}
 use Rattle.base_notation.proofs.Cases.{by_if, neither}
 use Rattle.base_refusals.specs.declared.Refusal.TheVariants.{Short, Narrow}
@@ -21,13 +21,13 @@ use Rattle.base_strtol.specs.declared.Strtol.{Strtol}
 use Rattle.base_strtol.proofs.Leading.{leading_place}
 use Rattle.base_strtol.proofs.Places.{end_from, end_within}
 use Rattle.read_integers.specs.declared.Number.{Number}
-use Rattle.read_integers.specs.declared.Number.TheVariants.{Read, Refused}
-use Rattle.read_integers.specs.Number.{fits32, checked, fixed_at, number_at, Inside, Found}
+use Rattle.read_integers.specs.Number.{up_to, fits32, checked, fixed_at, number_at, Inside, Found}
+use Rattle.base_refusals.specs.declared.Refusal.{Refusal}
 
 -- a number that is found, of 32 bits
 pub accepted
     : (pattern start : ℕ) (r : Strtol) → (r.end ≡ start → ⊥) → r.overflow ≡ false → fits32 r.value ≡ true
-    → Read r.value r.end ≡ checked pattern start r
+    → Ok (up_to r.value r.end) ≡ checked pattern start r
 unfolding checked
 accepted pattern start r n o f = rw (ne_eqb _ _ n, o, f)
 
@@ -51,12 +51,16 @@ module _ (s : List ℕ) (at pattern : ℕ) where
     abbrev moved : Strtol → Strtol
     moved r = record { value = r.value; end = from + r.end; overflow = r.overflow }
 
-    pub short : length s - from < width → Refused (Short pattern width (length s - from)) ≡ fixed_at s at width pattern
+    pub short : length s - from < width → Err (Short pattern width (length s - from)) ≡ fixed_at s at width pattern
     unfolding fixed_at
     short h = rw (← start, lt-ltb _ _ h)
 
-    module _ (room : width ≤ length s - from) (r : Strtol) (is : r ≡ strtol part 0) where
-      pub narrow : 0 < r.end → r.end < width → Refused (Narrow pattern width r.end) ≡ fixed_at s at width pattern
+    module _ (room : width ≤ length s - from) (r : Strtol) (found : r ≡ strtol (take (from + width - from) (drop from s)) 0) where
+      -- the bytes up to the end of the field are the part
+      is : r ≡ strtol part 0
+      is = let as_long : from + width - from ≡ width = omega arith in rw as_long at found
+
+      pub narrow : 0 < r.end → r.end < width → Err (Narrow pattern width r.end) ≡ fixed_at s at width pattern
       unfolding fixed_at
       narrow f g = rw (← start, le-ltb _ _ room, ← is, lt-ltb _ _ f, lt-ltb _ _ g)
 
@@ -79,7 +83,7 @@ module _ (s : List ℕ) (at pattern : ℕ) where
         (λ f. checked_inside _ (omega arith) (omega (arith, leading_place is_space s at, end_within (take width (drop from s)) 0, length-take width (drop from s), length-drop from s))))
 
     -- what the function returns, in both cases
-    module _ (free : Bool) (n : Number) where
+    module _ (free : Bool) (n : Result Number Refusal) where
       pub found_free : free ≡ true → n ≡ checked pattern at (strtol s at) → Found s at (number_at s at width pattern free) n
       unfolding number_at
       found_free e q = record { is = rw e q; inside = rw q (free_inside h) }
@@ -87,13 +91,3 @@ module _ (s : List ℕ) (at pattern : ℕ) where
       pub found_fixed : free ≡ false → n ≡ fixed_at s at width pattern → Found s at (number_at s at width pattern free) n
       unfolding number_at
       found_fixed e q = record { is = rw e q; inside = rw q fixed_inside }
-
-    -- the same of the definition itself
-    pub number_inside : (free : Bool) → Inside s at (number_at s at width pattern free)
-    unfolding number_at
-    number_inside true = free_inside h
-    number_inside false = fixed_inside
-
--- the same of a number that was read, by its variant
-pub read_inside : {s : List ℕ} {at : ℕ} {n r : Number} {value : ℤ} {next : ℕ} → Found s at n r → r ≡ Read value next → Inside s at (Read value next)
-read_inside {s} {at} f e = subst (Inside s at) e f.inside

@@ -1,5 +1,6 @@
 -- A number that is refused names its own pattern. Assumes nothing.
 -- `number_own`: where P holds of the pattern by which a number is read, it holds of the pattern that a refusal names.
+use Rattle.std.specs.Prelude.{Err, Ok, Result}
 use mathlib.Core.Bool.{Bool, true, false, not, ◌&&◌, ◌||◌}
 use mathlib.Core.List.{List}
 use Prim.Native.Nat.{ℕ, ◌+◌, ◌-◌}
@@ -11,13 +12,13 @@ use Rattle.base_strtol.specs.Runs.{spaces}
 use Rattle.base_strtol.specs.Strtol.{strtol}
 use Rattle.base_strtol.specs.declared.Strtol.{Strtol}
 use Rattle.read_integers.specs.declared.Number.{Number}
-use Rattle.read_integers.specs.declared.Number.TheVariants.{Read, Refused}
 use Rattle.read_integers.specs.Number.{fits32, checked, fixed_at, number_at}
+use Rattle.base_refusals.specs.declared.Refusal.{Refusal}
 
 -- P holds of the pattern that a refusal names
-abbrev pub NumberNames : (ℕ → Type 0) → Number → Type 0
-NumberNames P (Read value next) = Unit {0}
-NumberNames P (Refused why) = P (report_of why).pattern
+abbrev pub NumberNames : (ℕ → Type 0) → Result Number Refusal → Type 0
+NumberNames P (Ok z) = Unit {0}
+NumberNames P (Err why) = P (report_of why).pattern
 
 module _ (P : ℕ → Type 0) (pattern : ℕ) (own : P pattern) (s : List ℕ) (at : ℕ) where
   checked_own : (r : Strtol) → NumberNames P (checked pattern at r)

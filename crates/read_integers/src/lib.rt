@@ -10,70 +10,53 @@ use base_refusals::Refusal;
 use base_strtol::Strtol;
 use template_nodes::Node;
 
-// A number and the place after it, or why there is none.
+// A number and the place after it.
 #[derive(Clone, Copy)]
-pub enum Number {
-    Read { value: i32, next: usize },
-    Refused(Refusal),
+pub struct Number {
+    pub value: i32,
+    pub next: usize,
 }
 
 // The suffix bits of an ordinal: TH and th.
 pub const ORDINAL: u8 = template_patterns::SUFFIX_TH | template_patterns::SUFFIX_TH_SMALL;
 
 // Whether what comes after the pattern `n` of the template `t` is no digit.
+#[tactic(auto, unfolding(crate::specs::Suffix::ends_number))]
 pub fn is_next_separator(t: &[u8], n: Node, next: Node) -> bool
     ensures { result ≡ ends_number t.now n next }
 {
-    if n.suffix & ORDINAL != 0 {
-        return true;
-    }
-    if next.kind == template_nodes::FN_END {
+    if n.suffix & ORDINAL != 0 || next.kind == template_nodes::FN_END {
         return true;
     }
     if next.kind == template_nodes::FN_ACTION {
         return !template_patterns::is_digit(next.pattern);
     }
-    if next.len != 1 {
-        return true;
-    }
-    !base_chars::is_digit_c(base_notation::byte_at(t, next.start as usize))
+    next.len != 1 || !base_chars::is_digit_c(base_notation::byte_at(t, next.start as usize))
 }
 
 // Whether the pattern `n` takes all digits that are there.
 pub fn is_free(t: &[u8], n: Node, next: Node) -> bool
     ensures { result ≡ is_free t.now n next }
 {
-    if n.suffix & template_patterns::SUFFIX_FM != 0 {
-        return true;
-    }
-    is_next_separator(t, n, next)
+    n.suffix & template_patterns::SUFFIX_FM != 0 || is_next_separator(t, n, next)
 }
 
 // A number that strtol read for a field that began at `start`: with its end there, nothing was read.
-fn checked(pattern: u8, start: usize, r: Strtol) -> Number
+#[tactic(auto, unfolding(crate::specs::Number::checked))]
+fn checked(pattern: u8, start: usize, r: Strtol) -> Result<Number, Refusal>
     ensures { result ≡ checked_from pattern start r }
 {
     if r.end == start {
-        return Number::Refused(Refusal::NotInteger { pattern });
+        return Err(Refusal::NotInteger { pattern });
     }
-    if r.overflow {
-        return Number::Refused(Refusal::OutOfRange { pattern });
-    }
-    let value = r.value;
-    if value < -2147483648 {
-        return Number::Refused(Refusal::OutOfRange { pattern });
-    }
-    if value > 2147483647 {
-        return Number::Refused(Refusal::OutOfRange { pattern });
-    }
-    Number::Read {
-        value: value as i32,
-        next: r.end,
+    match i32::try_from(r.value) {
+        Ok(value) if !r.overflow => Ok(Number { value, next: r.end }),
+        _ => Err(Refusal::OutOfRange { pattern }),
     }
 }
 
 // A number of fixed width, after spaces.
-fn fixed(s: &[u8], at: usize, width: u8, pattern: u8) -> Number
+fn fixed(s: &[u8], at: usize, width: u8, pattern: u8) -> Result<Number, Refusal>
     requires { at ≤ length s.now }
     ensures { result ≡ fixed_at s.now at width pattern }
 {
@@ -81,23 +64,20 @@ fn fixed(s: &[u8], at: usize, width: u8, pattern: u8) -> Number
     let wide = width as usize;
     let left = s.len() - from;
     if left < wide {
-        return Number::Refused(Refusal::Short {
+        return Err(Refusal::Short {
             pattern,
             width,
             left: left as u8,
         });
     }
-    let end = from + wide;
-    let r = base_strtol::c_strtol(&s[from..end], 0);
+    let r = base_strtol::c_strtol(&s[from..from + wide], 0);
     let parsed = r.end;
-    if 0 < parsed {
-        if parsed < wide {
-            return Number::Refused(Refusal::Narrow {
-                pattern,
-                width,
-                parsed: parsed as u8,
-            });
-        }
+    if 0 < parsed && parsed < wide {
+        return Err(Refusal::Narrow {
+            pattern,
+            width,
+            parsed: parsed as u8,
+        });
     }
     let found = Strtol {
         end: from + parsed,
@@ -107,7 +87,13 @@ fn fixed(s: &[u8], at: usize, width: u8, pattern: u8) -> Number
 }
 
 // A number of a width, or of any width if it is free, as strtol reads it.
-pub fn strtol_number(s: &[u8], at: usize, width: u8, pattern: u8, free: bool) -> Number
+pub fn strtol_number(
+    s: &[u8],
+    at: usize,
+    width: u8,
+    pattern: u8,
+    free: bool,
+) -> Result<Number, Refusal>
     requires { at ≤ length s.now }
     ensures { Numbered s.now at (number_at s.now at width pattern free) result }
 {
@@ -118,18 +104,21 @@ pub fn strtol_number(s: &[u8], at: usize, width: u8, pattern: u8, free: bool) ->
 }
 
 // The same. Most numbers are digits alone, and few.
-pub fn parse_int_len(s: &[u8], at: usize, width: u8, pattern: u8, free: bool) -> Number
+pub fn parse_int_len(
+    s: &[u8],
+    at: usize,
+    width: u8,
+    pattern: u8,
+    free: bool,
+) -> Result<Number, Refusal>
     requires { at ≤ length s.now }
     ensures { Numbered s.now at (number_at s.now at width pattern free) result }
 {
-    if free {
-        let short = base_strtol::short_number(s, at);
-        if short.end != at {
-            return Number::Read {
-                value: short.value as i32,
-                next: short.end,
-            };
-        }
+    if free && let Some(short) = base_strtol::short_number(s, at) {
+        return Ok(Number {
+            value: short.value as i32,
+            next: short.end,
+        });
     }
     strtol_number(s, at, width, pattern, free)
 }
@@ -138,23 +127,17 @@ pub fn parse_int_len(s: &[u8], at: usize, width: u8, pattern: u8, free: bool) ->
 pub fn from_char_set_int(old: i32, new: i32) -> bool
     ensures { result ≡ conflicts old new }
 {
-    if old == 0 {
-        return false;
-    }
-    old != new
+    old != 0 && old != new
 }
 
 // Past two characters, if the pattern has an ordinal suffix. `accents` is the mode that measures them.
+#[tactic(auto, unfolding(crate::specs::Suffix::past_ordinal, base_accents::specs::Accents::measure_of))]
 pub fn skip_th(s: &[u8], at: usize, accents: bool, suffix: u8) -> usize
     ensures { Skipped s.now at accents suffix result }
 {
     if suffix & ORDINAL == 0 {
         return at;
     }
-    if accents {
-        let one = at + base_accents::whole(s, at);
-        return one + base_accents::whole(s, one);
-    }
-    let one = at + base_chars::pg_mblen(s, at);
-    one + base_chars::pg_mblen(s, one)
+    let one = at + base_accents::measure(s, at, accents);
+    one + base_accents::measure(s, one, accents)
 }

@@ -1,13 +1,14 @@
 // Where reading is in the input: spaces that are skipped, and literals of the template.
 #![tactic(auto)]
 
-ghost use Rattle.std.specs.Prelude.{true, ◌≡◌, ◌≤◌, pred, length};
+ghost use Rattle.std.specs.Prelude.{true, ◌≡◌, ◌≤◌, length};
 ghost use Rattle.read_literals.specs.Literals.{Payable, past_field, blank_passed, char_passed, entered_by, literal_passed, place, skipped};
 
 use read_fields::Place;
 use template_nodes::Node;
 
 // Past the spaces, which pay for literals to come.
+#[tactic(auto, using(crate::proofs::Literals::spaces_few))]
 pub fn spaces_skipped(s: &[u8], p: Place) -> Place
     requires { (p.extra ≤ 512) × (length s.now ≤ 512) }
     ensures { result ≡ skipped s.now p }
@@ -22,13 +23,8 @@ pub fn spaces_skipped(s: &[u8], p: Place) -> Place
     }
 }
 
-fn less_one(n: usize) -> usize
-    ensures { result ≡ pred n }
-{
-    if n == 0 { 0 } else { n - 1 }
-}
-
 // A space or separator of the template takes one of the input, or a skipped space.
+#[tactic(auto, unfolding(base_chars::specs::Class::class_of))]
 fn blank_passed(s: &[u8], p: Place) -> Place
     requires { p.at ≤ length s.now }
     ensures { result ≡ blank_passed s.now p }
@@ -44,7 +40,7 @@ fn blank_passed(s: &[u8], p: Place) -> Place
     }
     Place {
         at,
-        extra: less_one(extra),
+        extra: extra.saturating_sub(1),
         fx: 0,
     }
 }
@@ -61,6 +57,7 @@ fn char_passed(s: &[u8], n: Node, p: Place) -> Place
     }
 }
 
+#[tactic(auto, unfolding(crate::specs::Literals::literal_passed))]
 pub fn literal_passed(s: &[u8], n: Node, p: Place) -> Place
     requires { p.at ≤ length s.now }
     ensures { result ≡ literal_passed s.now n p }
@@ -68,10 +65,7 @@ pub fn literal_passed(s: &[u8], n: Node, p: Place) -> Place
     if p.fx != 0 {
         return char_passed(s, n, p);
     }
-    if n.kind == template_nodes::FN_SEPARATOR {
-        return blank_passed(s, p);
-    }
-    if n.kind == template_nodes::FN_SPACE {
+    if n.kind == template_nodes::FN_SEPARATOR || n.kind == template_nodes::FN_SPACE {
         return blank_passed(s, p);
     }
     let extra = p.extra;
@@ -107,26 +101,21 @@ pub fn entered(s: &[u8], skip: bool, p: Place) -> Place
     requires { Payable s.now p × (length s.now ≤ 512) }
     ensures { result ≡ entered_by s.now skip p }
 {
-    if p.fx != 0 {
-        return p;
+    if skip && p.fx == 0 {
+        spaces_skipped(s, p)
+    } else {
+        p
     }
-    if skip {
-        return spaces_skipped(s, p);
-    }
-    p
 }
 
 // A literal, with the spaces before it. Most are plain characters for which no skipped space can pay.
+#[tactic(auto, unfolding(crate::specs::Literals::literal_passed), using(crate::proofs::Literals::entered_within))]
 pub fn literal_read(s: &[u8], n: Node, first: bool, p: Place) -> Place
     requires { Payable s.now p × (p.at ≤ length s.now) × (length s.now ≤ 512) }
     ensures { result ≡ literal_passed s.now n (entered_by s.now first p) }
 {
-    if !first {
-        if n.kind == template_nodes::FN_CHAR {
-            if p.extra == 0 {
-                return char_passed(s, n, p);
-            }
-        }
+    if !first && n.kind == template_nodes::FN_CHAR && p.extra == 0 {
+        return char_passed(s, n, p);
     }
     literal_passed(s, n, entered(s, first, p))
 }

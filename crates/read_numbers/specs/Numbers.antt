@@ -1,5 +1,5 @@
 -- Patterns that read a number, and a year with a comma.
-use Rattle.std.specs.Prelude.{◌≡◌, refl, Bool, true, false, List, ℕ, ◌+◌, ◌-◌, ◌^◌, eqb, ltb, ℤ, pos}
+use Rattle.std.specs.Prelude.{◌≡◌, refl, Bool, List, ℕ, ◌-◌, ◌^◌, eqb, ltb, ℤ, pos, Err, Ok, Result}
 use Rattle.std.specs.Int.Signed.{lt_z}
 use Rattle.read_numbers.specs.Year.{years_compute, comma_year_at, near2020}
 use Rattle.read_integers.specs.Number.{integer_computes, number_at}
@@ -7,15 +7,15 @@ use Rattle.base_notation.specs.Choice.{when◌then◌else◌}
 use Rattle.base_refusals.specs.declared.Refusal.TheVariants.{Conflict}
 use Rattle.read_integers.specs.Suffix.{past_ordinal}
 use Rattle.read_integers.specs.declared.Number.{Number}
-use Rattle.read_integers.specs.declared.Number.TheVariants.{Read, Refused}
 use Rattle.template_nodes.specs.declared.Node.{Node}
 use Rattle.base_wrapping.specs.Wrap.{◌⊕◌, ◌⊗◌}
 use Rattle.read_fields.specs.Fields.{conflicts, get, put, read, refuse, at_place, clock, yysz, ff}
-use Rattle.read_fields.specs.Tasks.{comma_year, hour12, millis, micros, fraction, iso_day, whole_year, part_year}
+use Rattle.read_fields.specs.Tasks.{comma_year, same_kind, hour12, millis, micros, fraction, iso_day, whole_year, part_year}
 use Rattle.read_fields.specs.declared.Fields.{Fields}
 use Rattle.read_fields.specs.declared.Place.{Place}
 use Rattle.read_fields.specs.declared.Reading.{Reading}
 use Rattle.read_fields.specs.declared.Task.{Task}
+use Rattle.base_refusals.specs.declared.Refusal.{Refusal}
 
 -- a number read from n bytes is the first digits of a width: ten to the number of digits that are missing
 abbrev pub missing : ℕ → ℕ → ℤ
@@ -53,23 +53,23 @@ abbrev pub with_number : Task → ℤ → ℕ → Fields → Fields
 with_number task z n f = noted task.rule task.operand (put f task.field (kept task.rule z n))
 
 -- a number goes into its field, unless that was set to another value; an ordinal suffix is skipped
-unfoldable pub stored_number : List ℕ → Node → Task → Number → Fields → Place → Reading
-stored_number s n task (Refused why) f p = refuse why f p
-stored_number s n task (Read z next) f p =
-    when conflicts (get f task.field) z then refuse (Conflict n.pattern) f p
-    else read (with_number task z (next - p.at) f) (at_place p (past_ordinal s next n.accents n.suffix))
+unfoldable pub stored_number : List ℕ → Node → Task → Result Number Refusal → Fields → Place → Reading
+stored_number s n task (Err why) f p = refuse why f p
+stored_number s n task (Ok r) f p =
+    when conflicts (get f task.field) r.value then refuse (Conflict n.pattern) f p
+    else read (with_number task r.value (r.next - p.at) f) (at_place p (past_ordinal s r.next n.accents n.suffix))
 
 -- the number at a place: with a comma, or of a width
-abbrev pub number_of : List ℕ → Node → Bool → Task → ℕ → Number
-number_of s n free task at = when eqb task.kind comma_year then comma_year_at s at n.pattern else number_at s at task.operand n.pattern free
+abbrev pub number_of : List ℕ → Node → Bool → Task → ℕ → Result Number Refusal
+number_of s n free task at = when same_kind task.kind comma_year then comma_year_at s at n.pattern else number_at s at task.operand n.pattern free
 
 abbrev pub read_number : List ℕ → Node → Bool → Task → Fields → Place → Reading
 read_number s n free task f p = stored_number s n task (number_of s n free task p.at) f p
 
 -- a number that is read and dropped
-unfoldable pub dropped_number : List ℕ → Node → Number → Fields → Place → Reading
-dropped_number s n (Refused why) f p = refuse why f p
-dropped_number s n (Read z next) f p = read f (at_place p (past_ordinal s next n.accents n.suffix))
+unfoldable pub dropped_number : List ℕ → Node → Result Number Refusal → Fields → Place → Reading
+dropped_number s n (Err why) f p = refuse why f p
+dropped_number s n (Ok r) f p = read f (at_place p (past_ordinal s r.next n.accents n.suffix))
 
 abbrev pub read_dropped : List ℕ → Node → Bool → Task → Fields → Place → Reading
 read_dropped s n free task f p = dropped_number s n (number_at s p.at task.operand n.pattern free) f p

@@ -1,5 +1,5 @@
 -- Years: a year with a comma (Y,YYY), read as sscanf's "%d,%03d", and years of fewer than four digits.
-use Rattle.std.specs.Prelude.{◌≡◌, refl, not, ◌&&◌, ◌||◌, List, ℕ, ◌+◌, eqb, ℤ, pos, ◌+ℤ◌, ◌*ℤ◌, take, drop}
+use Rattle.std.specs.Prelude.{◌≡◌, refl, not, ◌&&◌, ◌||◌, List, ℕ, ◌+◌, eqb, ℤ, pos, ◌+ℤ◌, ◌*ℤ◌, take, drop, Err, Ok, Result, Some, None, Option}
 use Prim.Native.Char.{code}
 use Rattle.std.specs.Int.Signed.{lt_z}
 use Rattle.base_strtol.specs.Strtol.{strtol_computes, strtol}
@@ -9,32 +9,31 @@ use Rattle.base_wrapping.specs.Wrap.{wrap32}
 use Rattle.base_refusals.specs.declared.Refusal.TheVariants.{NotTwoNumbers, YearOutOfRange}
 use Rattle.base_strtol.specs.Runs.{spaces}
 use Rattle.read_integers.specs.declared.Number.{Number}
-use Rattle.read_integers.specs.declared.Number.TheVariants.{Read, Refused}
 use Rattle.read_numbers.specs.declared.years.Scanned.{Scanned}
-use Rattle.read_numbers.specs.declared.years.Scanned.TheVariants.{Both, Missing}
-use Rattle.read_integers.specs.Number.{fits32}
+use Rattle.read_integers.specs.Number.{fits32, up_to}
+use Rattle.base_refusals.specs.declared.Refusal.{Refusal}
 
 -- thousands of years and years together, if both the thousands and the sum are numbers of 32 bits
-unfoldable pub joined : ℕ → ℤ → ℤ → ℕ → Number
+unfoldable pub joined : ℕ → ℤ → ℤ → ℕ → Result Number Refusal
 joined pattern thousands years next =
     let whole = thousands *ℤ pos 1000 in
-    when fits32 whole && fits32 (years +ℤ whole) then Read (years +ℤ whole) next
-    else Refused (YearOutOfRange pattern)
+    when fits32 whole && fits32 (years +ℤ whole) then Ok (up_to (years +ℤ whole) next)
+    else Err (YearOutOfRange pattern)
 
 -- a number, cut to 32 bits; a comma; spaces; and a number within three bytes
-unfoldable pub scanned : List ℕ → Scanned
+unfoldable pub scanned : List ℕ → Option Scanned
 scanned t =
     let a = strtol t 0 in
     let from = a.end + 1 + spaces (drop (a.end + 1) t) in
     let b = strtol (take (from + 3) t) from in
-    when eqb a.end 0 || not (eqb (byte_at t a.end) (code ",")) || eqb b.end from then Missing
-    else Both (wrap32 a.value) (wrap32 b.value) b.end
+    when eqb a.end 0 || not (eqb (byte_at t a.end) (code ",")) || eqb b.end from then None
+    else Some (record { thousands = wrap32 a.value; years = wrap32 b.value; next = b.end })
 
-abbrev pub scanned_year : ℕ → ℕ → Scanned → Number
-scanned_year pattern at (Both thousands years next) = joined pattern thousands years (at + next)
-scanned_year pattern at Missing = Refused (NotTwoNumbers pattern)
+abbrev pub scanned_year : ℕ → ℕ → Option Scanned → Result Number Refusal
+scanned_year pattern at (Some r) = joined pattern r.thousands r.years (at + r.next)
+scanned_year pattern at None = Err (NotTwoNumbers pattern)
 
-unfoldable pub comma_year_at : List ℕ → ℕ → ℕ → Number
+unfoldable pub comma_year_at : List ℕ → ℕ → ℕ → Result Number Refusal
 comma_year_at s at pattern = scanned_year pattern at (scanned (drop at s))
 
 -- a year of two or three digits is put near 2020
@@ -53,13 +52,13 @@ years_compute = 0
 
 -- 2,024 is the year 2024, also with spaces after the comma; without a second number nothing is read
 pub worked
-    : (comma_year_at (utf8 "2,024.") 0 53 ≡ Read (pos 2024) 5) × (comma_year_at (utf8 "2, 024") 0 53 ≡ Read (pos 2024) 6)
-    × (comma_year_at (utf8 "2.024") 0 53 ≡ Refused (NotTwoNumbers 53)) × (comma_year_at (utf8 "2147484,000") 0 53 ≡ Refused (YearOutOfRange 53))
+    : (comma_year_at (utf8 "2,024.") 0 53 ≡ Ok (up_to (pos 2024) 5)) × (comma_year_at (utf8 "2, 024") 0 53 ≡ Ok (up_to (pos 2024) 6))
+    × (comma_year_at (utf8 "2.024") 0 53 ≡ Err (NotTwoNumbers 53)) × (comma_year_at (utf8 "2147484,000") 0 53 ≡ Err (YearOutOfRange 53))
 unfolding years_compute
 worked = (refl, refl, refl, refl)
 
 -- the first number is cut to 32 bits without a refusal: 4294967298 counts as 2
-pub cut : comma_year_at (utf8 "4294967298,024") 0 53 ≡ Read (pos 2024) 14
+pub cut : comma_year_at (utf8 "4294967298,024") 0 53 ≡ Ok (up_to (pos 2024) 14)
 unfolding years_compute
 cut = refl
 

@@ -10,7 +10,7 @@ ghost use Rattle.read_fields.specs.Fields.{fields_of, read_into};
 ghost use Rattle.read_numbers.specs.Numbers.{kept, missing, near_if_short, noted, number_of, read_dropped, read_number, stored_number, sunday_first, with_number};
 
 use base_refusals::Refusal;
-use read_fields::{Outcome, Place, Task, field, state, table};
+use read_fields::{Kind, Outcome, Place, Task, field, state, table};
 use read_integers::Number;
 use template_nodes::Node;
 
@@ -34,12 +34,10 @@ fn missing(width: usize, n: usize) -> i32
     ensures { result ≡ missing width n }
 {
     if n == 0 {
-        return 1;
+        1
+    } else {
+        power_of_ten(width.saturating_sub(n))
     }
-    if width <= n {
-        return 1;
-    }
-    power_of_ten(width - n)
 }
 
 fn scaled(z: i32, width: usize, n: usize) -> i32
@@ -54,9 +52,10 @@ fn near_if_short(z: i32, n: usize) -> i32
     ensures { result ≡ near_if_short z n }
 {
     if n < 4 {
-        return years::adjust_partial_year(z);
+        years::adjust_partial_year(z)
+    } else {
+        z
     }
-    z
 }
 
 // An ISO weekday as one that counts from Sunday.
@@ -68,13 +67,13 @@ fn sunday_first(z: i32) -> i32
 }
 
 // What a field keeps of a number that was read from n bytes.
+#[tactic(auto, unfolding(crate::specs::Numbers::kept))]
 fn kept(rule: usize, z: i32, n: usize) -> i32
     ensures { result ≡ kept rule z n }
 {
     match rule {
         table::MILLIS => scaled(z, 3, n),
-        table::MICROS => scaled(z, 6, n),
-        table::FRACTION => scaled(z, 6, n),
+        table::MICROS | table::FRACTION => scaled(z, 6, n),
         table::ISO_DAY => sunday_first(z),
         table::PART_YEAR => near_if_short(z, n),
         _ => z,
@@ -82,14 +81,15 @@ fn kept(rule: usize, z: i32, n: usize) -> i32
 }
 
 // What else is set: the clock of 12 hours, the digits of the year or of the fraction.
+#[tactic(auto, unfolding(crate::specs::Numbers::noted))]
 fn noted(rule: usize, width: u8, f: &mut [i32; 24])
     ensures { fields_of f.new ≡ noted rule width (fields_of f.old) }
 {
     match rule {
         table::HOUR12 => state::put(f, field::CLOCK, 12),
         table::WHOLE_YEAR => state::put(f, field::YYSZ, 4),
-        table::PART_YEAR => state::put(f, field::YYSZ, width as i32),
-        table::FRACTION => state::put(f, field::FF, width as i32),
+        table::PART_YEAR => state::put(f, field::YYSZ, i32::from(width)),
+        table::FRACTION => state::put(f, field::FF, i32::from(width)),
         _ => {}
     }
 }
@@ -104,11 +104,12 @@ pub fn put_number(task: Task, z: i32, n: usize, f: &mut [i32; 24])
 }
 
 // A number goes into its field, unless that was set to another value; an ordinal suffix is skipped.
+#[tactic(auto, unfolding(crate::specs::Numbers::stored_number))]
 fn stored_number(
     s: &[u8],
     n: Node,
     task: Task,
-    number: Number,
+    number: Result<Number, Refusal>,
     f: &mut [i32; 24],
     p: Place,
 ) -> Outcome
@@ -116,8 +117,8 @@ fn stored_number(
     ensures { read_into result f.new ≡ stored_number s.now n task number (fields_of f.old) p }
 {
     match number {
-        Number::Refused(why) => state::refuse(why, p),
-        Number::Read { value, next } => {
+        Err(why) => state::refuse(why, p),
+        Ok(Number { value, next }) => {
             if state::holds_other(f, task.field, value) {
                 return state::refuse(Refusal::Conflict { pattern: n.pattern }, p);
             }
@@ -128,11 +129,11 @@ fn stored_number(
 }
 
 // The number at a place: with a comma, or of a width.
-fn number_at(s: &[u8], n: Node, free: bool, task: Task, at: usize) -> Number
+fn number_at(s: &[u8], n: Node, free: bool, task: Task, at: usize) -> Result<Number, Refusal>
     requires { at ≤ length s.now }
     ensures { Numbered s.now at (number_of s.now n free task at) result }
 {
-    if task.kind == table::COMMA_YEAR {
+    if task.kind == Kind::CommaYear {
         return years::comma_year(s, at, n.pattern);
     }
     read_integers::parse_int_len(s, at, task.operand, n.pattern, free)
@@ -154,14 +155,16 @@ pub fn read_number(
 }
 
 // A number that is read and dropped: the fields stay, whatever they hold.
+#[tactic(auto, unfolding(read_integers::specs::Number::number_at, crate::specs::Numbers::dropped_number))]
 pub fn read_dropped(s: &[u8], n: Node, free: bool, task: Task, p: Place) -> Outcome
     requires { p.at ≤ length s.now }
     ensures { (values : List ℤ) → read_into result values ≡ read_dropped s.now n free task (fields_of values) p }
 {
     match read_integers::parse_int_len(s, p.at, task.operand, n.pattern, free) {
-        Number::Refused(why) => state::refuse(why, p),
-        Number::Read { value: _, next } => {
-            state::read(state::at_place(p, read_integers::skip_th(s, next, n.accents, n.suffix)))
+        Err(why) => state::refuse(why, p),
+        Ok(number) => {
+            let next = read_integers::skip_th(s, number.next, n.accents, n.suffix);
+            state::read(state::at_place(p, next))
         }
     }
 }

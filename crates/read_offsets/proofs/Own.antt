@@ -1,6 +1,7 @@
 -- A pattern that reads an offset and is refused names itself. Assumes nothing.
 -- `read_offset_own`, `read_minutes_own`: where P holds of a node's pattern, it holds of the pattern that a refusal
 -- names.
+use Rattle.std.specs.Prelude.{Err, Ok, Result}
 use mathlib.Core.Bool.{Bool, not, ◌&&◌}
 use mathlib.Core.List.{List}
 use Prim.Native.Nat.{ℕ, ◌+◌}
@@ -12,7 +13,6 @@ use Rattle.base_refusals.specs.Report.{report_of}
 use Rattle.base_chars.specs.Class.{is_letter}
 use Rattle.read_integers.specs.Number.{number_at}
 use Rattle.read_integers.specs.declared.Number.{Number}
-use Rattle.read_integers.specs.declared.Number.TheVariants.{Read, Refused}
 use Rattle.read_integers.proofs.Own.{NumberNames, number_own}
 use Rattle.template_nodes.specs.declared.Node.{Node}
 use Rattle.read_fields.specs.Fields.{conflicts, get, put, tzsign, tzh, tzm}
@@ -23,13 +23,14 @@ use Rattle.read_fields.specs.declared.Reading.{Reading}
 use Rattle.read_fields.specs.declared.Task.{Task}
 use Rattle.read_fields.proofs.Own.{ReadingNames, onward_own}
 use Rattle.read_offsets.specs.Offsets.{sign_of, past_sign, stored_offset, colon_minutes, then_minutes, read_offset, with_sign, read_offset_minutes}
+use Rattle.base_refusals.specs.declared.Refusal.{Refusal}
 
 module _ (P : ℕ → Type 0) (s : List ℕ) (n : Node) (own : P n.pattern) (free : Bool) where
   -- two digits at a place, into a field
-  stored_own : (field : ℕ) (a : Number) → NumberNames P a → (f : Fields) (p : Place) → ReadingNames P (stored_offset n field a f p)
+  stored_own : (field : ℕ) (a : Result Number Refusal) → NumberNames P a → (f : Fields) (p : Place) → ReadingNames P (stored_offset n field a f p)
   unfolding stored_offset report_of
-  stored_own field (Refused why) named f p = named
-  stored_own field (Read z next) named f p = by_if (ReadingNames P) (conflicts (get f field) z) _ _ (λ e. own) (λ e. tt)
+  stored_own field (Err why) named f p = named
+  stored_own field (Ok r) named f p = by_if (ReadingNames P) (conflicts (get f field) r.value) _ _ (λ e. own) (λ e. tt)
 
   digits_own : (field at : ℕ) (f : Fields) (p : Place) → ReadingNames P (stored_offset n field (number_at s at 2 n.pattern free) f p)
   digits_own field at f p = stored_own field (number_at s at 2 n.pattern free) (number_own P n.pattern own s at 2 free) f p

@@ -1,5 +1,5 @@
 -- Patterns that read an offset: TZ, OF, TZH and TZM.
-use Rattle.std.specs.Prelude.{◌≡◌, refl, Bool, true, false, not, ◌&&◌, ◌||◌, List, ℕ, ◌+◌, ◌-◌, ◌≤◌, eqb, ltb, ℤ, pos, negsuc, length}
+use Rattle.std.specs.Prelude.{◌≡◌, refl, Bool, not, ◌&&◌, ◌||◌, List, ℕ, ◌+◌, ◌-◌, ◌≤◌, eqb, ltb, ℤ, pos, negsuc, length, Err, Ok, Result}
 use Prim.Native.Char.{code}
 use Rattle.base_notation.specs.Choice.{when◌then◌else◌}
 use Rattle.base_notation.specs.Text.{byte_at, utf8}
@@ -7,7 +7,6 @@ use Rattle.base_refusals.specs.declared.Refusal.TheVariants.{Conflict, ZoneLette
 use Rattle.base_chars.specs.Class.{is_letter}
 use Rattle.read_integers.specs.Number.{integer_computes, number_at}
 use Rattle.read_integers.specs.declared.Number.{Number}
-use Rattle.read_integers.specs.declared.Number.TheVariants.{Read, Refused}
 use Rattle.template_nodes.specs.declared.Node.{Node}
 use Rattle.read_fields.specs.Fields.{conflicts, get, put, read, refuse, at_place, onward, is_zero, tzsign, tzh, tzm}
 use Rattle.read_fields.specs.Tasks.{hours, no_letter}
@@ -15,6 +14,7 @@ use Rattle.read_fields.specs.declared.Fields.{Fields}
 use Rattle.read_fields.specs.declared.Place.{Place}
 use Rattle.read_fields.specs.declared.Reading.{Reading}
 use Rattle.read_fields.specs.declared.Task.{Task}
+use Rattle.base_refusals.specs.declared.Refusal.{Refusal}
 
 -- a byte is a sign, or a space for plus
 abbrev pub is_sign : ℕ → Bool
@@ -37,10 +37,10 @@ pub record Signed (s : List ℕ) (at r : ℕ) : Type 0 where
   pub within : r ≤ length s
 
 -- a number of an offset goes into its field, unless that was set to another value
-unfoldable pub stored_offset : Node → ℕ → Number → Fields → Place → Reading
-stored_offset n field (Refused why) f p = refuse why f p
-stored_offset n field (Read z next) f p =
-    when conflicts (get f field) z then refuse (Conflict n.pattern) f p else read (put f field z) (at_place p next)
+unfoldable pub stored_offset : Node → ℕ → Result Number Refusal → Fields → Place → Reading
+stored_offset n field (Err why) f p = refuse why f p
+stored_offset n field (Ok r) f p =
+    when conflicts (get f field) r.value then refuse (Conflict n.pattern) f p else read (put f field r.value) (at_place p r.next)
 
 -- the minutes after a colon, where both are read
 unfoldable pub colon_minutes : List ℕ → Node → Bool → ℕ → Fields → Place → Reading

@@ -8,44 +8,31 @@ ghost use Rattle.read_fields.specs.Tasks.{no_letter};
 ghost use Rattle.read_offsets.specs.Offsets.{Signed, colon_minutes, is_sign, read_offset, read_offset_minutes, sign_of, stored_offset, with_sign};
 
 use base_refusals::Refusal;
-use read_fields::{Outcome, Place, Task, Verdict, field, state, table};
+use read_fields::{Outcome, Place, Task, field, state, table};
 use read_integers::Number;
 use template_nodes::Node;
 
 fn is_sign(b: u8) -> bool
     ensures { result ≡ is_sign b }
 {
-    if b == b'+' {
-        return true;
-    }
-    if b == b'-' {
-        return true;
-    }
-    b == b' '
+    matches!(b, b'+' | b'-' | b' ')
 }
 
 // The sign of an offset: the one at the place; else a minus one byte back, which was skipped as a separator; else plus.
+#[tactic(auto, unfolding(crate::specs::Offsets::sign_of))]
 fn sign_of(s: &[u8], p: Place) -> i32
     ensures { result ≡ sign_of s.now p }
 {
     let at = p.at;
     let b = base_notation::byte_at(s, at);
     if is_sign(b) {
-        if b == b'-' {
-            return -1;
-        }
-        return 1;
+        return if b == b'-' { -1 } else { 1 };
     }
-    if p.extra == 0 {
-        return 1;
+    if p.extra > 0 && at > 0 && base_notation::byte_at(s, at - 1) == b'-' {
+        -1
+    } else {
+        1
     }
-    if at == 0 {
-        return 1;
-    }
-    if base_notation::byte_at(s, at - 1) == b'-' {
-        return -1;
-    }
-    1
 }
 
 fn past_sign(s: &[u8], at: usize) -> usize
@@ -53,19 +40,27 @@ fn past_sign(s: &[u8], at: usize) -> usize
     ensures { Signed s.now at result }
 {
     if is_sign(base_notation::byte_at(s, at)) {
-        return at + 1;
+        at + 1
+    } else {
+        at
     }
-    at
 }
 
 // A number of an offset goes into its field, unless that was set to another value.
-fn stored_offset(n: Node, k: usize, number: Number, f: &mut [i32; 24], p: Place) -> Outcome
+#[tactic(auto, unfolding(crate::specs::Offsets::stored_offset))]
+fn stored_offset(
+    n: Node,
+    k: usize,
+    number: Result<Number, Refusal>,
+    f: &mut [i32; 24],
+    p: Place,
+) -> Outcome
     requires { k < 24 }
     ensures { read_into result f.new ≡ stored_offset n k number (fields_of f.old) p }
 {
     match number {
-        Number::Refused(why) => state::refuse(why, p),
-        Number::Read { value, next } => {
+        Err(why) => state::refuse(why, p),
+        Ok(Number { value, next }) => {
             if state::holds_other(f, k, value) {
                 return state::refuse(Refusal::Conflict { pattern: n.pattern }, p);
             }
@@ -76,17 +71,14 @@ fn stored_offset(n: Node, k: usize, number: Number, f: &mut [i32; 24], p: Place)
 }
 
 // The minutes after a colon, where both are read.
+#[tactic(auto, unfolding(crate::specs::Offsets::colon_minutes))]
 fn colon_minutes(s: &[u8], n: Node, free: bool, rule: usize, f: &mut [i32; 24], p: Place) -> Outcome
     ensures { read_into result f.new ≡ colon_minutes s.now n free rule (fields_of f.old) p }
 {
-    if rule == table::HOURS {
+    if rule == table::HOURS || base_notation::byte_at(s, p.at) != b':' {
         return state::read(p);
     }
-    let at = p.at;
-    if base_notation::byte_at(s, at) != b':' {
-        return state::read(p);
-    }
-    let number = read_integers::strtol_number(s, at + 1, 2, n.pattern, free);
+    let number = read_integers::strtol_number(s, p.at + 1, 2, n.pattern, free);
     stored_offset(n, field::TZM, number, f, p)
 }
 
@@ -94,13 +86,11 @@ fn colon_minutes(s: &[u8], n: Node, free: bool, rule: usize, f: &mut [i32; 24], 
 fn is_zone_letter(rule: usize, b: u8) -> bool
     ensures { result ≡ (eqb rule no_letter && is_letter b) }
 {
-    if rule == table::NO_LETTER {
-        return base_chars::is_alpha_c(b);
-    }
-    false
+    rule == table::NO_LETTER && base_chars::is_alpha_c(b)
 }
 
 // A letter is refused before the sign is read.
+#[tactic(auto, unfolding(crate::specs::Offsets::read_offset, crate::specs::Offsets::then_minutes))]
 pub fn read_offset(
     s: &[u8],
     n: Node,
@@ -119,14 +109,10 @@ pub fn read_offset(
     state::put(f, field::TZSIGN, sign_of(s, p));
     let number = read_integers::strtol_number(s, past_sign(s, at), 2, n.pattern, free);
     let hours = stored_offset(n, field::TZH, number, f, p);
-    let verdict = hours.verdict;
-    match verdict {
-        Verdict::Refused(_) => hours,
-        Verdict::Read => {
-            let after = hours.place;
-            colon_minutes(s, n, free, task.rule, f, after)
-        }
+    if hours.verdict.is_err() {
+        return hours;
     }
+    colon_minutes(s, n, free, task.rule, f, hours.place)
 }
 
 // The sign is plus if none was read.

@@ -2,9 +2,10 @@
 -- `same_letter`: a byte with the bit 32 set is a small letter exactly if the folded byte is.
 -- `first_letters`: the lowest bits of eight letters are those of a word exactly if the word begins there.
 -- `other_month`: a slot that none of the tests names has May.
--- `joined`: two times four bytes are the eight letters. `left_fits`: of 64 bits some are compared.
+-- `left_fits`: of 64 bits some are compared.
 -- `other_letters`, `other_ninth`: where the letters that are compared differ, or the ninth does, no month is there.
 -- `same_letters`: where they are the same, the month is there.
+use Rattle.std.specs.Prelude.{None, Option}
 use mathlib.Core.Path.{◌≡◌, ◌∙◌, refl, sym, ap}
 use mathlib.Core.Bool.{Bool, true, false, not, ◌&&◌, ◌||◌, and_assoc, false≢true}
 use mathlib.Core.List.{List, [], ◌∷◌, map}
@@ -28,9 +29,8 @@ use Rattle.template_patterns.specs.Numbers.{packed}
 use Rattle.template_patterns.specs.Words.{words_of}
 use Rattle.template_patterns.proofs.Keys.{NoneOf, same_parts}
 use Rattle.read_words.specs.Months.{letters_at, month_in, month_list, number_in, row_in, slot_of}
-use Rattle.read_words.specs.Spelling.{spelled_at, first_word, word_at}
+use Rattle.read_words.specs.Spelling.{listed, spelled_at, first_word, word_at}
 use Rattle.read_words.specs.declared.spelling.Word.{Word}
-use Rattle.read_words.specs.declared.spelling.Word.TheVariants.{At, Nothing}
 use Rattle.read_words.proofs.Words.{same, same_is}
 
 -- ---- letters
@@ -60,19 +60,6 @@ same_letter b c h e = split (eqb (bit_or b 32) (folded b)) refl
 abbrev Bytes : List ℕ → Type 0
 Bytes [] = Unit {0}
 Bytes (b ∷ bs) = (b < 256) × Bytes bs
-
--- two times four bytes, side by side
-pub joined
-    : (s : List ℕ) (at low high : ℕ)
-    → low ≡ packed (byte_at s at ∷ byte_at s (at + 1) ∷ byte_at s (at + 2) ∷ byte_at s (at + 3) ∷ [])
-    → high ≡ packed (byte_at s (at + 4) ∷ byte_at s (at + 5) ∷ byte_at s (at + 6) ∷ byte_at s (at + 7) ∷ [])
-    → bit_or (low + high * 2 ^ 32) 0x2020202020202020 ≡ letters_at s at
-unfolding letters_at
-joined s at low high e f =
-    let all = packed (byte_at s at ∷ byte_at s (at + 1) ∷ byte_at s (at + 2) ∷ byte_at s (at + 3)
-    ∷ byte_at s (at + 4) ∷ byte_at s (at + 5) ∷ byte_at s (at + 6) ∷ byte_at s (at + 7) ∷ []) in
-    let sum : low + high * 2 ^ 32 ≡ all = omega arith in
-    ap (λ (x : ℕ). bit_or x 0x2020202020202020) sum
 
 -- the bit is set in each byte
 set_in_each
@@ -244,25 +231,25 @@ slot_is short slot h =
 module _ (s : List ℕ) (at : ℕ) where
   none_there
       : (ws : List (List ℕ)) (i : ℕ) → ((j : ℕ) → j < length ws → spelled_at (get_or ws j []) s at ≡ true → ⊥)
-      → first_word i ws s at ≡ Nothing
+      → first_word i ws s at ≡ None
   none_there [] i none = refl
   none_there (w ∷ ws) i none =
-      by_if (λ (r : Word). r ≡ Nothing) (spelled_at w s at) _ _ (λ e. absurd (none 0 (omega arith) e))
+      by_if (λ (r : Option Word). r ≡ None) (spelled_at w s at) _ _ (λ e. absurd (none 0 (omega arith) e))
       (λ e. none_there ws (suc i) (λ j l. none (suc j) (omega arith)))
 
   only_there
       : (ws : List (List ℕ)) (i k : ℕ) → k < length ws
       → ((j : ℕ) → j < length ws → spelled_at (get_or ws j []) s at ≡ true → j ≡ k)
       → first_word i ws s at
-      ≡ (when spelled_at (get_or ws k []) s at then At (i + k) (length (get_or ws k [])) else Nothing)
+      ≡ (when spelled_at (get_or ws k []) s at then listed (i + k) (length (get_or ws k [])) else None)
   only_there [] i k h only = absurd (not-suc-le-zero h)
   only_there (w ∷ ws) i zero h only =
       rw (add-zero i, none_there ws (suc i) (λ j l e. absurd (omega (arith, only (suc j) (omega arith) e))))
   only_there (w ∷ ws) i (suc k) h only =
       let next : i + suc k ≡ suc i + k = omega arith in
       by_if
-      (λ (r : Word). r
-      ≡ (when spelled_at (get_or ws k []) s at then At (i + suc k) (length (get_or ws k [])) else Nothing))
+      (λ (r : Option Word). r
+      ≡ (when spelled_at (get_or ws k []) s at then listed (i + suc k) (length (get_or ws k [])) else None))
       (spelled_at w s at) _ _
       (λ e. absurd (omega (arith, only 0 (omega arith) e)))
       (λ e. rw next (only_there ws (suc i) k (omega arith) (λ j l q. omega (arith, only (suc j) (omega arith) q))))
@@ -314,7 +301,7 @@ module _ (s : List ℕ) (bytes : (i : ℕ) → byte_at s i < 256) (at : ℕ) (sh
       let key : x % 2 ^ 24 ≡ packed (map folded (take 3 (get_or (words short) j []))) = eqb-true _ _ first.0 in
       sym (ap (λ (key : ℕ). month_in (key * 101 / 2 ^ 16 % 16)) key ∙ eqb-true _ _ on_length.1)
 
-  is_there : word_at (month_list short) s at ≡ (when spelled_at w s at then At (month_in slot) (length w) else Nothing)
+  is_there : word_at (month_list short) s at ≡ (when spelled_at w s at then listed (month_in slot) (length w) else None)
   unfolding word_at
   is_there = rw zero-add at (only_there s at (words short) 0 (month_in slot) (omega (arith, few, known.month)) only)
 
@@ -327,14 +314,14 @@ module _ (s : List ℕ) (bytes : (i : ℕ) → byte_at s i < 256) (at : ℕ) (sh
       rw (known.bits, known.number)
       (letters_there (month_in slot) m (omega (arith, few, known.month)) (omega arith) (omega arith))
 
-  pub other_letters : begun ≡ false → Nothing ≡ word_at (month_list short) s at
+  pub other_letters : begun ≡ false → None ≡ word_at (month_list short) s at
   other_letters e = sym (rw (is_there, by_letters, e))
 
   -- the letters that are compared at once are the same
   module _ (e : begun ≡ true) where
     by_rest
         : word_at (month_list short) s at
-        ≡ (when spelled_at (drop m w) s (at + m) then At (month_in slot) (length w) else Nothing)
+        ≡ (when spelled_at (drop m w) s (at + m) then listed (month_in slot) (length w) else None)
     by_rest = rw (is_there, by_letters, e)
 
     -- there is a ninth
@@ -350,19 +337,19 @@ module _ (s : List ℕ) (bytes : (i : ℕ) → byte_at s i < 256) (at : ℕ) (sh
 
     pub other_ninth
         : length_in short (row_in slot) ≡ 9 → (folded (byte_at s (at + 8)) ≡ code "r" → ⊥)
-        → Nothing ≡ word_at (month_list short) s at
+        → None ≡ word_at (month_list short) s at
     other_ninth l q =
         let long = sym known.size ∙ l in
         sym (by_rest ∙ rw (ninth long, place long, ne_eqb (folded (byte_at s (at + 8))) (code "r") q))
 
     the_month
         : spelled_at (drop m w) s (at + m) ≡ true
-        → At (row_in slot / 16 % 16) (length_in short (row_in slot)) ≡ word_at (month_list short) s at
+        → listed (row_in slot / 16 % 16) (length_in short (row_in slot)) ≡ word_at (month_list short) s at
     the_month q = sym (by_rest ∙ rw (q, known.index, known.size))
 
     pub same_letters
         : (length_in short (row_in slot) ≡ 9 → folded (byte_at s (at + 8)) ≡ code "r")
-        → At (row_in slot / 16 % 16) (length_in short (row_in slot)) ≡ word_at (month_list short) s at
+        → listed (row_in slot / 16 % 16) (length_in short (row_in slot)) ≡ word_at (month_list short) s at
     same_letters q = the_month (split (eqb (length w) 9) refl)
       where
         split : (b : Bool) → eqb (length w) 9 ≡ b → spelled_at (drop m w) s (at + m) ≡ true

@@ -7,6 +7,7 @@
 -- `no_space`, `over`: no word begins with a space, nor is any word past the last row.
 -- `searched`: what is found in the folded beginning, in nine bytes, is what is found in the input.
 -- `found`, `next`: the bytes begin with the word of row k, or what is found is found from the next row on.
+use Rattle.std.specs.Prelude.{None, Some, Option}
 use mathlib.Core.Path.{◌≡◌, ◌∙◌, refl, sym, ap, subst}
 use mathlib.Core.Bool.{Bool, true, false, not, ◌&&◌, false≢true}
 use mathlib.Core.List.{List, [], ◌∷◌, map}
@@ -29,9 +30,8 @@ use Rattle.template_patterns.specs.Words.{words_of, small_words, longest, word_t
 use Rattle.template_patterns.specs.declared.tables.WordList.{WordList}
 use Rattle.template_patterns.specs.declared.tables.WordList.TheVariants.{MonthsFull, MonthsAbbrev, DaysFull, DaysAbbrev, AmPm, AmPmLong, AdBc, AdBcLong, RomanMonths}
 use Rattle.read_words.specs.FoldOnce.{beginning, first_in, in_nine, word_in, row_of}
-use Rattle.read_words.specs.Spelling.{spelled_at, first_word, word_at, Inside, Found}
+use Rattle.read_words.specs.Spelling.{listed, spelled_at, first_word, word_at, Inside, Found}
 use Rattle.read_words.specs.declared.spelling.Word.{Word}
-use Rattle.read_words.specs.declared.spelling.Word.TheVariants.{At, Nothing}
 use Rattle.read_words.proofs.FoldOnce.{fold_once, same_word}
 
 -- two words are the same
@@ -142,12 +142,12 @@ module _ (s : List ℕ) where
     inside list = first_inside (words_of list) 0 (omega (arith, (laid list).few)) (laid list).words
 
     -- no word is past the end
-    pub past_end : (list : WordList) → length s ≤ at → Nothing ≡ word_at list s at
+    pub past_end : (list : WordList) → length s ≤ at → None ≡ word_at list s at
     past_end list h = past (word_at list s at) (inside list)
       where
-        past : (r : Word) → Inside s at r → Nothing ≡ r
-        past (At k len) within = absurd (omega (arith, within.1, within.2))
-        past Nothing within = refl
+        past : (r : Option Word) → Inside s at r → None ≡ r
+        past (Some w) within = absurd (omega (arith, within.1, within.2))
+        past None within = refl
 
     -- a word that is there begins with a byte above the space
     begins_above : (w : List ℕ) → 32 < byte_at (map folded w) 0 → spelled_at w s at ≡ true → 32 < folded (byte_at s at)
@@ -156,15 +156,15 @@ module _ (s : List ℕ) where
 
     first_above
         : (ws : List (List ℕ)) (k j len : ℕ) → all_from begins k (map (map folded) ws) ≡ true
-        → first_word k ws s at ≡ At j len → 32 < folded (byte_at s at)
+        → first_word k ws s at ≡ listed j len → 32 < folded (byte_at s at)
     first_above [] k j len p = λ e. absurd (let z : ◌≡◌ {A = ℕ} 0 1 = cc in omega arith)
     first_above (w ∷ ws) k j len p =
         let on_word = both (begins k (map folded w)) _ p in
-        by_if (λ (r : Word). r ≡ At j len → 32 < folded (byte_at s at)) (spelled_at w s at) _ _
+        by_if (λ (r : Option Word). r ≡ listed j len → 32 < folded (byte_at s at)) (spelled_at w s at) _ _
         (λ there e. begins_above w (ltb-true _ _ on_word.0) there)
         (λ there e. first_above ws (suc k) j len on_word.1 e)
 
-    pub no_space_there : (list : WordList) (k len : ℕ) → word_at list s at ≡ At k len → 32 < byte_at s at
+    pub no_space_there : (list : WordList) (k len : ℕ) → word_at list s at ≡ listed k len → 32 < byte_at s at
     unfolding word_at
     no_space_there list k len e =
         let above = first_above (words_of list) 0 k len (laid list).small e in
@@ -178,22 +178,22 @@ module _ (t : List ℕ) where
   not_there h [] l = absurd (omega arith)
   not_there h (c ∷ w) l = rw (ne_eqb (byte_at t 0) c (λ e. omega arith))
 
-  none : byte_at t 0 ≡ 32 → (ws : List (List ℕ)) (k : ℕ) → all_from begins k ws ≡ true → first_in k ws t ≡ Nothing
+  none : byte_at t 0 ≡ 32 → (ws : List (List ℕ)) (k : ℕ) → all_from begins k ws ≡ true → first_in k ws t ≡ None
   none h [] k p = refl
   none h (w ∷ ws) k p =
       let on_word = both (begins k w) _ p in
       rw (not_there h w (ltb-true _ _ on_word.0)) (none h ws (suc k) on_word.1)
 
   module _ (list : WordList) where
-    pub no_space : byte_at t 0 ≡ 32 → Nothing ≡ word_in list t
+    pub no_space : byte_at t 0 ≡ 32 → None ≡ word_in list t
     unfolding word_in
     no_space h = sym (none h (small_words list) 0 (laid list).small)
 
     -- what the search finds from row k on
-    abbrev pub from : ℕ → Word
+    abbrev pub from : ℕ → Option Word
     from k = first_in k (drop k (small_words list)) t
 
-    pub over : word_in list t ≡ from 12 → Nothing ≡ word_in list t
+    pub over : word_in list t ≡ from 12 → None ≡ word_in list t
     over e =
         let few : length (small_words list) ≤ 12 = rw (length-map (words_of list) (map folded)) (laid list).few in
         sym (e ∙ rw (drop_of_length-le (small_words list) few))
@@ -229,9 +229,9 @@ module _ (t : List ℕ) where
             | false ↦ λ l. let past_last = ltb-false _ _ l in past past_last (rw (no_word past_last) at length_is)
           ]) refl
 
-      pub found : 0 < n → word_in list t ≡ from k → At k n ≡ word_in list t
+      pub found : 0 < n → word_in list t ≡ from k → listed k n ≡ word_in list t
       found p q =
-          by_row (λ l e m. ap (At k) m ∙ sym (q ∙ rw (drop-cons (small_words list) k [] l, e))) (λ l e m. absurd (omega arith))
+          by_row (λ l e m. ap (listed k) m ∙ sym (q ∙ rw (drop-cons (small_words list) k [] l, e))) (λ l e m. absurd (omega arith))
           (λ l m. absurd (omega arith))
 
       pub next : n ≤ 0 → from k ≡ from (k + 1)
@@ -241,12 +241,12 @@ module _ (t : List ℕ) where
 
 -- a word that is found, and that it is inside the input
 pub found_at
-    : (list : WordList) (s : List ℕ) (at : ℕ) {r : Word} → r ≡ word_at list s at → Found s at (word_at list s at) r
+    : (list : WordList) (s : List ℕ) (at : ℕ) {r : (Option Word)} → r ≡ word_at list s at → Found s at (word_at list s at) r
 found_at list s at e = record { is = e; inside = subst (Inside s at) (sym e) (inside s at list) }
 
 -- what is found in the folded beginning, in nine bytes, is what is found in the input
 pub searched
-    : (list : WordList) (s : List ℕ) (at n : ℕ) (start : List ℕ) (r : Word) → n ≡ longest (words_of list) → start ≡ in_nine (beginning n s at) → r ≡ word_in list start
+    : (list : WordList) (s : List ℕ) (at n : ℕ) (start : List ℕ) (r : Option Word) → n ≡ longest (words_of list) → start ≡ in_nine (beginning n s at) → r ≡ word_in list start
     → Found s at (word_at list s at) r
 searched list s at n start r m b e =
     let is : r ≡ word_at list s at = e ∙ ap (word_in list) (b ∙ ap (λ (k : ℕ). in_nine (beginning k s at)) m) ∙ same_word list _ ∙ fold_once.same list s at in

@@ -1,17 +1,16 @@
 -- Fold once: the beginning of the input is folded once, and a word of a list is searched in those bytes alone. The words
 -- of a list are kept in small letters.
-use Rattle.std.specs.Prelude.{◌≡◌, refl, List, [], ◌∷◌, ◌++◌, map, ℕ, suc, ◌-◌, ◌*◌, eqb, length, take, drop, replicate}
+use Rattle.std.specs.Prelude.{◌≡◌, refl, List, [], ◌∷◌, ◌++◌, map, ℕ, suc, ◌-◌, ◌*◌, eqb, length, take, drop, replicate, None, Option, Some, ltb}
 use Prim.Native.Char.{code}
 use Rattle.base_notation.specs.Choice.{when◌then◌else◌}
 use Rattle.base_notation.specs.Text.{utf8}
 use Rattle.base_chars.specs.Fold.{folded}
-use Rattle.template_patterns.specs.Search.{matches_at}
+use Rattle.template_patterns.specs.Search.{matches_at, length_at}
 use Rattle.template_patterns.specs.Words.{words_of, small_words, longest}
 use Rattle.template_patterns.specs.declared.tables.WordList.{WordList}
 use Rattle.template_patterns.specs.declared.tables.WordList.TheVariants.{MonthsFull, MonthsAbbrev, AmPm}
-use Rattle.read_words.specs.Spelling.{word_at}
+use Rattle.read_words.specs.Spelling.{listed, word_at}
 use Rattle.read_words.specs.declared.spelling.Word.{Word}
-use Rattle.read_words.specs.declared.spelling.Word.TheVariants.{At, Nothing}
 
 -- the bytes from a place on, at most n of them, with capital letters made small
 abbrev pub beginning : ℕ → List ℕ → ℕ → List ℕ
@@ -22,12 +21,16 @@ abbrev pub beginning_for : WordList → List ℕ → ℕ → List ℕ
 beginning_for list s at = beginning (longest (words_of list)) s at
 
 -- the first of the words that t begins with, with its index counted from k
-abbrev pub first_in : ℕ → List (List ℕ) → List ℕ → Word
-first_in k [] t = Nothing
-first_in k (w ∷ ws) t = when matches_at w t 0 then At k (length w) else first_in (suc k) ws t
+abbrev pub first_in : ℕ → List (List ℕ) → List ℕ → Option Word
+first_in k [] t = None
+first_in k (w ∷ ws) t = when matches_at w t 0 then listed k (length w) else first_in (suc k) ws t
+
+-- the length of a word that is not empty, if t begins with it
+abbrev pub length_there : List ℕ → List ℕ → Option ℕ
+length_there w t = let n = length_at w t 0 in when ltb 0 n then Some n else None
 
 -- the first word of a list that t begins with, where t has no capital letter
-unfoldable pub word_in : WordList → List ℕ → Word
+unfoldable pub word_in : WordList → List ℕ → Option Word
 word_in list t = first_in 0 (small_words list) t
 
 -- the folded beginning alone has the word that the whole input has: of every list, at every place of every input
@@ -63,6 +66,6 @@ begun = (refl, refl, refl)
 
 -- a word and what follows it; a beginning that ends inside a word; a byte 0 in a word; no byte at all
 pub worked
-    : (word_in MonthsFull (utf8 "may 2024") ≡ At 4 3) × (word_in MonthsFull (utf8 "septembe") ≡ Nothing) × (word_in MonthsAbbrev (109 ∷ 97 ∷ 0 ∷ []) ≡ Nothing) × (word_in AmPm [] ≡ Nothing)
+    : (word_in MonthsFull (utf8 "may 2024") ≡ listed 4 3) × (word_in MonthsFull (utf8 "septembe") ≡ None) × (word_in MonthsAbbrev (109 ∷ 97 ∷ 0 ∷ []) ≡ None) × (word_in AmPm [] ≡ None)
 unfolding word_in
 worked = (refl, refl, refl, refl)

@@ -1,10 +1,9 @@
 -- Patterns that read a word.
-use Rattle.std.specs.Prelude.{◌≡◌, refl, Bool, true, false, List, [], ◌∷◌, ℕ, ◌+◌, ◌-◌, ◌%◌, eqb, ℤ, pos, get_or}
+use Rattle.std.specs.Prelude.{◌≡◌, refl, List, [], ◌∷◌, ℕ, ◌+◌, ◌-◌, ◌%◌, eqb, pos, get_or, None, Some, Option}
 use Rattle.base_notation.specs.Choice.{when◌then◌else◌}
 use Rattle.base_refusals.specs.declared.Refusal.TheVariants.{Conflict, NoWord}
 use Rattle.read_words.specs.Spelling.{word_at}
 use Rattle.read_words.specs.declared.spelling.Word.{Word}
-use Rattle.read_words.specs.declared.spelling.Word.TheVariants.{At, Nothing}
 use Rattle.template_patterns.specs.declared.tables.WordList.{WordList}
 use Rattle.template_patterns.specs.declared.tables.WordList.TheVariants.{MonthsFull, MonthsAbbrev, DaysFull, DaysAbbrev, AmPm, AmPmLong, AdBc, AdBcLong, RomanMonths}
 use Rattle.template_nodes.specs.declared.Node.{Node}
@@ -40,9 +39,9 @@ word_stored n task z next f p =
     when conflicts (get f task.field) (pos z) then refuse (Conflict n.pattern) f p
     else read (noted_word task.rule (put f task.field (pos (kept_word task.rule z)))) (at_place p next)
 
-unfoldable pub stored_word : Node → Task → Word → Fields → Place → Reading
-stored_word n task Nothing f p = refuse (NoWord n.pattern) f p
-stored_word n task (At k len) f p = word_stored n task (meant task.rule k) (p.at + len) f p
+unfoldable pub stored_word : Node → Task → Option Word → Fields → Place → Reading
+stored_word n task None f p = refuse (NoWord n.pattern) f p
+stored_word n task (Some r) f p = word_stored n task (meant task.rule r.index) (p.at + r.len) f p
 
 abbrev pub read_word : List ℕ → Node → Task → Fields → Place → Reading
 read_word s n task f p = stored_word n task (word_at (list_of task.operand) s p.at) f p

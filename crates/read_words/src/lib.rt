@@ -33,6 +33,7 @@ fn list_of(k: u8) -> WordList
 }
 
 // The number of a word by its index in its list.
+#[tactic(auto, unfolding(crate::specs::Words::meant))]
 fn meant(rule: usize, k: usize) -> u8
     requires { k < 12 }
     ensures { (result ≡ meant rule k) × (result ≤ 12) }
@@ -67,21 +68,23 @@ fn word_stored(n: Node, task: Task, z: u8, next: usize, f: &mut [i32; 24], p: Pl
     ensures { read_into result f.new ≡ word_stored n task z next (fields_of f.old) p }
 {
     let kept = kept_word(task.rule, z);
-    if state::holds_other(f, task.field, z as i32) {
+    if state::holds_other(f, task.field, i32::from(z)) {
         return state::refuse(Refusal::Conflict { pattern: n.pattern }, p);
     }
-    state::put(f, task.field, kept as i32);
+    state::put(f, task.field, i32::from(kept));
     noted_word(task.rule, f);
     state::read(state::at_place(p, next))
 }
 
+#[tactic(auto, unfolding(crate::specs::Words::stored_word))]
 pub fn read_word(s: &[u8], n: Node, task: Task, f: &mut [i32; 24], p: Place) -> Outcome
     requires { task.field < 24 }
     ensures { read_into result f.new ≡ read_word s.now n task (fields_of f.old) p }
 {
-    let at = p.at;
-    match spelling::seq_search_ascii(s, at, list_of(task.operand)) {
-        Word::Nothing => state::refuse(Refusal::NoWord { pattern: n.pattern }, p),
-        Word::At { index, len } => word_stored(n, task, meant(task.rule, index), at + len, f, p),
+    match spelling::seq_search_ascii(s, p.at, list_of(task.operand)) {
+        None => state::refuse(Refusal::NoWord { pattern: n.pattern }, p),
+        Some(Word { index, len }) => {
+            word_stored(n, task, meant(task.rule, index), p.at + len, f, p)
+        }
     }
 }

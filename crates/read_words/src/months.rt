@@ -1,29 +1,17 @@
 // Months of the input, in either case. The first three letters tell which month alone can be there, and its letters are
 // compared at once. A match with a number in each arm is a table that is there before a call.
-ghost use Rattle.std.specs.Prelude.{[], ◌∷◌, ◌≡◌, ◌+◌, ◌-◌, ◌*◌, ◌/◌, ◌%◌, ◌^◌, ◌<◌, eqb, length};
-ghost use Rattle.std.specs.Int.Bits.{bit_or};
+ghost use Rattle.std.specs.Prelude.{◌≡◌, ◌-◌, ◌/◌, ◌%◌, ◌^◌, ◌<◌, eqb, length};
 ghost use Rattle.base_notation.specs.Choice.{when◌then◌else◌};
-ghost use Rattle.template_patterns.specs.Numbers.{packed};
 ghost use Rattle.read_words.specs.Months.{letters_at, month_list, number_in, row_in, slot_of};
 ghost use Rattle.read_words.specs.Spelling.{word_at, Found as Spelled};
 
 use crate::spelling::Word;
 
-// Four bytes as a number, the first the lowest.
-fn four(a: u8, b: u8, c: u8, d: u8) -> u32
-    ensures { result ≡ packed (a ∷ b ∷ c ∷ d ∷ []) }
-{
-    a as u32 + b as u32 * 0x100 + c as u32 * 0x10000 + d as u32 * 0x1000000
-}
-
-// Two such numbers as one of eight letters: the bit 32 makes a capital letter small.
-fn letters(low: u32, high: u32) -> u64
-    ensures { result ≡ bit_or (low + high * 2 ^ 32) 0x2020202020202020 }
-{
-    (low as u64 + high as u64 * 0x100000000) | 0x2020202020202020
-}
+// Makes each of eight capital letters small.
+const SMALL: u64 = 0x2020202020202020;
 
 // The letters from a place on where fewer than eight bytes may be left.
+#[tactic(auto, unfolding(crate::specs::Months::letters_at))]
 fn last_letters(s: &[u8], at: usize) -> u64
     requires { at < length s.now }
     ensures { result ≡ letters_at s.now at }
@@ -35,10 +23,11 @@ fn last_letters(s: &[u8], at: usize) -> u64
     let f = base_notation::byte_at(s, at + 5);
     let g = base_notation::byte_at(s, at + 6);
     let h = base_notation::byte_at(s, at + 7);
-    letters(four(s[at], b, c, d), four(e, f, g, h))
+    u64::from_le_bytes([s[at], b, c, d, e, f, g, h]) | SMALL
 }
 
 // The eight letters from a place on.
+#[tactic(auto, unfolding(crate::specs::Months::letters_at))]
 fn letters_at(s: &[u8], at: usize) -> u64
     requires { at < length s.now }
     ensures { result ≡ letters_at s.now at }
@@ -46,9 +35,17 @@ fn letters_at(s: &[u8], at: usize) -> u64
     if s.len() - at < 8 {
         return last_letters(s, at);
     }
-    let low = four(s[at], s[at + 1], s[at + 2], s[at + 3]);
-    let high = four(s[at + 4], s[at + 5], s[at + 6], s[at + 7]);
-    letters(low, high)
+    let eight = [
+        s[at],
+        s[at + 1],
+        s[at + 2],
+        s[at + 3],
+        s[at + 4],
+        s[at + 5],
+        s[at + 6],
+        s[at + 7],
+    ];
+    u64::from_le_bytes(eight) | SMALL
 }
 
 // One of 16 slots by the first three letters: each month has its own.
@@ -121,26 +118,23 @@ fn length_in(row: u64, short: bool) -> usize
 }
 
 // The month at a place, by its short name or by its full one.
-pub fn month_at(s: &[u8], at: usize, short: bool) -> Word
+pub fn month_at(s: &[u8], at: usize, short: bool) -> Option<Word>
     ensures { Spelled s.now at (word_at (month_list short) s.now at) result }
 {
     if s.len() <= at {
-        return Word::Nothing;
+        return None;
     }
     let x = letters_at(s, at);
     let slot = slot_of(x);
     let row = row_in(slot);
-    let number = number_in(slot);
-    if !same_below(left_in(row, short), x, number) {
-        return Word::Nothing;
+    if !same_below(left_in(row, short), x, number_in(slot)) {
+        return None;
     }
     let len = length_in(row, short);
     // the ninth letter of September
-    if len == 9 {
-        if base_chars::folded(base_notation::byte_at(s, at + 8)) != b'r' {
-            return Word::Nothing;
-        }
+    if len == 9 && base_chars::folded(base_notation::byte_at(s, at + 8)) != b'r' {
+        return None;
     }
     let index = (row / 0x10 % 16) as usize;
-    Word::At { index, len }
+    Some(Word { index, len })
 }

@@ -2,6 +2,7 @@
 -- `not_written`: where the writer refuses, its refusal is the answer.
 -- `room`: the text is within the buffer.
 -- `read`: reading as many bytes from the front of the buffer as were written gives the whole promise.
+use Rattle.std.specs.Prelude.{Err, Ok, Result}
 use mathlib.Core.Path.{◌≡◌, sym, ◌∙◌}
 use mathlib.Core.List.{List, ◌++◌}
 use Prim.Native.Nat.{ℕ, ◌≤◌}
@@ -13,17 +14,14 @@ use Rattle.write_text.specs.Text.{text_of}
 use Rattle.write_text.specs.Writer.{Wrote, buffer_after, written_to}
 use Rattle.write_pieces.specs.declared.Moment.{Moment}
 use Rattle.write_text.specs.declared.Unwritten.{Unwritten}
-use Rattle.write_text.specs.declared.Written.{Written}
-use Rattle.write_text.specs.declared.Written.TheVariants.{Length, Refused}
 use Rattle.write_text.proofs.Room.{to_measured}
 use Rattle.readback.specs.ReadBack.{WroteAndRead, again_of, read_again}
 use Rattle.readback.specs.declared.Again.{Again}
-use Rattle.readback.specs.declared.Again.TheVariants.{NotWritten}
 use Rattle.readback.proofs.ReadBack.{every_back}
 
 module _ (set : Settings) (t : List ℕ) (m : Moment) {before after : List ℕ} where
   -- the whole promise follows from the answer and the buffer
-  promised : (r : Again) → r ≡ again_of set t m (length before) → after ≡ buffer_after (written_to set t m (length before)) (text_of t m) before
+  promised : (r : Result Again Unwritten) → r ≡ again_of set t m (length before) → after ≡ buffer_after (written_to set t m (length before)) (text_of t m) before
       → WroteAndRead set t m before after r
   unfolding again_of
   promised r answer buffer = record {
@@ -35,14 +33,14 @@ module _ (set : Settings) (t : List ℕ) (m : Moment) {before after : List ℕ} 
         (answer ∙ rw (written.0, back.read.parts, back.read.instant, back.read.day), buffer ∙ written.1, back);
   }
 
-  module _ {w : Written} (wrote : Wrote set t m before after w) where
-    pub not_written : {why : Unwritten} → w ≡ Refused why → WroteAndRead set t m before after (NotWritten why)
+  module _ {w : (Result ℕ Unwritten)} (wrote : Wrote set t m before after w) where
+    pub not_written : {why : Unwritten} → w ≡ Err why → WroteAndRead set t m before after (Err why)
     unfolding again_of
     not_written {why} refused =
         let as_defined = sym wrote.is ∙ refused in
-        promised (NotWritten why) (rw as_defined) (wrote.buffer ∙ rw (as_defined, refused))
+        promised (Err why) (rw as_defined) (wrote.buffer ∙ rw (as_defined, refused))
 
-    module _ {n : ℕ} (written : w ≡ Length n) where
+    module _ {n : ℕ} (written : w ≡ Ok n) where
       known : n ≡ length (text_of t m)
       known = (to_measured (length before) set t m n (sym wrote.is ∙ written)).0
 
@@ -56,7 +54,7 @@ module _ (set : Settings) (t : List ℕ) (m : Moment) {before after : List ℕ} 
       pub room : n ≤ length after
       room = rw after_is (omega (arith, known, length-append (text_of t m) (drop n before)))
 
-      pub read : (r : Again) → r ≡ read_again set t (take n after) (Length (length (take n after))) → WroteAndRead set t m before after r
+      pub read : (r : Result Again Unwritten) → r ≡ read_again set t (take n after) (Ok (length (take n after))) → WroteAndRead set t m before after r
       unfolding again_of
       read r answer =
           let as_defined = sym wrote.is ∙ written in

@@ -1,17 +1,16 @@
 -- No mark follows a node in the text of a template in which no mark counts alone. Assumes nothing.
 -- `clear_nodes`: so it is in the accents mode; the other has nothing to ask.
 use mathlib.Core.Path.{◌≡◌, ◌∙◌, refl, sym}
-use mathlib.Core.Bool.{Bool, true, false, not, ◌&&◌, false≢true}
+use mathlib.Core.Bool.{Bool, true, false, false≢true}
 use mathlib.Core.List.{List, [], ◌∷◌, ◌++◌}
 use Prim.Native.Nat.{ℕ}
 use native.Mathlib.Omega.{arith}
 use borrow.Author.Tests.{not-true}
-use lib.Dec.{eqb}
 use Rattle.base_notation.proofs.Cases.{neither}
 use Rattle.base_accents.specs.Accents.{mark_at}
 use Rattle.base_accents.proofs.Marks.{low_no_mark}
 use Rattle.template_nodes.specs.Joined.{has_lone_mark, is_mark, none_alone}
-use Rattle.template_nodes.specs.Template.{action, nodes_by, nodes_of}
+use Rattle.template_nodes.specs.Template.{nodes_by, nodes_of}
 use Rattle.template_nodes.specs.declared.Node.{Node}
 use Rattle.template_nodes.proofs.Encoding.{All}
 use Rattle.template_nodes.proofs.Nodes.{plain_nodes}

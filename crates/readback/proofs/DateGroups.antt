@@ -1,5 +1,6 @@
 -- What a date group sets makes the date that it was written from. Assumes nothing.
 -- `date_read`: so for each of the three groups (`DateRead`).
+use Rattle.std.specs.Prelude.{Ok}
 use mathlib.Core.Path.{◌≡◌, refl, ◌∙◌, ap}
 use mathlib.Core.Bool.{Bool, true, false}
 use Prim.Native.Nat.{ℕ, ◌+◌, ◌-◌, ◌%◌, ◌<◌}
@@ -17,7 +18,6 @@ use Rattle.calendar_julian.specs.Week.{isoweek2j}
 use Rattle.calendar_julian.proofs.Inverse.{j2date_is}
 use Rattle.calendar_julian.proofs.IsoWeeks.{isoweek2j_is}
 use Rattle.moment_date.specs.Dates.{year_bit, all_bits, days, begun, with_julian, day_of_week, with_week, with_day, with_month, from_day_of_year, with_day_of_year, dated_of}
-use Rattle.moment_date.specs.declared.Dated.TheVariants.{Date}
 use Rattle.read_fields.specs.Fields as F
 use Rattle.read_fields.specs.declared.Fields.{Fields}
 use Rattle.readback.proofs.GroupFields.{DateGroup, by_month, by_day, by_week, DateValues, date_values, TimeValues, fields_of, Same}
@@ -27,7 +27,7 @@ use Rattle.readback.proofs.FieldSteps.{year_read, begun_is, no_julian, no_week, 
 pub record DateRead (f : Fields) (y m n : ℕ) : Type 0 where
   pub in_month : ℤ
   pub in_year : ℤ
-  pub is : dated_of f ≡ Date (days (pos y) (pos m) (pos n) all_bits in_month in_year)
+  pub is : dated_of f ≡ Ok (days (pos y) (pos m) (pos n) all_bits in_month in_year)
 
 -- the day of a week k days after its Monday, by its number from Sunday
 weekday : (monday k : ℕ) → k < 7 → monday < 1000000000 → day_of_week (pos monday) (pos ((k + 1) % 7 + 1)) ≡ pos (monday + k)
@@ -57,7 +57,7 @@ module _ {y m n : ℕ} (v : Valid y m n) (f : Fields) (b : TimeValues) (us : ℕ
   from_january a year_is no_weeks e =
       let year = e F.year (lit< tt) ∙ ap pos year_is in
       let first = year_read f y v.year_from year (e F.cc (lit< tt)) (e F.bc (lit< tt)) in
-      let january : with_week f (with_julian f (begun f (pos y))) ≡ Date (days (pos y) (pos 1) (pos 1) year_bit (pos a.dd) (pos a.ddd)) =
+      let january : with_week f (with_julian f (begun f (pos y))) ≡ Ok (days (pos y) (pos 1) (pos 1) year_bit (pos a.dd) (pos a.ddd)) =
       rw (begun_is f y v.year_from year, no_julian f _ (e F.j (lit< tt)), e F.dd (lit< tt), e F.ddd (lit< tt))
       (no_week f _ (e F.ww (lit< tt) ∙ ap pos no_weeks))
       in
@@ -115,7 +115,7 @@ module _ {y m n : ℕ} (v : Valid y m n) (f : Fields) (b : TimeValues) (us : ℕ
   week_day e =
       let date = days (pos y) (pos m) (pos n) all_bits (pos 0) (pos 0) in
       let first = year_read f iso (year_range v).0 (e F.year (lit< tt)) (e F.cc (lit< tt)) (e F.bc (lit< tt)) in
-      let weeks : with_week f (with_julian f (begun f (pos iso))) ≡ Date date =
+      let weeks : with_week f (with_julian f (begun f (pos iso))) ≡ Ok date =
       rw (
         begun_is f iso (year_range v).0 (e F.year (lit< tt)),
         no_julian f _ (e F.j (lit< tt)),

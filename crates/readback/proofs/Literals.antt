@@ -4,7 +4,7 @@
 -- what is left after a first part of it.
 -- `literal_step`: a reader that is ahead at what is read as a literal is ahead after it (`Passed`). In the accents mode
 -- no mark may follow the literal.
-use mathlib.Core.Path.{◌≡◌, ◌∙◌, refl, sym, ap}
+use mathlib.Core.Path.{◌≡◌, ◌∙◌, refl, ap}
 use mathlib.Core.Bool.{Bool, true, false, ◌&&◌, ◌||◌, false≢true}
 use mathlib.Core.List.{List, [], ◌∷◌, ◌++◌}
 use Prim.Native.Nat.{ℕ, zero, suc, ◌+◌, ◌≤◌, ◌<◌}

@@ -1,5 +1,6 @@
 -- Reading back, second half: from the fields to the moment. Assumes nothing.
 -- `moment_read`: what any date group, any time group and US set is read as the moment that they were written from.
+use Rattle.std.specs.Prelude.{Ok}
 use mathlib.Core.Path.{◌≡◌, refl}
 use mathlib.Core.Bool.{Bool, true, false, ◌&&◌}
 use Prim.Native.Nat.{ℕ}
@@ -14,7 +15,6 @@ use Rattle.moment_instants.proofs.Plain.{plain_parts}
 use Rattle.moment_date.specs.Dates.{all_bits, days, date_in_range, no_such_day}
 use Rattle.moment_parts.specs.Parts.{checked_moment, moment_of}
 use Rattle.moment_time.specs.Time.{time_in_range}
-use Rattle.moment_parts.specs.declared.Answer.TheVariants.{Moment}
 use Rattle.read_fields.specs.Fields as F
 use Rattle.read_fields.specs.declared.Fields.{Fields}
 use Rattle.readback.proofs.MomentFacts.{IsMoment}
@@ -64,7 +64,7 @@ module _ {y mo d h mi s us : ℕ} (is : IsMoment y mo d h mi s us) where
     the_time = time_read is.hour is.minute is.second f (date_values date y mo d) us time e
 
     -- the checks of the ranges pass
-    checked : checked_moment strict f (days (pos y) (pos mo) (pos d) all_bits the_date.in_month the_date.in_year) (pos h) (pos us) ≡ Moment (plain_parts y mo d h mi s us)
+    checked : checked_moment strict f (days (pos y) (pos mo) (pos d) all_bits the_date.in_month the_date.in_year) (pos h) (pos us) ≡ Ok (plain_parts y mo d h mi s us)
     unfolding checked_moment
     checked =
         simp (
@@ -77,6 +77,6 @@ module _ {y mo d h mi s us : ℕ} (is : IsMoment y mo d h mi s us) where
           e F.ff (lit< tt),
         )
 
-    pub moment_read : moment_of strict f ≡ Moment (plain_parts y mo d h mi s us)
+    pub moment_read : moment_of strict f ≡ Ok (plain_parts y mo d h mi s us)
     unfolding moment_of
     moment_read = rw (the_time.hour_is, the_date.is, micros_read f us is.micros (e F.ms (lit< tt)) (e F.us (lit< tt))) checked

@@ -14,6 +14,7 @@ use lib.Bits.{bit_or, or_zero_l}
 use lib.Dec.{eqb, ltb}
 use lib.ListN.{length, take, drop, length-take, length-drop}
 use lib.Seq.{drop-cons, get_or-drop}
+use Rattle.std.specs.Prelude.{Option, None, Some}
 use Rattle.base_notation.specs.Choice.{when◌then◌else◌}
 use Rattle.base_notation.specs.Text.{byte_at}
 use Rattle.base_notation.proofs.Cases.{both, by_if}
@@ -31,9 +32,8 @@ use Rattle.template_patterns.specs.Affixes.{affix_length, bit_at}
 use Rattle.template_patterns.specs.Patterns.{name_of}
 use Rattle.template_patterns.specs.Search.{pattern_at}
 use Rattle.template_patterns.specs.declared.Found.{Found}
-use Rattle.template_patterns.specs.declared.Found.TheVariants.{Pattern, Nothing}
 use Rattle.template_patterns.proofs.Search.{found_range, found_name}
-use Rattle.template_nodes.specs.Template.{end, action, character, separator, space, kind_of, char_at, char_place, escapes, in_mode, literal, literal_at, skip, element_of, plain_at, step_at, nodes_by, nodes_from, made_by}
+use Rattle.template_nodes.specs.Template.{end, action, character, separator, space, kind_of, char_at, char_place, escapes, in_mode, literal, literal_at, skip, element_of, plain_at, step_at, nodes_by, nodes_from, in_list, made_by}
 use Rattle.template_nodes.specs.declared.Node.{Node}
 use Rattle.template_nodes.specs.declared.Step.{Step}
 use Rattle.write_text.specs.Text.{literal_text}
@@ -107,11 +107,16 @@ class_kind b = by (is_separator b) (is_space b) refl refl
     by false true p q = record { no_action = refl; no_end = refl; blank = λ e. rw (p, q) }
     by false false p q = record { no_action = refl; no_end = refl; blank = λ e. absurd (false≢true e) }
 
+-- the node of a step from a place is good, and not longer than the step
+abbrev GoodStep : List ℕ → ℕ → ℕ → Option Node → Type 0
+GoodStep t at next (Some n) = Good t n × (at + n.len + affix_length n.suffix ≤ next)
+GoodStep t at next None = Unit {0}
+
 -- what a step from a place takes: it makes a good node or none, and ends where a character begins
 record Taken (t : List ℕ) (at : ℕ) (s : Step) : Type 0 where
   next : Boundary t s.next
   from : at ≤ s.next
-  node : s.made ≡ true → Good t s.node × (at + s.node.len + affix_length s.node.suffix ≤ s.next)
+  node : GoodStep t at s.next s.made
 
 module _ (accents : Bool) (t : List ℕ) where
   first_byte : (p : ℕ) → byte_at (drop p t) 0 ≡ byte_at t p
@@ -141,7 +146,7 @@ module _ (accents : Bool) (t : List ℕ) where
       record {
         next = record { within = omega (arith, one_char.within); begins = past_character accents t p b.begins };
         from = omega arith;
-        node = λ e. (
+        node = (
           is_literal ((elim (measure_of accents t p) as (λ n. measure_of accents t p ≡ n → Literal t (in_mode accents (literal kind p (measure_of accents t p)))) [
             | zero ↦ λ q. absurd (omega (arith, one_char.some))
             | suc n ↦ λ q. record {
@@ -185,7 +190,7 @@ module _ (accents : Bool) (t : List ℕ) where
 
   -- a step that makes no node
   skipped : (from at : ℕ) (quoted : Bool) → from ≤ at → Boundary t at → Taken t from (skip at quoted)
-  skipped from at quoted l b = record { next = b; from = l; node = λ e. absurd (false≢true e) }
+  skipped from at quoted l b = record { next = b; from = l; node = tt }
 
   -- a quote is skipped, anything else is a literal character
   literal_taken : (from at : ℕ) (quoted : Bool) → from ≤ at → at < length t → Boundary t at → Taken t from (literal_at accents t at quoted)
@@ -209,17 +214,17 @@ module _ (accents : Bool) (t : List ℕ) where
       by false e = by_if (λ (n : ℕ). n ≤ 2 + affix_length suffix) (eqb (bit_or prefix suffix) 0) 0 2 (λ q. omega arith) (λ q. omega arith)
 
   -- a pattern with its prefix and suffix, or a literal
-  element_taken : (from at prefix : ℕ) (f : Found) → pattern_at t at ≡ f → from + affix_length prefix ≤ at → at < length t → Boundary t at
+  element_taken : (from at prefix : ℕ) (f : Option Found) → pattern_at t at ≡ f → from + affix_length prefix ≤ at → at < length t → Boundary t at
       → Taken t from (element_of accents f t at prefix)
-  element_taken from at prefix Nothing e l h b = literal_taken from at false (omega arith) h b
-  element_taken from at prefix (Pattern k n) e l h b =
-      let number = found_range t at k n e in
-      let name = found_name t at k n e in
-      let past : Boundary t (at + n) = rw name.0 (past_pattern t at b k number.0 name.1) in
+  element_taken from at prefix None e l h b = literal_taken from at false (omega arith) h b
+  element_taken from at prefix (Some f) e l h b =
+      let number = found_range t at f e in
+      let name = found_name t at f e in
+      let past : Boundary t (at + f.len) = rw name.0 (past_pattern t at b f.number number.0 name.1) in
       record {
-        next = past_affix t (at + n) past false;
+        next = past_affix t (at + f.len) past false;
         from = omega arith;
-        node = λ q. (is_named (record { is_action = refl; known = number.0; size = name.0 }), omega (arith, affix_bytes prefix (bit_at false t (at + n))));
+        node = (is_named (record { is_action = refl; known = number.0; size = name.0 }), omega (arith, affix_bytes prefix (bit_at false t (at + f.len))));
       }
 
   -- outside quotes a prefix may come first
@@ -247,11 +252,11 @@ module _ (accents : Bool) (t : List ℕ) where
 
   -- what a step makes, and the nodes after it
   joined : (at : ℕ) (s : Step) (ns : List Node) → Taken t at s → Nodes s.next ns → Nodes at (made_by s ++ ns)
-  joined at s ns k r = by s.made refl
+  joined at s ns k r = by s.made k.node
     where
-      by : (m : Bool) → s.made ≡ m → Nodes at ((when m then s.node ∷ [] else []) ++ ns)
-      by true e = let made = k.node e in record { good = (made.0, r.good); within = omega (arith, made.1, r.within) }
-      by false e = record { good = r.good; within = omega (arith, k.from, r.within) }
+      by : (o : Option Node) → GoodStep t at s.next o → Nodes at (in_list o ++ ns)
+      by (Some n) made = record { good = (made.0, r.good); within = omega (arith, made.1, r.within) }
+      by None made = record { good = r.good; within = omega (arith, k.from, r.within) }
 
   nodes_from_lem : (fuel at : ℕ) (quoted : Bool) → Boundary t at → Nodes at (nodes_from accents fuel t at quoted)
   unfolding nodes_from

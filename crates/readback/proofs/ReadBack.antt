@@ -9,6 +9,7 @@
 --    (Filled, Compatible). So, by induction on the nodes, any input that spells them is read (Simulation).
 -- 2. Fields that are set so are read as the moment: `moment_read` in MomentRead. They make the date (GroupFields,
 --    FieldSteps, DateGroups) and the time (TimeGroups).
+use Rattle.std.specs.Prelude.{Err, Ok, Result}
 use mathlib.Core.Path.{◌≡◌, refl, sym, ◌∙◌, ap}
 use mathlib.Core.Bool.{Bool, true}
 use mathlib.Core.List.{List}
@@ -24,8 +25,6 @@ use Rattle.readback.proofs.MomentRead.{moment_read}
 use Rattle.moment_instants.specs.ByTemplate.{timestamp_of, date_of}
 use Rattle.moment_instants.proofs.Plain.{plain_parts, instant_is, day_is}
 use Rattle.moment_parts.specs.Parts.{moment_of, parts_of, parts_read}
-use Rattle.moment_parts.specs.declared.Answer.{Answer}
-use Rattle.moment_parts.specs.declared.Answer.TheVariants.{Moment as Accepted, Refused}
 use Rattle.write_text.specs.Full.{times, is_full}
 use Rattle.write_pieces.specs.Moment.{moment, is_moment}
 use Rattle.readback.proofs.MomentFacts.{IsMoment}
@@ -33,12 +32,13 @@ use Rattle.write_pieces.specs.Pieces.{number_of}
 use Rattle.write_text.specs.Text.{text_of}
 use Rattle.write_text.specs.Writer.{written_to}
 use Rattle.write_pieces.specs.declared.Moment.{Moment}
-use Rattle.write_text.specs.declared.Written.TheVariants.{Length}
 use Rattle.write_pieces.proofs.Moments.{Numbers, numbers}
 use Rattle.readback.specs.ReadBack.{EveryBack, MarksJoined, ReadAs, ReadsBack}
 use Rattle.readback.proofs.FieldSettings.{own_of, filled_by, expected}
 use Rattle.readback.proofs.Groups.{EachFull}
 use Rattle.readback.proofs.ReadText.{full_is, text_is_utf8, text_longer, text_is_read, fields_read}
+use Rattle.moment_parts.specs.declared.Parts.{Parts}
+use Rattle.moment_parts.specs.declared.Unread.{Unread}
 
 -- the numbers of a moment in its ranges, as natural numbers
 is_moment_lem : {m : Moment} → Numbers m
@@ -66,7 +66,7 @@ plain m n = λ i. record {
 
 -- what each date group sets with each time group and US is read as the moment: the fields are computed and compared
 each_read : (strict : Bool) {y mo d h mi s us : ℕ} → IsMoment y mo d h mi s us
-    → EachFull (λ all. moment_of strict (expected all (moment y mo d h mi s us)) ≡ Accepted (plain_parts y mo d h mi s us))
+    → EachFull (λ all. moment_of strict (expected all (moment y mo d h mi s us)) ≡ Ok (plain_parts y mo d h mi s us))
 unfolding expected filled_by times own_of number_of
 each_read strict is = (
   (
@@ -110,7 +110,7 @@ module _ (set : Settings) (apart : ReadsBack set) (t : List ℕ) (full : is_full
     now = moment y mo d h mi s us
 
     -- the parts answer accepts the text with the seven numbers, no offset and all three marks
-    text_parts : parts_of set t (text_of t now) ≡ Accepted (plain_parts y mo d h mi s us)
+    text_parts : parts_of set t (text_of t now) ≡ Ok (plain_parts y mo d h mi s us)
     unfolding parts_of parts_read
     text_parts =
         rw (
@@ -120,7 +120,7 @@ module _ (set : Settings) (apart : ReadsBack set) (t : List ℕ) (full : is_full
           text_is_utf8 set t full joined is,
           (text_is_read set t full joined is).verdict,
         )
-        (fields_read set t full joined is (λ f. moment_of set.strict f ≡ Accepted (plain_parts y mo d h mi s us)) (each_read set.strict is))
+        (fields_read set t full joined is (λ f. moment_of set.strict f ≡ Ok (plain_parts y mo d h mi s us)) (each_read set.strict is))
 
     -- and so do the other two answers
     text_read : ReadAs set t (text_of t now) now
@@ -143,7 +143,7 @@ module _ (set : Settings) (apart : ReadsBack set) (t : List ℕ) (full : is_full
     longer = rw (plain m n) (text_longer set t full joined (is_moment_lem n))
 
     -- a buffer of that length is enough
-    all_written : (room : ℕ) → length (text_of t m) ≤ room → written_to set t m room ≡ Length (length (text_of t m))
+    all_written : (room : ℕ) → length (text_of t m) ≤ room → written_to set t m room ≡ Ok (length (text_of t m))
     unfolding written_to
     all_written room h =
         rw (
@@ -155,8 +155,8 @@ module _ (set : Settings) (apart : ReadsBack set) (t : List ℕ) (full : is_full
         )
 
 -- the moment of an answer that accepts
-abbrev moment_in : Answer → Moment → Moment
-moment_in (Accepted p) other = record {
+abbrev moment_in : Result Parts Unread → Moment → Moment
+moment_in (Ok p) other = record {
   year = p.year;
   month = p.month;
   day = p.day;
@@ -165,7 +165,7 @@ moment_in (Accepted p) other = record {
   second = p.second;
   micros = p.micros;
 }
-moment_in (Refused why) other = other
+moment_in (Err why) other = other
 
 -- reading back: two moments with the same text are the same, since each is what the text is read as
 pub every_back : EveryBack

@@ -4,13 +4,15 @@
 -- `text_is_utf8`, `text_longer`: the text is UTF-8, and at most six bytes longer than the template.
 -- `text_is_read`: reading it by the template accepts it, and sets exactly what the template's pieces set.
 -- `fields_read`: what holds of what each date group sets with each time group and US holds of the fields that are read.
+use Rattle.std.specs.Option.{is_none}
+use Rattle.std.specs.Prelude.{None, Option, Some}
 use mathlib.Core.Path.{◌≡◌, ◌∙◌, refl}
-use mathlib.Core.Bool.{Bool, true, ◌&&◌}
+use mathlib.Core.Bool.{Bool, true, false≢true, ◌&&◌}
 use mathlib.Core.List.{List, []}
 use Prim.Native.Nat.{ℕ, ◌+◌, ◌≤◌}
 use native.Mathlib.Omega.{arith}
-use borrow.Author.Tests.{eqb-true, leb-true}
-use lib.Dec.{eqb, leb}
+use borrow.Author.Tests.{leb-true}
+use lib.Dec.{leb}
 use lib.ListN.{length}
 use Rattle.base_notation.proofs.Cases.{both}
 use Rattle.base_settings.specs.Limits.{template_limit}
@@ -60,13 +62,17 @@ pub record Full (set : Settings) (t : List ℕ) : Type 0 where
   pub known : first_unwritten (nodes_of t) ≡ all_written
   pub full : are_full (pieces (nodes_of t)) ≡ true
 
+none_is : (first : Option ℕ) → is_none first ≡ true → first ≡ None
+none_is None e = refl
+none_is (Some p) e = absurd (false≢true e)
+
 pub full_is : (set : Settings) (t : List ℕ) → is_full set t ≡ true → Full set t
 unfolding is_full
 full_is set t e =
     let short = both (leb (length t) (template_limit set)) _ e in
     let text = both (well_formed t) _ short.1 in
-    let known = both (eqb (first_unwritten (nodes_of t)) all_written) _ text.1 in
-    record { short = leb-true _ _ short.0; text = text.0; known = eqb-true _ _ known.0; full = known.1 }
+    let known = both (is_none (first_unwritten (nodes_of t))) _ text.1 in
+    record { short = leb-true _ _ short.0; text = text.0; known = none_is _ known.0; full = known.1 }
 
 module _ (set : Settings) (t : List ℕ) (full_template : is_full set t ≡ true) (joined : MarksJoined set t) where
   checks : Full set t

@@ -2,6 +2,7 @@
 -- `simulated`: it is accepted, and sets what all pieces set (`Ends`). By induction on the nodes. At each node what is
 -- left of the input spells the nodes to come, the pieces done and those to come are all, the fields are those of the
 -- pieces done, and the reader is ahead by spaces and separators alone.
+use Rattle.std.specs.Prelude.{Ok}
 use mathlib.Core.Path.{◌≡◌, ◌∙◌, refl}
 use mathlib.Core.Bool.{Bool, true, false}
 use mathlib.Core.List.{List, [], ◌∷◌, ◌++◌}
@@ -19,7 +20,6 @@ use Rattle.read_input.specs.Reader.{entered, node_read, head_of, read_from}
 use Rattle.read_fields.specs.declared.Fields.{Fields}
 use Rattle.read_fields.specs.declared.Place.{Place}
 use Rattle.read_fields.specs.declared.Reading.{Reading}
-use Rattle.read_fields.specs.declared.Verdict.TheVariants.{Read}
 use Rattle.base_strtol.specs.Runs.{spaces}
 use Rattle.template_nodes.specs.Template.{action}
 use Rattle.template_nodes.specs.declared.Node.{Node}
@@ -74,7 +74,7 @@ module _ (t s : List ℕ) where
 
 -- the input was read without a refusal, and these are the fields
 pub record Ends (f : Fields) (r : Reading) : Type 0 where
-  pub verdict : r.verdict ≡ Read
+  pub verdict : r.verdict ≡ (Ok tt)
   pub fields : r.fields ≡ f
 
 module _ (t s : List ℕ) {y mo d h mi sec us : ℕ} (is : IsMoment y mo d h mi sec us) (all : List ℕ) (c : together all ≡ true) where

@@ -2,12 +2,13 @@
 -- `Sound`: a node is a literal, or a pattern that is written (`Pattern`). `bare`: a number has no prefix.
 -- `sound_nodes`: all nodes are so, if there is none that the writer does not write.
 -- `pieces_literal`, `pieces_pattern`, `literal_text_lem`, `pattern_text`: the pieces from a node on, and its text.
+use Rattle.std.specs.Prelude.{Option, Some}
 use mathlib.Core.Path.{◌≡◌, ◌∙◌, refl, sym}
 use mathlib.Core.Bool.{Bool, true, false, not, false≢true}
 use mathlib.Core.List.{List, [], ◌∷◌}
 use Prim.Native.Nat.{ℕ, ◌≤◌}
 use native.Mathlib.Omega.{arith}
-use borrow.Author.Tests.{eqb-true, eq-eqb, lt-ltb, ne_eqb}
+use borrow.Author.Tests.{eqb-true, eq-eqb, ne_eqb}
 use lib.Dec.{eqb}
 use lib.ListN.{length}
 use Rattle.base_notation.specs.Choice.{when◌then◌else◌}
@@ -61,13 +62,13 @@ module _ (t : List ℕ) where
       })
 
   -- with no unwritten node from this one on, this one is written, and none after it is unwritten
-  written : (n : Node) (rest : ℕ) → Good t n → (when is_written n then rest else named n.pattern) ≡ all_written → (is_written n ≡ true) × (rest ≡ all_written)
+  written : (n : Node) (rest : Option ℕ) → Good t n → (when is_written n then rest else Some (named n.pattern)) ≡ all_written → (is_written n ≡ true) × (rest ≡ all_written)
   written n rest g e = by (is_written n) refl g e
     where
-      by : (w : Bool) → is_written n ≡ w → Good t n → (when w then rest else named n.pattern) ≡ all_written → (w ≡ true) × (rest ≡ all_written)
+      by : (w : Bool) → is_written n ≡ w → Good t n → (when w then rest else Some (named n.pattern)) ≡ all_written → (w ≡ true) × (rest ≡ all_written)
       by true q g e = (refl, e)
       by false q (is_literal l) e = absurd (false≢true (sym q ∙ rw l.no_action))
-      by false q (is_named k) e = absurd (omega (arith, rw (lt-ltb n.pattern 112 k.known) at e, k.known))
+      by false q (is_named k) e = let clash : ◌≡◌ {A = ℕ} 0 1 = cc in absurd (omega arith)
 
   pub sound_nodes : (ns : List Node) → AllGood t ns → first_unwritten ns ≡ all_written → AllSound t ns
   unfolding first_unwritten

@@ -6,7 +6,7 @@
 -- bytes for each US and 2 for each full name of a month (`extra`).
 -- `stops`: after a number that is read with all its digits, no digit follows.
 -- `blank_left`: where spaces and separators alone are left, no piece is.
-use mathlib.Core.Path.{◌≡◌, ◌∙◌, refl, sym}
+use mathlib.Core.Path.{◌≡◌, ◌∙◌, refl}
 use mathlib.Core.Bool.{Bool, true, false, not, false≢true}
 use mathlib.Core.List.{List, [], ◌∷◌, ◌++◌}
 use Prim.Native.Nat.{ℕ, suc, ◌+◌, ◌*◌, ◌≤◌}

@@ -32,8 +32,7 @@ use Rattle.template_patterns.specs.Search.{matches_at}
 use Rattle.template_patterns.specs.Words.{words_of, small_words, longest}
 use Rattle.template_patterns.specs.declared.tables.WordList.{WordList}
 use Rattle.read_words.specs.FoldOnce.{beginning, first_in, word_in}
-use Rattle.read_words.specs.Spelling.{word_at}
-use Rattle.read_words.specs.declared.spelling.Word.TheVariants.{At}
+use Rattle.read_words.specs.Spelling.{listed, word_at}
 use Rattle.read_words.proofs.FoldOnce.{fold_once}
 use Rattle.readback.proofs.Ahead.{inked}
 
@@ -112,7 +111,7 @@ module _ (t : List ℕ) where
       by false d further = refl
 
   first_found : (ws : List (List ℕ)) (i k : ℕ) (rest : List ℕ) → apart_before ws k (get_or ws k []) ≡ true → t ≡ get_or ws k [] ++ rest
-      → first_in i ws t ≡ At (i + k) (length (get_or ws k []))
+      → first_in i ws t ≡ listed (i + k) (length (get_or ws k []))
   first_found [] i k rest a e = absurd (false≢true a)
   first_found (v ∷ ws) i zero rest a e = rw (matched v rest 0 e, add-zero i)
   first_found (v ∷ ws) i (suc k) rest a e =
@@ -174,7 +173,7 @@ module _ {list : WordList} {k : ℕ} (ok : Fit list k) (u : List ℕ) (same : ma
     begun : beginning (longest (words_of list)) s at ≡ word_of list k ++ map folded (take more v)
     begun = rw (here, taken) (map-append folded u (take more v) ∙ rw same)
 
-    pub word_read : word_at list s at ≡ At k (length u)
+    pub word_read : word_at list s at ≡ listed k (length u)
     unfolding word_in
     word_read =
         sym (fold_once.same list s at)

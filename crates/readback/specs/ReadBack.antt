@@ -1,5 +1,5 @@
 -- Reading back: what it is for a text to be read as a moment, and what is promised of every full template and moment.
-use Rattle.std.specs.Prelude.{◌≡◌, refl, true, false, List, ◌++◌, ℕ, ◌+◌, ◌≤◌, ℤ, pos, nat_abs, length, drop}
+use Rattle.std.specs.Prelude.{◌≡◌, refl, true, false, List, ◌++◌, ℕ, ◌+◌, ◌≤◌, ℤ, pos, nat_abs, length, drop, Err, None, Ok, Result}
 use Rattle.base_settings.specs.Accents.{with_accents}
 use Rattle.base_settings.specs.Limits.{input_limit, limits, limits_compute, pages, template_limit, with_limits}
 use Rattle.base_settings.specs.declared.Settings.{Settings}
@@ -15,11 +15,7 @@ use Rattle.moment_time.specs.Time.{time_computes}
 use Rattle.read_input.specs.Examples.{reading_computes}
 use Rattle.moment_instants.specs.ByTemplate.{timestamp_of, date_of}
 use Rattle.moment_instants.specs.Plain.{days_since_1970, micros_since_1970}
-use Rattle.moment_instants.specs.declared.epoch.Day.TheVariants.{Number}
-use Rattle.moment_instants.specs.declared.epoch.Instant.TheVariants.{Micros}
 use Rattle.moment_parts.specs.Parts.{checked_moment, moment_of as parts_moment, parts_of, parts_read, refused_by}
-use Rattle.moment_parts.specs.declared.Answer.TheVariants.{Moment as Accepted}
-use Rattle.moment_time.specs.declared.Offset.TheVariants.{Absent}
 use Rattle.moment_parts.specs.declared.Parts.{Parts}
 use Rattle.write_text.specs.Full.{are_full, is_full, pieces, times}
 use Rattle.write_pieces.specs.Moment.{is_moment, moment}
@@ -27,10 +23,8 @@ use Rattle.write_pieces.specs.Pieces.{number_of, piece_of, piece_text}
 use Rattle.write_text.specs.Text.{node_text, nodes_text, text_of}
 use Rattle.write_text.specs.Writer.{buffer_after, first_unwritten, written_to}
 use Rattle.write_pieces.specs.declared.Moment.{Moment}
-use Rattle.write_text.specs.declared.Written.{Written}
-use Rattle.write_text.specs.declared.Written.TheVariants.{Length, Refused}
 use Rattle.readback.specs.declared.Again.{Again}
-use Rattle.readback.specs.declared.Again.TheVariants.{Read, NotWritten}
+use Rattle.write_text.specs.declared.Unwritten.{Unwritten}
 
 -- the parts of a moment: its seven numbers, precision 0, no offset, and all three marks
 abbrev pub parts_in : Moment → Parts
@@ -43,7 +37,7 @@ parts_in m = record {
   second = m.second;
   micros = m.micros;
   precision = pos 0;
-  offset = Absent;
+  offset = None;
   marks = all_bits;
 }
 
@@ -57,15 +51,15 @@ micros_of m =
 
 -- a text is read, by a template and for a caller with settings, as a moment
 pub record ReadAs (set : Settings) (t text : List ℕ) (m : Moment) : Type 0 where
-  pub parts : parts_of set t text ≡ Accepted (parts_in m)
-  pub instant : timestamp_of set t text ≡ Micros (micros_of m)
-  pub day : date_of set t text ≡ Number (days_of m)
+  pub parts : parts_of set t text ≡ Ok (parts_in m)
+  pub instant : timestamp_of set t text ≡ Ok (micros_of m)
+  pub day : date_of set t text ≡ Ok (days_of m)
 
 -- what is promised of a full template and a moment m
 pub record Back (set : Settings) (t : List ℕ) (m : Moment) : Type 0 where
   -- a buffer at least as long as the text, whatever it holds: the text is written, and every byte after it stays
   pub written : (before : List ℕ) → length (text_of t m) ≤ length before
-      → (written_to set t m (length before) ≡ Length (length (text_of t m)))
+      → (written_to set t m (length before) ≡ Ok (length (text_of t m)))
       × (buffer_after (written_to set t m (length before)) (text_of t m) before ≡ text_of t m ++ drop (length (text_of t m)) before)
   -- the text is at most six bytes longer than the template
   pub longer : length (text_of t m) ≤ length t + 6
@@ -89,21 +83,21 @@ abbrev pub EveryBack : Type 0
 EveryBack = (set : Settings) → ReadsBack set → (t : List ℕ) (m : Moment) → is_full set t ≡ true → MarksJoined set t → is_moment m ≡ true → Back set t m
 
 -- what writing and reading back answers: the three answers to the text, or why nothing was written
-abbrev pub read_again : Settings → List ℕ → List ℕ → Written → Again
-read_again set t text (Length n) = Read n (parts_of set t text) (timestamp_of set t text) (date_of set t text)
-read_again set t text (Refused why) = NotWritten why
+abbrev pub read_again : Settings → List ℕ → List ℕ → Result ℕ Unwritten → Result Again Unwritten
+read_again set t text (Ok n) = Ok (record { length = n; parts = parts_of set t text; instant = timestamp_of set t text; day = date_of set t text })
+read_again set t text (Err why) = Err why
 
 -- the same, by settings, a template, a moment and the length of the buffer
-unfoldable pub again_of : Settings → List ℕ → Moment → ℕ → Again
+unfoldable pub again_of : Settings → List ℕ → Moment → ℕ → Result Again Unwritten
 again_of set t m room = read_again set t (text_of t m) (written_to set t m room)
 
 -- r is the answer, and `after` the buffer. Of such a full template, a moment and a buffer that is long enough, the
 -- answer is the text's length and the moment, by all three answers
-pub record WroteAndRead (set : Settings) (t : List ℕ) (m : Moment) (before after : List ℕ) (r : Again) : Type 0 where
+pub record WroteAndRead (set : Settings) (t : List ℕ) (m : Moment) (before after : List ℕ) (r : Result Again Unwritten) : Type 0 where
   pub is : r ≡ again_of set t m (length before)
   pub buffer : after ≡ buffer_after (written_to set t m (length before)) (text_of t m) before
   pub back : ReadsBack set → is_full set t ≡ true → MarksJoined set t → is_moment m ≡ true → length (text_of t m) ≤ length before
-      → (r ≡ Read (length (text_of t m)) (Accepted (parts_in m)) (Micros (micros_of m)) (Number (days_of m)))
+      → (r ≡ Ok (record { length = length (text_of t m); parts = Ok (parts_in m); instant = Ok (micros_of m); day = Ok (days_of m) }))
       × (after ≡ text_of t m ++ drop (length (text_of t m)) before) × Back set t m
 
 -- six bytes are reached: 20 of the template make 26 in September
@@ -123,8 +117,8 @@ abbrev pub SixNeeded : Type 0
 SixNeeded =
     let caller : ℕ → Settings = λ input. with_limits (limits 20 input) pages in
     let text = text_of joined september in
-    (is_full (caller 25) joined ≡ true) × (is_moment september ≡ true) × (written_to (caller 25) joined september 26 ≡ Length 26)
-    × (parts_of (caller 25) joined text ≡ refused_by TooLong) × (parts_of (caller 26) joined text ≡ Accepted (parts_in september))
+    (is_full (caller 25) joined ≡ true) × (is_moment september ≡ true) × (written_to (caller 25) joined september 26 ≡ Ok 26)
+    × (parts_of (caller 25) joined text ≡ refused_by TooLong) × (parts_of (caller 26) joined text ≡ Ok (parts_in september))
 
 pub six_needed : SixNeeded
 unfolding is_full are_full times pieces first_unwritten is_moment written_to parts_of parts_read limits_compute text_of nodes_text node_text piece_of case_of piece_text number_of decimal parts_moment checked_moment well_formed_after sequence reading_computes time_computes date_computes
@@ -144,7 +138,7 @@ JoinedNeeded =
     let accents : Settings = with_accents true pages in
     let text = text_of lone_mark january in
     (is_full accents lone_mark ≡ true) × (none_alone lone_mark ≡ false) × (text ≡ utf8 "000000 00000 05 Jana" ++ encoded 0x301 ++ utf8 "2024")
-    × (parts_of accents lone_mark text ≡ Accepted (parts_in (moment 24 1 5 0 0 0 0))) × (parts_of pages lone_mark text ≡ Accepted (parts_in january))
+    × (parts_of accents lone_mark text ≡ Ok (parts_in (moment 24 1 5 0 0 0 0))) × (parts_of pages lone_mark text ≡ Ok (parts_in january))
 
 pub joined_needed : JoinedNeeded
 unfolding has_lone_mark is_full are_full times pieces first_unwritten parts_of parts_read limits_compute text_of nodes_text node_text piece_of case_of piece_text number_of decimal parts_moment checked_moment well_formed_after sequence reading_computes time_computes date_computes

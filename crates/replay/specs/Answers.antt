@@ -1,7 +1,8 @@
 -- The answer to a question. A question is a line: a name, and items after it; its answer is numbers, the nodes of a
 -- template, or what the line program answers to a line. What is unknown or malformed is answered by `?`.
-use Rattle.std.specs.Prelude.{Bool, true, false, List, [], ◌∷◌, ◌++◌, ℕ, eqb, ℤ, pos, nat_abs, take, get_or}
+use Rattle.std.specs.Prelude.{Option, Some, None, is_some, Bool, true, false, List, [], ◌∷◌, ◌++◌, ℕ, eqb, ℤ, pos, nat_abs, take, get_or}
 use Prim.Native.Char.{code}
+use Rattle.std.specs.Option.{option_and_then}
 use Rattle.base_notation.specs.Choice.{when◌then◌else◌}
 use Rattle.base_notation.specs.Text.{utf8}
 use Rattle.base_chars.specs.Character.{char_length}
@@ -24,7 +25,7 @@ use Rattle.line_answers.specs.declared.Mode.TheVariants as mode
 use Rattle.line_questions.specs.Items.{same, numbers_at, place_at, bytes_at, text_at}
 use Rattle.line_questions.specs.declared.Numbers.{Numbers}
 use Rattle.replay.specs.declared.questions.Values.{Values}
-use Rattle.replay.specs.declared.questions.Values.TheVariants.{One, Three, None}
+use Rattle.replay.specs.declared.questions.Values.TheVariants.{One, Three}
 
 -- whether something is so: 1 or 0
 abbrev pub flag : Bool → ℤ
@@ -36,24 +37,24 @@ abbrev pub date_values : Date → Values
 date_values d = Three d.year d.month d.day
 
 -- questions about a Julian day, or about a year
-unfoldable pub of_one : List ℕ → ℤ → Values
+unfoldable pub of_one : List ℕ → ℤ → Option Values
 of_one name n =
-    when same name (utf8 "j2date") then date_values (j2date n)
-    else when same name (utf8 "j2day") then One (j2day n)
-    else when same name (utf8 "is_leap") then One (flag (is_leap (nat_abs n)))
+    when same name (utf8 "j2date") then Some (date_values (j2date n))
+    else when same name (utf8 "j2day") then Some (One (j2day n))
+    else when same name (utf8 "is_leap") then Some (One (flag (is_leap (nat_abs n))))
     else None
 
 -- the question about a week of a year
-unfoldable pub of_two : List ℕ → ℤ → ℤ → Values
-of_two name year week = when same name (utf8 "isoweek2j") then One (isoweek2j year week) else None
+unfoldable pub of_two : List ℕ → ℤ → ℤ → Option Values
+of_two name year week = when same name (utf8 "isoweek2j") then Some (One (isoweek2j year week)) else None
 
 -- questions about a date
-unfoldable pub of_three : List ℕ → ℤ → ℤ → ℤ → Values
+unfoldable pub of_three : List ℕ → ℤ → ℤ → ℤ → Option Values
 of_three name y m d =
-    when same name (utf8 "date2j") then One (date2j y m d)
-    else when same name (utf8 "date2isoweek") then One (date2isoweek y m d)
-    else when same name (utf8 "date2isoyear") then One (date2isoyear y m d)
-    else when same name (utf8 "days_from_civil") then One (days_from_civil y m d)
+    when same name (utf8 "date2j") then Some (One (date2j y m d))
+    else when same name (utf8 "date2isoweek") then Some (One (date2isoweek y m d))
+    else when same name (utf8 "date2isoyear") then Some (One (date2isoyear y m d))
+    else when same name (utf8 "days_from_civil") then Some (One (days_from_civil y m d))
     else None
 
 -- a number by its index
@@ -61,7 +62,7 @@ abbrev pub value : Numbers → ℕ → ℤ
 value n k = get_or n.values k (pos 0)
 
 -- questions about numbers, by how many there are
-unfoldable pub of_numbers : List ℕ → Numbers → Values
+unfoldable pub of_numbers : List ℕ → Numbers → Option Values
 of_numbers name n =
     when eqb n.count 1 then of_one name (value n 0)
     else when eqb n.count 2 then of_two name (value n 0) (value n 1)
@@ -70,32 +71,31 @@ of_numbers name n =
 
 -- an answer about the text that the last item is, of as many bytes as there is room for; another where it is malformed
 abbrev pub of_text : {A : Type 0} → List ℕ → ℕ → ℕ → (List ℕ → A) → A → A
-of_text line from room answer other = when (bytes_at line from room).malformed then other else answer (text_at line from)
+of_text line from room answer other = when is_some (bytes_at line from room) then answer (text_at line from) else other
 
 -- an answer about a place and a text of at most 512 bytes
-abbrev pub of_place : List ℕ → ℕ → (ℕ → List ℕ → Values) → Values
+abbrev pub of_place : List ℕ → ℕ → (ℕ → List ℕ → Values) → Option Values
 of_place line from answer =
-    let place = place_at line from in
-    when place.malformed then None else of_text line place.end 512 (answer place.at) None
+    option_and_then (λ place. of_text line place.end 512 (λ text. Some (answer place.at text)) None) (place_at line from)
 
 -- a number that is read, the place after it, and whether it is past 64 bits
 abbrev pub strtol_values : Strtol → Values
 strtol_values n = Three n.value (pos n.end) (flag n.overflow)
 
 -- the number at a place
-unfoldable pub of_strtol : List ℕ → ℕ → Values
+unfoldable pub of_strtol : List ℕ → ℕ → Option Values
 of_strtol line from = of_place line from (λ at text. strtol_values (strtol text at))
 
 -- the length of the character at a place
-unfoldable pub of_mblen : List ℕ → ℕ → Values
+unfoldable pub of_mblen : List ℕ → ℕ → Option Values
 of_mblen line from = of_place line from (λ at text. One (pos (char_length text at)))
 
 -- whether a text is well-formed
-unfoldable pub of_utf8 : List ℕ → ℕ → Values
-of_utf8 line from = of_text line from 512 (λ text. One (flag (well_formed text))) None
+unfoldable pub of_utf8 : List ℕ → ℕ → Option Values
+of_utf8 line from = of_text line from 512 (λ text. Some (One (flag (well_formed text)))) None
 
 -- the numbers that answer a question with a name, whose items begin at a place of the line
-unfoldable pub values_of : List ℕ → List ℕ → ℕ → Values
+unfoldable pub values_of : List ℕ → List ℕ → ℕ → Option Values
 values_of name line from =
     when same name (utf8 "strtol") then of_strtol line from
     else when same name (utf8 "mblen") then of_mblen line from
@@ -107,9 +107,9 @@ abbrev pub unknown : List ℕ
 unknown = utf8 "?"
 
 -- numbers with a space between two
-abbrev pub values_text : Values → List ℕ
-values_text (One a) = decimal a
-values_text (Three a b c) = decimal a ++ code " " ∷ decimal b ++ code " " ∷ decimal c
+abbrev pub values_text : Option Values → List ℕ
+values_text (Some (One a)) = decimal a
+values_text (Some (Three a b c)) = decimal a ++ code " " ∷ decimal b ++ code " " ∷ decimal c
 values_text None = unknown
 
 -- a number after a colon
@@ -137,15 +137,24 @@ template_text line from = of_text line from 256 (λ text. nodes_text true (nodes
 unfoldable pub line_text : Mode → List ℕ → ℕ → List ℕ
 line_text mode line from = of_text line from 1024 (λ text. answer_line mode text) unknown
 
+-- the mode of a question that asks what the line program answers
+unfoldable pub mode_of : List ℕ → Option Mode
+mode_of name =
+    when same name (utf8 "parts_line") then Some mode.Parts
+    else when same name (utf8 "instant_line") then Some mode.Instant
+    else when same name (utf8 "date_line") then Some mode.Date
+    else when same name (utf8 "write_line") then Some mode.Write
+    else None
+
+-- the answer to a question in a mode, or to one that has none
+abbrev pub of_mode : Option Mode → List ℕ → List ℕ → ℕ → List ℕ
+of_mode (Some m) name line from = line_text m line from
+of_mode None name line from = values_text (values_of name line from)
+
 -- the answer to a question with a name, whose items begin at a place of the line
 unfoldable pub named_text : List ℕ → List ℕ → ℕ → List ℕ
 named_text name line from =
-    when same name (utf8 "parse") then template_text line from
-    else when same name (utf8 "parts_line") then line_text mode.Parts line from
-    else when same name (utf8 "instant_line") then line_text mode.Instant line from
-    else when same name (utf8 "date_line") then line_text mode.Date line from
-    else when same name (utf8 "write_line") then line_text mode.Write line from
-    else values_text (values_of name line from)
+    when same name (utf8 "parse") then template_text line from else of_mode (mode_of name) name line from
 
 -- the answer to a question: its name is before the first space
 unfoldable pub answer_to : List ℕ → List ℕ

@@ -14,11 +14,11 @@ use Rattle.line_buffers.specs.Decimal.{digits, significant}
 use Rattle.line_answers.specs.Answers.{moment_text, parts_answer}
 use Rattle.line_answers.specs.Examples.{line_computes}
 use Rattle.line_questions.specs.Items.{items_compute}
-use Rattle.replay.specs.Answers.{of_one, of_two, of_three, of_numbers, of_strtol, of_mblen, of_utf8, values_of, nodes_text, template_text, line_text, named_text, answer_to}
+use Rattle.replay.specs.Answers.{of_one, of_two, of_three, of_numbers, of_strtol, of_mblen, of_utf8, values_of, nodes_text, template_text, line_text, mode_of, named_text, answer_to}
 
 -- unfolds all that an answer is computed by
 unfoldable pub answers_compute : ℕ
-unfolding of_one of_two of_three of_numbers of_strtol of_mblen of_utf8 values_of nodes_text template_text named_text answer_to digits significant items_compute
+unfolding of_one of_two of_three of_numbers of_strtol of_mblen of_utf8 values_of nodes_text template_text mode_of named_text answer_to digits significant items_compute
 answers_compute = 0
 
 abbrev answers : List String → List (List ℕ)

@@ -4,7 +4,7 @@
 
 mod questions;
 
-ghost use Rattle.std.specs.Prelude.{◌≡◌, true, ◌≤◌, ◌<◌, length};
+ghost use Rattle.std.specs.Prelude.{◌≤◌, ◌<◌, ⊤, IfOk, MatchOption, length};
 
 use std::io::{ErrorKind, Read};
 use std::process::ExitCode;
@@ -18,32 +18,26 @@ const LONGEST: usize = 4096;
 // The status where nobody reads the output any longer: the one that a shell gives a program that SIGPIPE ended.
 const CLOSED: u8 = 141;
 
-// Where the answers end in their buffer, and whether nobody reads them any longer.
+// Nobody reads the answers any longer.
 #[derive(Clone, Copy)]
-struct Filled {
-    at: usize,
-    closed: bool,
-}
+struct Closed;
 
 // Where the answers to the lines of a text end: in the text, and in the buffer. `long` says that the next line began
-// before the text, `closed` that nobody reads the answers any longer.
+// before the text.
 #[derive(Clone, Copy)]
 struct Answered {
     from: usize,
     at: usize,
     long: bool,
-    closed: bool,
 }
 
-// What is left between two reads: the bytes kept of an unfinished line, whether it is too long, the answers not yet
-// written, whether nobody reads them any longer, and how many reads may come. A proved loop has to end, and nothing
-// says that the input does: so the reads are counted.
+// What is left between two reads: the bytes kept of an unfinished line, none where it is too long, the answers not yet
+// written, and how many reads may come. A proved loop has to end, and nothing says that the input does: so the reads
+// are counted.
 #[derive(Clone, Copy)]
 struct State {
-    kept: usize,
-    long: bool,
+    kept: Option<usize>,
     at: usize,
-    closed: bool,
     reads: u64,
 }
 
@@ -58,153 +52,139 @@ fn read_on(reader: &mut impl Read, input: &mut [u8], kept: usize) -> usize
     }
 }
 
-// Writes answers. The result says whether nobody reads them any longer; any other failure is ignored.
-fn write_out(rt: &impl Print, answers: &[u8]) -> bool {
+// Writes answers. A failure is ignored unless it is that nobody reads them any longer.
+fn write_out(rt: &impl Print, answers: &[u8]) -> Result<(), Closed> {
     match rt.write_all(answers) {
-        Ok(()) => false,
-        Err(error) => error.kind() == ErrorKind::BrokenPipe,
+        Ok(()) => Ok(()),
+        Err(error) => {
+            if error.kind() == ErrorKind::BrokenPipe {
+                return Err(Closed);
+            }
+            Ok(())
+        }
     }
 }
 
-// Writes the answers out where there may be no room for one more.
-fn make_room(rt: &impl Print, out: &[u8], at: usize) -> Filled
+// Writes the answers out where there may be no room for one more. The result is where the next one begins.
+fn make_room(rt: &impl Print, out: &[u8], at: usize) -> Result<usize, Closed>
     requires { at ≤ length out.now }
-    ensures { result.at ≤ length out.now }
+    ensures { IfOk result (λ at. at ≤ length out.now) }
 {
     if LONGEST <= out.len() - at {
-        return Filled { at, closed: false };
+        return Ok(at);
     }
-    let closed = write_out(rt, &out[0..at]);
-    Filled { at: 0, closed }
+    write_out(rt, &out[0..at])?;
+    Ok(0)
 }
 
-// Answers one line, unless nobody reads the answers any longer; one that is too long is no question.
-fn answer_line(rt: &impl Print, line: &[u8], long: bool, out: &mut [u8], at: usize) -> Filled
+// Answers one line; one that is too long is no question. The result is where the answers end in their buffer.
+fn answer_line(
+    rt: &impl Print,
+    line: &[u8],
+    long: bool,
+    out: &mut [u8],
+    at: usize,
+) -> Result<usize, Closed>
     requires { at ≤ length out.old }
-    ensures { result.at ≤ length out.new }
+    ensures { IfOk result (λ end. end ≤ length out.new) }
 {
-    let room = make_room(rt, out, at);
-    if room.closed {
-        return room;
-    }
+    let from = make_room(rt, out, at)?;
     if long {
-        let end = questions::unknown(out, room.at);
-        let next = line_buffers::put_byte(b'\n', out, end);
-        return Filled { at: next, ..room };
+        let end = questions::unknown(out, from);
+        return Ok(line_buffers::put_byte(b'\n', out, end));
     }
-    let end = questions::answer(line, out, room.at);
-    let next = line_buffers::put_byte(b'\n', out, end);
-    Filled { at: next, ..room }
+    let end = questions::answer(line, out, from);
+    Ok(line_buffers::put_byte(b'\n', out, end))
 }
 
-// Answers the lines that end in a text, while somebody reads the answers.
-fn answer_lines(rt: &impl Print, text: &[u8], long: bool, out: &mut [u8], at: usize) -> Answered
+// Answers the lines that end in a text.
+fn answer_lines(
+    rt: &impl Print,
+    text: &[u8],
+    long: bool,
+    out: &mut [u8],
+    at: usize,
+) -> Result<Answered, Closed>
     requires { at ≤ length out.old }
-    ensures { result.at ≤ length out.new }
+    ensures { IfOk result (λ a. a.at ≤ length out.new) }
 {
-    let mut s = Answered {
-        from: 0,
-        at,
-        long,
-        closed: false,
-    };
+    let mut s = Answered { from: 0, at, long };
     let mut end = line_buffers::find(text, 0, b'\n');
     while end < text.len() {
         let from = s.from;
-        let next = answer_line(rt, &text[from..end], s.long, out, s.at);
-        if next.closed {
-            return Answered { closed: true, ..s };
-        }
+        let next = answer_line(rt, &text[from..end], s.long, out, s.at)?;
         s = Answered {
             from: end + 1,
-            at: next.at,
+            at: next,
             long: false,
-            closed: false,
         };
         end = line_buffers::find(text, end + 1, b'\n');
     }
-    s
+    Ok(s)
 }
 
-// Reads once and answers the lines that end there. At the end of the input, and where nobody reads the answers any
-// longer, no read is left.
+// Reads once and answers the lines that end there. At the end of the input no read is left.
 fn turn(
     rt: &impl Print,
     reader: &mut impl Read,
     input: &mut [u8],
     out: &mut [u8],
     s: State,
-) -> State
-    requires { (s.kept ≤ length input.old) × (s.at ≤ length out.old) × (0 < s.reads) }
-    ensures { (result.kept ≤ length input.new) × (result.at ≤ length out.new) × (result.reads < s.reads) × (result.closed ≡ true → result.reads ≡ 0) }
+) -> Result<State, Closed>
+    requires { MatchOption s.kept ⊤ (λ n. n ≤ length input.old) × (s.at ≤ length out.old) × (0 < s.reads) }
+    ensures { IfOk result (λ t. MatchOption t.kept ⊤ (λ n. n ≤ length input.new) × (t.at ≤ length out.new) × (t.reads < s.reads)) }
 {
-    let kept = s.kept;
+    let kept = s.kept.unwrap_or(0);
     let end = read_on(reader, input, kept);
     if end == kept {
-        return State { reads: 0, ..s };
+        return Ok(State { reads: 0, ..s });
     }
-    let a = answer_lines(rt, &input[0..end], s.long, out, s.at);
-    if a.closed {
-        return State {
-            closed: true,
-            reads: 0,
-            ..s
-        };
-    }
-    let k = line_buffers::keep(input, a.from, end, a.long);
-    State {
-        kept: k.count,
-        long: k.long,
+    let a = answer_lines(rt, &input[0..end], s.kept.is_none(), out, s.at)?;
+    Ok(State {
+        kept: line_buffers::keep(input, a.from, end, a.long),
         at: a.at,
-        closed: false,
         reads: s.reads - 1,
-    }
+    })
 }
 
 // Answers the last line, where it has no newline.
-fn answer_last(rt: &impl Print, line: &[u8], long: bool, out: &mut [u8], at: usize) -> Filled
+fn answer_last(
+    rt: &impl Print,
+    line: &[u8],
+    long: bool,
+    out: &mut [u8],
+    at: usize,
+) -> Result<usize, Closed>
     requires { at ≤ length out.old }
-    ensures { result.at ≤ length out.new }
+    ensures { IfOk result (λ end. end ≤ length out.new) }
 {
-    if long {
-        return answer_line(rt, line, true, out, at);
+    if !long && line.is_empty() {
+        return Ok(at);
     }
-    if line.len() == 0 {
-        return Filled { at, closed: false };
-    }
-    answer_line(rt, line, false, out, at)
+    answer_line(rt, line, long, out, at)
 }
 
-// Answers all lines. The result says whether nobody reads the answers any longer.
-fn answer_all(rt: &(impl Input + Print), input: &mut [u8], out: &mut [u8]) -> bool {
+// Answers all lines.
+fn answer_all(rt: &(impl Input + Print), input: &mut [u8], out: &mut [u8]) -> Result<(), Closed> {
     let mut reader = rt.reader();
     let mut s = State {
-        kept: 0,
-        long: false,
+        kept: Some(0),
         at: 0,
-        closed: false,
         reads: u64::MAX,
     };
     while s.reads > 0 {
-        s = turn(rt, &mut reader, input, out, s);
+        s = turn(rt, &mut reader, input, out, s)?;
     }
-    if s.closed {
-        return true;
-    }
-    let kept = s.kept;
-    let last = answer_last(rt, &input[0..kept], s.long, out, s.at);
-    if last.closed {
-        return true;
-    }
-    let end = last.at;
+    let kept = s.kept.unwrap_or(0);
+    let end = answer_last(rt, &input[0..kept], s.kept.is_none(), out, s.at)?;
     write_out(rt, &out[0..end])
 }
 
 fn main(rt: HostRuntime) -> ExitCode {
     let mut input = [0u8; BUFFER];
     let mut output = [0u8; BUFFER];
-    if answer_all(&rt, &mut input, &mut output) {
-        return ExitCode::from(CLOSED);
+    match answer_all(&rt, &mut input, &mut output) {
+        Err(Closed) => ExitCode::from(CLOSED),
+        Ok(()) => ExitCode::SUCCESS,
     }
-    ExitCode::SUCCESS
 }

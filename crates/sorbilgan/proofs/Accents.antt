@@ -1,9 +1,6 @@
 -- The accents mode.
 -- `accents_mode`: what is promised of it. Assumes nothing.
-use mathlib.Core.Path.{◌≡◌, refl}
-use mathlib.Core.Bool.{true}
-use mathlib.Core.List.{List}
-use Prim.Native.Nat.{ℕ}
+use mathlib.Core.Path.{refl}
 use Rattle.base_accents.proofs.Measures.{letter_whole, mark_alone}
 use Rattle.base_settings.specs.Limits.{limits_compute}
 use Rattle.moment_parts.specs.Parts.{parts_by}

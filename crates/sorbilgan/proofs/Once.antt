@@ -17,7 +17,6 @@ use Rattle.template_nodes.specs.Template.{nodes_by}
 use Rattle.template_nodes.specs.declared.Node.{Node}
 use Rattle.template_nodes.proofs.Encoding.{encoded-length, nodes_back}
 use Rattle.template_nodes.proofs.Nodes.{count_within, small_nodes}
-use Rattle.write_text.specs.Text.{text_of}
 use Rattle.write_text.specs.Writer.{nodes_limit, written_in, written_to}
 use Rattle.write_text.proofs.Modes.{text_in_both, unwritten_in_both}
 use Rattle.sorbilgan.specs.Compiled.{compiled}

@@ -9,9 +9,5 @@ ghost use Rattle.template_nodes.specs.Joined.{has_lone_mark};
 pub fn sorbilgan_has_lone_mark(nodes: &[u8], t: &[u8]) -> u8
     ensures { result ≡ (when has_lone_mark t.now (nodes_in nodes.now) then 1 else 0) }
 {
-    if template_nodes::has_lone_mark(nodes, t) {
-        1
-    } else {
-        0
-    }
+    u8::from(template_nodes::has_lone_mark(nodes, t))
 }

@@ -1,6 +1,4 @@
 -- Laws of what is stored in a record.
--- a report's four numbers keep their values as they are stored
-mod Stored
 -- what `put_value` stored is the record of an answer
 pub mod Values
 -- every record is that of an answer in range, or of a refusal by its number

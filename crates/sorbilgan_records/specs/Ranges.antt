@@ -1,23 +1,17 @@
 -- What every record keeps to. Entry 0 is 0 where the answer was accepted, and then the other entries are in range; else
 -- it is the number of the refusal, and all that would have been read is 0.
-use Rattle.std.specs.Prelude.{◌≡◌, refl, Bool, false, List, ℕ, zero, suc, ℤ, pos, negsuc, nat_abs, drop, get_or, replicate}
+use Rattle.std.specs.Prelude.{◌≡◌, refl, Bool, false, List, ℕ, zero, suc, ℤ, pos, negsuc, nat_abs, drop, get_or, replicate, Err, None, Ok, Option, Result, Some}
 use Rattle.std.proofs.Common.{inl, arith}
 use Rattle.base_refusals.specs.Report.{report_of}
 use Rattle.base_refusals.specs.declared.Refusal.TheVariants.{Short}
-use Rattle.moment_time.specs.declared.Offset.{Offset}
-use Rattle.moment_time.specs.declared.Offset.TheVariants.{Absent, East}
 use Rattle.moment_parts.specs.Ranges.{InRange, ReadNumber, Within}
 use Rattle.moment_parts.specs.Report.{unread_report}
-use Rattle.moment_parts.specs.declared.Answer.{Answer}
-use Rattle.moment_parts.specs.declared.Answer.TheVariants.{Moment, Refused}
 use Rattle.moment_parts.specs.declared.Parts.{Parts}
 use Rattle.moment_parts.specs.declared.Unread.TheVariants.{By}
 use Rattle.moment_instants.specs.Ranges.{DayNumber, Finite32, Finite64, InstantNumber}
-use Rattle.moment_instants.specs.declared.epoch.Day.{Day}
-use Rattle.moment_instants.specs.declared.epoch.Day.TheVariants.{Number, Refused as NoDay}
-use Rattle.moment_instants.specs.declared.epoch.Instant.{Instant}
-use Rattle.moment_instants.specs.declared.epoch.Instant.TheVariants.{Micros, Refused as NoInstant}
 use Rattle.sorbilgan_records.specs.Records.{parts_record, instant_record, day_record}
+use Rattle.moment_parts.specs.declared.Unread.{Unread}
+use Rattle.moment_instants.specs.declared.epoch.Undated.{Undated}
 
 -- the entry k of a record
 abbrev pub entry : List ℤ → ℕ → ℤ
@@ -31,10 +25,10 @@ pub record RefusedRecord (Number : ℕ → Type 0) (n : ℕ) (r : List ℤ) : Ty
   pub nothing : drop 4 r ≡ replicate n (pos 0)
 
 -- the parts that a record holds: whether there is an offset is entry 12, which is 0 where there is none
-abbrev pub offset_held : ℤ → ℤ → Offset
-offset_held (pos zero) z = Absent
-offset_held (pos (suc n)) z = East z
-offset_held (negsuc n) z = East z
+abbrev pub offset_held : ℤ → ℤ → Option ℤ
+offset_held (pos zero) z = None
+offset_held (pos (suc n)) z = Some z
+offset_held (negsuc n) z = Some z
 
 abbrev pub held : List ℤ → Parts
 held r = record {
@@ -59,9 +53,9 @@ pub record MomentRecord (strict : Bool) (r : List ℤ) : Type 0 where
   pub parts : InRange strict (held r)
 
 -- the parts record of an answer: a moment, or a refusal by its number
-abbrev pub PartsRecorded : Bool → Answer → Type 0
-PartsRecorded strict (Moment p) = MomentRecord strict (parts_record (Moment p))
-PartsRecorded strict (Refused why) = RefusedRecord (ReadNumber strict) 11 (parts_record (Refused why))
+abbrev pub PartsRecorded : Bool → Result Parts Unread → Type 0
+PartsRecorded strict (Ok p) = MomentRecord strict (parts_record (Ok p))
+PartsRecorded strict (Err why) = RefusedRecord (ReadNumber strict) 11 (parts_record (Err why))
 
 -- a value record whose value is as P says
 pub record ValueRecord (P : ℤ → Type 0) (r : List ℤ) : Type 0 where
@@ -69,16 +63,16 @@ pub record ValueRecord (P : ℤ → Type 0) (r : List ℤ) : Type 0 where
   pub value : P (entry r 4)
 
 -- the value record of an instant, and of a day, or of a refusal by its number
-abbrev pub InstantRecorded : Bool → Instant → Type 0
-InstantRecorded strict (Micros z) = ValueRecord Finite64 (instant_record (Micros z))
-InstantRecorded strict (NoInstant why) = RefusedRecord (InstantNumber strict) 1 (instant_record (NoInstant why))
+abbrev pub InstantRecorded : Bool → Result ℤ Undated → Type 0
+InstantRecorded strict (Ok z) = ValueRecord Finite64 (instant_record (Ok z))
+InstantRecorded strict (Err why) = RefusedRecord (InstantNumber strict) 1 (instant_record (Err why))
 
-abbrev pub DayRecorded : Bool → Day → Type 0
-DayRecorded strict (Number z) = ValueRecord Finite32 (day_record (Number z))
-DayRecorded strict (NoDay why) = RefusedRecord (DayNumber strict) 1 (day_record (NoDay why))
+abbrev pub DayRecorded : Bool → Result ℤ Undated → Type 0
+DayRecorded strict (Ok z) = ValueRecord Finite32 (day_record (Ok z))
+DayRecorded strict (Err why) = RefusedRecord (DayNumber strict) 1 (day_record (Err why))
 
 -- DD with 1 byte left of 2 is refused by number 5; the day before 1970 is a day
-pub worked : PartsRecorded false (Refused (By (Short 9 2 1))) × DayRecorded false (Number (negsuc 0))
+pub worked : PartsRecorded false (Err (By (Short 9 2 1))) × DayRecorded false (Ok (negsuc 0))
 unfolding parts_record day_record unread_report report_of
 worked = (
   record { number = 5; is = refl; known = inl (omega arith, omega arith); nothing = refl },

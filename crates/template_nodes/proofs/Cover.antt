@@ -7,14 +7,15 @@
 use mathlib.Core.Path.{◌≡◌, ◌∙◌, refl, sym, ap}
 use mathlib.Core.Bool.{Bool, true, false, not, and-false}
 use mathlib.Core.List.{List, [], ◌∷◌, ◌++◌, append_assoc}
-use Prim.Native.Nat.{ℕ, zero, suc, ◌+◌, ◌-◌, ◌<◌, ◌≤◌}
-use native.Mathlib.Nat.{add-zero, sub-zero}
+use Prim.Native.Nat.{ℕ, zero, suc, ◌+◌, ◌<◌, ◌≤◌}
+use native.Mathlib.Nat.{add-zero}
 use native.Mathlib.Numerals.{add-one}
 use native.Mathlib.Omega.{arith}
 use borrow.Author.Tests.{eqb-true, lt-ltb, le-ltb, ltb-true, ltb-false}
 use lib.Dec.{eqb, ltb}
 use lib.ListN.{length, drop, take, length-append, length-drop, take-append-drop, drop_of_length-le}
 use lib.Seq.{slice, drop-cons, drop-drop, get_or-drop, get_or-take, length-take-le, drop-append_seam, take-append-add, take-append_seam}
+use Rattle.std.specs.Prelude.{Option, None, Some}
 use Rattle.base_notation.specs.Choice.{when◌then◌else◌}
 use Rattle.base_notation.specs.Text.{byte_at}
 use Rattle.base_notation.proofs.Bytes.{byte_within}
@@ -24,9 +25,8 @@ use Rattle.base_accents.proofs.Measures.{count, measure_left}
 use Rattle.base_chars.specs.Class.{is_separator, is_space}
 use Rattle.template_patterns.specs.Affixes.{affix_length, bit_at}
 use Rattle.template_patterns.specs.Patterns.{name_of}
-use Rattle.template_patterns.specs.Search.{pattern_at}
+use Rattle.template_patterns.specs.Search.{found_pattern, pattern_at}
 use Rattle.template_patterns.specs.declared.Found.{Found}
-use Rattle.template_patterns.specs.declared.Found.TheVariants.{Pattern, Nothing}
 use Rattle.template_patterns.proofs.Affixes.{AffixThere, affix_there}
 use Rattle.template_patterns.proofs.Names.{There, name_there, name_length}
 use Rattle.template_patterns.proofs.Search.{found_range, found_name}
@@ -143,7 +143,7 @@ module _ (accents : Bool) (t : List ℕ) where
   -- a pattern between its prefix and its suffix
   pattern_taken : (at k : ℕ) (prefix : AffixThere true t at) → k < 112 → There (name_of k) t (at + length prefix.name)
       → AffixThere false t (at + length prefix.name + length (name_of k))
-      → Taken at false (action_at accents t (at + length prefix.name) (bit_at true t at) k (length (name_of k)))
+      → Taken at false (action_at accents t (at + length prefix.name) (bit_at true t at) (found_pattern k (length (name_of k))))
   pattern_taken at k prefix known name suffix =
       let left : drop at t ≡ prefix.name ++ name_of k ++ suffix.name ++ drop (at + length prefix.name + length (name_of k) + length suffix.name) t =
       prefix.there.rest ∙ rw (name.rest, suffix.there.rest) (simp append_assoc) in
@@ -156,23 +156,23 @@ module _ (accents : Bool) (t : List ℕ) where
       }
 
   -- a pattern, or a literal after a prefix that is dropped
-  element_taken : (at : ℕ) (f : Found) → pattern_at t (at + affix_length (bit_at true t at)) ≡ f → at + affix_length (bit_at true t at) < length t
+  element_taken : (at : ℕ) (f : Option Found) → pattern_at t (at + affix_length (bit_at true t at)) ≡ f → at + affix_length (bit_at true t at) < length t
       → Taken at false (element_of accents f t (at + affix_length (bit_at true t at)) (bit_at true t at))
-  element_taken at Nothing e h =
+  element_taken at None e h =
       let after = literal_taken (at + affix_length (bit_at true t at)) false h in
       record {
         on = omega (arith, after.on);
         within = after.within;
         covers = λ ns k. dropped at (affix_there true t at (omega arith)) _ (after.covers ns k);
       }
-  element_taken at (Pattern k n) e h =
+  element_taken at (Some f) e h =
       let prefix = affix_there true t at (omega arith) in
-      let found : pattern_at t (at + length prefix.name) ≡ Pattern k n = rw prefix.size e in
-      let known = (found_range t (at + length prefix.name) k n found).0 in
-      let same = found_name t (at + length prefix.name) k n found in
-      let name = name_there k known t (at + length prefix.name) prefix.there.within same.1 in
+      let found : pattern_at t (at + length prefix.name) ≡ Some f = rw prefix.size e in
+      let known = (found_range t (at + length prefix.name) f found).0 in
+      let same = found_name t (at + length prefix.name) f found in
+      let name = name_there f.number known t (at + length prefix.name) prefix.there.within same.1 in
       rw (← prefix.size, same.0)
-      (pattern_taken at k prefix known name (affix_there false t (at + length prefix.name + length (name_of k)) name.within))
+      (pattern_taken at f.number prefix known name (affix_there false t (at + length prefix.name + length (name_of f.number)) name.within))
 
   plain_taken : (at : ℕ) → at < length t → Taken at false (plain_at accents t at)
   unfolding plain_at

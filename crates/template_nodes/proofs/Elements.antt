@@ -9,22 +9,29 @@ use native.Mathlib.Omega.{arith}
 use borrow.Author.Tests.{lt-ltb, ltb-true, ltb-false}
 use lib.Dec.{ltb}
 use lib.ListN.{length}
+use Rattle.std.specs.Prelude.{Option, None, Some}
 use Rattle.base_notation.specs.Choice.{when◌then◌else◌}
 use Rattle.template_patterns.specs.Affixes.{affix_length, bit_at}
 use Rattle.template_patterns.specs.Search.{pattern_at}
 use Rattle.template_patterns.specs.declared.Found.{Found}
-use Rattle.template_patterns.specs.declared.Found.TheVariants.{Pattern, Nothing}
 use Rattle.template_nodes.specs.Elements.{element_from, element_in, nowhere, rest_at}
 use Rattle.template_nodes.specs.Template.{element_of, in_mode, make, pattern, plain_at, skip, step_at}
 use Rattle.template_nodes.specs.declared.Element.{Element}
+use Rattle.template_nodes.specs.declared.Node.{Node}
+use Rattle.template_nodes.specs.declared.Pattern.{Pattern}
 use Rattle.template_nodes.specs.declared.Step.{Step}
 
--- a pattern's node
-abbrev pub pattern_step : Bool → Bool → Element → Step
-pattern_step accents quoted e = make (in_mode accents (pattern e.start e.len e.number e.bits)) e.next quoted
+-- the node of a pattern
+abbrev pub node_of : Bool → Pattern → Node
+node_of accents p = in_mode accents (pattern p.start p.len p.number p.bits)
+
+-- that node, or the rest
+abbrev step_by : Bool → List ℕ → Bool → ℕ → Option Pattern → Step
+step_by accents t quoted next (Some p) = make (node_of accents p) next quoted
+step_by accents t quoted next None = rest_at accents t next quoted
 
 abbrev pub step_of : Bool → List ℕ → Bool → Element → Step
-step_of accents t quoted e = when e.found then pattern_step accents quoted e else rest_at accents t e.next quoted
+step_of accents t quoted e = step_by accents t quoted e.next e.pattern
 
 -- a step that goes on from p, and takes a byte unless that is the end, goes on from before it
 pub goes_on : (size at p next : ℕ) → at < size → at ≤ p → p ≤ next → (p < size → p < next) → at < next
@@ -43,16 +50,16 @@ module _ (accents : Bool) (t : List ℕ) (at : ℕ) (h : at < length t) where
       start : ℕ
       start = at + affix_length (bit_at true t at)
 
-      by : (q : Bool) → ltb start (length t) ≡ q → (f : Found)
+      by : (q : Bool) → ltb start (length t) ≡ q → (f : Option Found)
           → step_of accents t false (when q then element_in f t start (bit_at true t at) else nowhere start) ≡ (when q then element_of accents f t start (bit_at true t at) else skip start false)
-      by true e (Pattern k n) = refl
-      by true e Nothing = rw e
+      by true e (Some f) = refl
+      by true e None = rw e
       by false e f = rw e
 
   -- the same for what was found there
   module _ (quoted : Bool) (e : Element) (is : e ≡ element_from t at quoted) where
-    pub found_step : e.found ≡ true → pattern_step accents quoted e ≡ step_at accents t at quoted
-    found_step q = rw (← is, q) at (element_step quoted)
+    pub found_step : (p : Pattern) → e.pattern ≡ Some p → make (node_of accents p) e.next quoted ≡ step_at accents t at quoted
+    found_step p q = rw (← is, q) at (element_step quoted)
 
-    pub rest_step : e.found ≡ false → rest_at accents t e.next quoted ≡ step_at accents t at quoted
+    pub rest_step : e.pattern ≡ None → rest_at accents t e.next quoted ≡ step_at accents t at quoted
     rest_step q = rw (← is, q) at (element_step quoted)

@@ -3,15 +3,15 @@
 -- `encoded-length`: each has six bytes.
 -- `nodes_length`, `node_in`: any bytes hold a node for each six of them; node k is that of the bytes from 6 * k on.
 -- `parsed_nodes`, `parsed_room`: the buffer that a template was parsed into holds its nodes, and is long enough.
--- `put_after`: a node put after others. `six_put`: six bytes stored one after another. Assumes nothing.
+-- `put_after`: a node put after others. Assumes nothing.
 use mathlib.Core.Path.{◌≡◌, refl, ◌∙◌, ap, sym}
 use mathlib.Core.Bool.{Bool, true, false}
-use mathlib.Core.List.{List, [], ◌∷◌, ◌++◌, append_assoc, append-nil}
+use mathlib.Core.List.{List, [], ◌∷◌, ◌++◌}
 use Prim.Native.Nat.{ℕ, zero, suc, ◌+◌, ◌*◌, ◌/◌, ◌%◌, ◌≤◌, ◌<◌}
 use native.Mathlib.Omega.{arith}
 use borrow.Author.Tests.{le-leb, lt-leb}
 use lib.Dec.{leb}
-use lib.ListN.{length, take, drop, get_or, set, length-append, length-drop}
+use lib.ListN.{length, take, drop, get_or, length-append, length-drop}
 use lib.Seq.{drop-drop, get_or-drop, sets, sets-eq, take_at, drop_at}
 use Rattle.base_notation.specs.Choice.{when◌then◌else◌}
 use Rattle.base_notation.specs.Text.{byte_at}
@@ -126,17 +126,6 @@ put_after done before n k size room =
       encoded-append done (n ∷ []),
       next_place,
     )
-
--- six bytes, stored one after another
-pub six_put : (l : List ℕ) (at a b c d e f : ℕ)
-    → set (set (set (set (set (set l at a) (at + 1) b) (at + 2) c) (at + 3) d) (at + 4) e) (at + 5) f ≡ sets l at (a ∷ b ∷ c ∷ d ∷ e ∷ f ∷ [])
-six_put l at a b c d e f =
-    let one : at + 1 ≡ suc at = omega arith in
-    let two : at + 2 ≡ suc (suc at) = omega arith in
-    let three : at + 3 ≡ suc (suc (suc at)) = omega arith in
-    let four : at + 4 ≡ suc (suc (suc (suc at))) = omega arith in
-    let five : at + 5 ≡ suc (suc (suc (suc (suc at)))) = omega arith in
-    rw (one, two, three, four, five)
 
 -- the nodes of a template that was parsed into a buffer
 module _ {ns : List Node} {before after : List ℕ} {r : ℕ} (p : Parsed ns before after r) where

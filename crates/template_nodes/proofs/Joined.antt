@@ -6,17 +6,18 @@
 -- accents mode (`a_letter`). In the other mode the steps after the letter make a node of each of these marks
 -- (`mark_step`), and joining puts them together again (`run`).
 use mathlib.Core.Path.{◌≡◌, ◌∙◌, refl, sym, ap}
-use mathlib.Core.Bool.{Bool, true, false, not, ◌&&◌, false≢true, and-false}
+use mathlib.Core.Bool.{Bool, true, false, not, ◌&&◌, false≢true}
 use mathlib.Core.List.{List, [], ◌∷◌, ◌++◌, map}
-use Prim.Native.Nat.{ℕ, zero, suc, ◌+◌, ◌≤◌, ◌<◌}
+use Prim.Native.Nat.{ℕ, zero, suc, ◌+◌, ◌≤◌}
 use native.Mathlib.Nat.{add_assoc, add-zero}
 use native.Mathlib.Omega.{arith}
-use borrow.Author.Tests.{eqb-true, eq-eqb, le-ltb, lt-ltb, ltb-true, ltb-false, ne_eqb, not-true}
+use borrow.Author.Tests.{eqb-true, eq-eqb, lt-ltb, ltb-true, ltb-false, ne_eqb, not-true}
 use lib.Dec.{eqb, ltb}
 use lib.ListN.{length, drop}
+use Rattle.std.specs.Prelude.{Option, None, Some}
 use Rattle.base_notation.specs.Choice.{when◌then◌else◌}
 use Rattle.base_notation.specs.Text.{byte_at}
-use Rattle.base_notation.proofs.Cases.{both, by_if}
+use Rattle.base_notation.proofs.Cases.{both}
 use Rattle.base_accents.specs.Accents.{letter_at, mark_at, marks, measure_of}
 use Rattle.base_accents.proofs.Marks.{mark_bytes, mark_there, marks_on, marks_stop}
 use Rattle.base_accents.proofs.Measures.{mark_char}
@@ -25,10 +26,9 @@ use Rattle.base_chars.proofs.Classes.{wide_class}
 use Rattle.template_patterns.specs.Affixes.{affix_length, bit_at}
 use Rattle.template_patterns.specs.Search.{pattern_at}
 use Rattle.template_patterns.specs.declared.Found.{Found}
-use Rattle.template_patterns.specs.declared.Found.TheVariants.{Pattern, Nothing}
 use Rattle.template_patterns.proofs.Search.{head_range, none_outside}
 use Rattle.template_nodes.specs.Joined.{ByWhatIsBefore, follows, is_letter, is_mark, joined, joined_to, longer}
-use Rattle.template_nodes.specs.Template.{action, backslash, char_at, char_place, character, element_of, escapes, in_mode, kind_of, literal, literal_at, made_by, make, nodes_by, nodes_from, nodes_of, plain_at, quote, skip, step_at}
+use Rattle.template_nodes.specs.Template.{action, backslash, char_at, char_place, character, element_of, in_mode, kind_of, literal, literal_at, made_by, make, nodes_by, nodes_from, nodes_of, plain_at, quote, skip, step_at}
 use Rattle.template_nodes.specs.declared.Node.{Node}
 use Rattle.template_nodes.specs.declared.Step.{Step}
 use Rattle.template_nodes.proofs.Cover.{no_pattern, step_taken}
@@ -59,9 +59,9 @@ module _ (t : List ℕ) where
         | false ↦ char_pair p kind quoted (ne_eqb kind action (no_pattern quoted (byte_at t p)))
       ])
 
-  element_pair : (at prefix : ℕ) (f : Found) → Pair (element_of true f t at prefix) (element_of false f t at prefix)
-  element_pair at prefix Nothing = literal_pair at false
-  element_pair at prefix (Pattern k n) = no_letter_lem _ _ false refl
+  element_pair : (at prefix : ℕ) (f : Option Found) → Pair (element_of true f t at prefix) (element_of false f t at prefix)
+  element_pair at prefix None = literal_pair at false
+  element_pair at prefix (Some f) = no_letter_lem _ _ false refl
 
   plain_pair : (at : ℕ) → Pair (plain_at true t at) (plain_at false t at)
   unfolding plain_at
@@ -102,7 +102,7 @@ module _ (t : List ℕ) where
     unfolding step_at plain_at
     mark_step true = mark_literal true
     mark_step false =
-        let none : pattern_at t at ≡ Nothing = none_outside t at (λ j h q. omega (arith, (head_range j h).1, wide, q)) in
+        let none : pattern_at t at ≡ None = none_outside t at (λ j h q. omega (arith, (head_range j h).1, wide, q)) in
         rw (wide_affix at wide, add-zero at, lt-ltb at (length t) (omega (arith, mark_there t at e)), none) (mark_literal false)
 
   -- fuel that is enough gives the same nodes

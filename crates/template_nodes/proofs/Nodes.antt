@@ -11,22 +11,19 @@ use borrow.Author.Tests.{ltb-true}
 use lib.Bits.{bit_or, or_lt}
 use lib.Dec.{eqb, ltb}
 use lib.ListN.{length, length-append}
+use Rattle.std.specs.Prelude.{Option, None, Some}
 use Rattle.base_notation.specs.Text.{byte_at}
 use Rattle.base_notation.proofs.Cases.{both, by_if}
 use Rattle.base_notation.proofs.Table.{all_from}
 use Rattle.template_patterns.specs.Affixes.{Affix, affixes, affix_length, bit_at, bit_from}
 use Rattle.template_patterns.specs.Search.{matches_at, pattern_at}
 use Rattle.template_patterns.specs.declared.Found.{Found}
-use Rattle.template_patterns.specs.declared.Found.TheVariants.{Pattern, Nothing}
 use Rattle.template_nodes.specs.Bytes.{mode_bit}
-use Rattle.template_nodes.specs.Template.{element_of, end_node, in_mode, literal, literal_at, made_by, nodes_by, nodes_from, nodes_of, pattern, plain_at, quote, skip, step_at}
+use Rattle.template_nodes.specs.Template.{element_of, in_list, in_mode, literal, literal_at, made_by, nodes_by, nodes_from, nodes_of, pattern, plain_at, quote, skip, step_at}
 use Rattle.template_nodes.specs.declared.Node.{Node}
 use Rattle.template_nodes.specs.declared.Step.{Step}
 use Rattle.template_nodes.proofs.Encoding.{All, Small}
-
--- a step makes one node at most
-made_one : (s : Step) → length (made_by s) ≤ 1
-made_one s = by_if (λ (l : List Node). length l ≤ 1) s.made (s.node ∷ []) [] (λ e. omega arith) (λ e. omega arith)
+use Rattle.template_nodes.proofs.Steps.{made_one}
 
 at_most : (accents : Bool) (fuel : ℕ) (t : List ℕ) (at : ℕ) (quoted : Bool) → length (nodes_from accents fuel t at quoted) ≤ fuel
 unfolding nodes_from
@@ -35,7 +32,7 @@ at_most accents (suc fuel) t at quoted =
     let s = step_at accents t at quoted in
     let rest = nodes_from accents fuel t s.next s.quoted in
     by_if (λ (l : List Node). length l ≤ suc fuel) (ltb at (length t)) (made_by s ++ rest) []
-    (λ e. omega (arith, length-append (made_by s) rest, made_one s, at_most accents fuel t s.next s.quoted))
+    (λ e. omega (arith, length-append (made_by s) rest, made_one s.made, at_most accents fuel t s.next s.quoted))
     (λ e. omega arith)
 
 module _ (accents : Bool) (t : List ℕ) where
@@ -57,42 +54,44 @@ unfolding bit_at
 bit_small wanted t at = bits_small wanted t at 0 affixes refl
 
 -- what holds of the node of every step holds of every node
-module _ (accents : Bool) (t : List ℕ) (P : Node → Type 0) (step : (at : ℕ) (quoted : Bool) → P (step_at accents t at quoted).node) where
-  made : (s : Step) → P s.node → (ns : List Node) → All P ns → All P (made_by s ++ ns)
-  made s h ns rest = by_if (λ (l : List Node). All P (l ++ ns)) s.made (s.node ∷ []) [] (λ e. (h, rest)) (λ e. rest)
+module _ (accents : Bool) (t : List ℕ) (P : Node → Type 0) (step : (at : ℕ) (quoted : Bool) → All P (made_by (step_at accents t at quoted))) where
+  made : (o : Option Node) → All P (in_list o) → (ns : List Node) → All P ns → All P (in_list o ++ ns)
+  made (Some n) h ns rest = (h.0, rest)
+  made None h ns rest = rest
 
   each_from : (fuel at : ℕ) (quoted : Bool) → All P (nodes_from accents fuel t at quoted)
   unfolding nodes_from
   each_from zero at quoted = tt
   each_from (suc fuel) at quoted =
       let s = step_at accents t at quoted in
-      by_if (All P) (ltb at (length t)) _ [] (λ e. made s (step at quoted) _ (each_from fuel s.next s.quoted)) (λ e. tt)
+      by_if (All P) (ltb at (length t)) _ [] (λ e. made s.made (step at quoted) _ (each_from fuel s.next s.quoted)) (λ e. tt)
 
   each_node : All P (nodes_by accents t)
   unfolding nodes_by
   each_node = each_from (length t) 0 false
 
--- the node of a step: an end, a literal or a pattern with the bits of its affixes
-module _ (accents : Bool) (t : List ℕ) (P : Node → Type 0) (of_end : P end_node) (of_literal : (kind at n : ℕ) → P (in_mode accents (literal kind at n)))
+-- the node of a step: a literal, or a pattern with the bits of its affixes
+module _ (accents : Bool) (t : List ℕ) (P : Node → Type 0) (of_literal : (kind at n : ℕ) → P (in_mode accents (literal kind at n)))
     (of_pattern : (at n k prefix suffix : ℕ) → prefix < mode_bit → suffix < mode_bit → P (in_mode accents (pattern at n k (bit_or prefix suffix)))) where
   abbrev Holds : Step → Type 0
-  Holds s = P s.node
+  Holds s = All P (made_by s)
 
   literal_holds : (at : ℕ) (quoted : Bool) → Holds (literal_at accents t at quoted)
   unfolding literal_at
   literal_holds at quoted =
-      by_if Holds (eqb (byte_at t at) quote) (skip (at + 1) (not quoted)) _ (λ e. of_end) (λ e. of_literal _ _ _)
+      by_if Holds (eqb (byte_at t at) quote) (skip (at + 1) (not quoted)) _ (λ e. tt) (λ e. (of_literal _ _ _, tt))
 
-  element_holds : (at prefix : ℕ) (f : Found) → prefix < mode_bit → Holds (element_of accents f t at prefix)
-  element_holds at prefix Nothing h = literal_holds at false
-  element_holds at prefix (Pattern k n) h = of_pattern at n k prefix (bit_at false t (at + n)) h (bit_small false t (at + n))
+  element_holds : (at prefix : ℕ) (f : Option Found) → prefix < mode_bit → Holds (element_of accents f t at prefix)
+  element_holds at prefix None h = literal_holds at false
+  element_holds at prefix (Some f) h =
+      (of_pattern at f.len f.number prefix (bit_at false t (at + f.len)) h (bit_small false t (at + f.len)), tt)
 
   plain_holds : (at : ℕ) → Holds (plain_at accents t at)
   unfolding plain_at
   plain_holds at =
       let start = at + affix_length (bit_at true t at) in
       by_if Holds (ltb start (length t)) _ (skip start false)
-      (λ e. element_holds start (bit_at true t at) (pattern_at t start) (bit_small true t at)) (λ e. of_end)
+      (λ e. element_holds start (bit_at true t at) (pattern_at t start) (bit_small true t at)) (λ e. tt)
 
   step_holds : (at : ℕ) (quoted : Bool) → Holds (step_at accents t at quoted)
   unfolding step_at
@@ -104,8 +103,8 @@ module _ (accents : Bool) (t : List ℕ) (P : Node → Type 0) (of_end : P end_n
 
 pub small_nodes : (accents : Bool) (t : List ℕ) → Small (nodes_by accents t)
 small_nodes accents t =
-    by_step accents t (λ (n : Node). n.suffix < mode_bit) (omega arith) (λ kind at n. omega arith)
+    by_step accents t (λ (n : Node). n.suffix < mode_bit) (λ kind at n. omega arith)
     (λ at n k prefix suffix p q. or_lt 7 prefix suffix p q)
 
 pub plain_nodes : (t : List ℕ) → All (λ (n : Node). n.accents ≡ false) (nodes_of t)
-plain_nodes t = by_step false t (λ (n : Node). n.accents ≡ false) refl (λ kind at n. refl) (λ at n k prefix suffix p q. refl)
+plain_nodes t = by_step false t (λ (n : Node). n.accents ≡ false) (λ kind at n. refl) (λ at n k prefix suffix p q. refl)

@@ -4,25 +4,24 @@
 -- `quote_step`: a quote is a step that makes no node, in quotes and outside.
 use mathlib.Core.Path.{◌≡◌, ◌∙◌, refl, sym, ap}
 use mathlib.Core.Bool.{Bool, true, false, not, ◌&&◌, ◌||◌, false≢true}
-use mathlib.Core.List.{List, [], ◌∷◌}
+use mathlib.Core.List.{List, []}
 use Prim.Native.Nat.{ℕ, ◌+◌, ◌<◌, ◌≤◌}
 use native.Mathlib.Nat.{add-zero}
 use native.Mathlib.Omega.{arith}
 use borrow.Author.Tests.{eqb-true, le-ltb, lt-ltb, ltb-true, ltb-false, ne_eqb, not-true}
 use lib.Dec.{eqb, leb, ltb}
 use lib.ListN.{length, replicate}
+use Rattle.std.specs.Prelude.{None}
 use Rattle.base_notation.proofs.Table.{all_from, entry}
 use Rattle.base_notation.specs.Choice.{when◌then◌else◌}
 use Rattle.base_notation.specs.Text.{byte_at}
-use Rattle.base_accents.specs.Accents.{measure_of}
 use Rattle.base_accents.proofs.Measures.{plain_one}
-use Rattle.base_chars.specs.Class.{class_of, is_letter, is_separator, is_space}
+use Rattle.base_chars.specs.Class.{class_of, is_letter}
 use Rattle.base_chars.specs.Sets.{in_set}
 use Rattle.base_chars.proofs.Sets.{set_is}
 use Rattle.template_patterns.specs.Affixes.{bit_at}
 use Rattle.template_patterns.specs.Patterns.{names}
 use Rattle.template_patterns.specs.Search.{pattern_at}
-use Rattle.template_patterns.specs.declared.Found.TheVariants.{Nothing}
 use Rattle.template_patterns.proofs.Names.{head, name_is}
 use Rattle.template_patterns.proofs.Search.{none_outside}
 use Rattle.template_nodes.specs.Template.{char_place, in_mode, is_single, kind_of, literal, literal_at, make, plain_at, separator, skip, space, step_at}
@@ -81,7 +80,7 @@ no_prefix t at e =
     simp (another 70 refl, another 102 refl, another 84 refl, another 116 refl)
 
 -- no pattern is where no letter is
-no_pattern : (t : List ℕ) (at : ℕ) → is_letter (byte_at t at) ≡ false → pattern_at t at ≡ Nothing
+no_pattern : (t : List ℕ) (at : ℕ) → is_letter (byte_at t at) ≡ false → pattern_at t at ≡ None
 no_pattern t at e = none_outside t at (λ j k q. false≢true (sym e ∙ ap is_letter (sym q) ∙ head_letter j k))
 
 module _ (accents : Bool) (t : List ℕ) (at : ℕ) (h : at < length t) where

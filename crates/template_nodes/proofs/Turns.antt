@@ -6,20 +6,22 @@
 -- `plain_step`, `in_quotes`: a plain character in quotes is a step, which stays in quotes. Assumes nothing.
 use mathlib.Core.Path.{◌≡◌, ◌∙◌, refl, sym, ap}
 use mathlib.Core.Bool.{Bool, true, false, not, false≢true}
-use mathlib.Core.List.{List, [], ◌∷◌, ◌++◌, append_assoc, append-nil}
+use mathlib.Core.List.{List, [], ◌++◌, append_assoc, append-nil}
 use Prim.Native.Nat.{ℕ, zero, suc, ◌+◌, ◌*◌, ◌<◌, ◌≤◌}
 use native.Mathlib.Omega.{arith}
 use borrow.Author.Tests.{lt-ltb, le-ltb, not-true}
 use lib.Dec.{eqb}
 use lib.ListN.{length, drop, length-append}
 use lib.Seq.{sets}
+use Rattle.std.specs.Prelude.{Option, None, Some}
 use Rattle.base_notation.specs.Text.{byte_at}
-use Rattle.base_notation.proofs.Cases.{both, by_if}
+use Rattle.base_notation.proofs.Cases.{both}
 use Rattle.template_nodes.specs.Bytes.{Parsed, Put, bytes_of, encoded}
 use Rattle.template_nodes.specs.Template.{character, char_at, char_place, is_quoted_char, literal_at, step_at, made_by, nodes_by, nodes_from}
 use Rattle.template_nodes.specs.declared.Node.{Node}
 use Rattle.template_nodes.specs.declared.Step.{Step}
 use Rattle.template_nodes.proofs.Encoding.{put_after}
+use Rattle.template_nodes.proofs.Steps.{made_one}
 
 -- n nodes are done, and the fuel that is left is enough for the rest
 pub record Read (accents : Bool) (t before after : List ℕ) (n at : ℕ) (quoted : Bool) : Type 0 where
@@ -36,7 +38,7 @@ begun accents t before = record { fuel = length t; done = []; enough = omega ari
 
 -- a step puts one node at most
 pub put_one : (s : Step) (before after : List ℕ) (i r : ℕ) → Put s before after i r → r ≤ i + 1
-put_one s before after i r put = rw put.count (by_if (λ (n : ℕ). n ≤ i + 1) s.made (i + 1) i (λ e. omega arith) (λ e. omega arith))
+put_one s before after i r put = omega (arith, put.count, made_one s.made)
 
 -- at the end nothing is left
 pub after_end : (accents : Bool) (t : List ℕ) (fuel at : ℕ) (quoted : Bool) → length t ≤ at → nodes_from accents fuel t at quoted ≡ []
@@ -86,13 +88,13 @@ module _ (accents : Bool) (t before : List ℕ) (n at : ℕ) (quoted : Bool) (s 
       }
 
   module _ {after : List ℕ} (r : Read accents t before after n at quoted) where
-    pub kept : 6 * n + 6 ≤ length before → s.made ≡ true → Read accents t before (sets after (6 * n) (bytes_of s.node)) (n + 1) s.next s.quoted
-    kept room m =
-        turn r.fuel r.done r.enough r.whole (sets after (6 * n) (bytes_of s.node)) (n + 1)
+    pub kept : 6 * n + 6 ≤ length before → (node : Node) → s.made ≡ Some node → Read accents t before (sets after (6 * n) (bytes_of node)) (n + 1) s.next s.quoted
+    kept room node m =
+        turn r.fuel r.done r.enough r.whole (sets after (6 * n) (bytes_of node)) (n + 1)
         (rw (m, length-append) (omega (arith, r.size)))
-        (rw (r.stored, m) (put_after r.done before s.node n r.size room))
+        (rw (r.stored, m) (put_after r.done before node n r.size room))
 
-    pub passed : s.made ≡ false → Read accents t before after n s.next s.quoted
+    pub passed : s.made ≡ None → Read accents t before after n s.next s.quoted
     passed m =
         turn r.fuel r.done r.enough r.whole after n (rw (m, append-nil) r.size) (rw (m, append-nil) r.stored)
 
@@ -100,6 +102,8 @@ module _ (accents : Bool) (t before : List ℕ) (n at : ℕ) (quoted : Bool) (s 
     pub turned : 6 * n + 6 ≤ length before → (out : List ℕ) (m : ℕ) → Put s after out n m → Read accents t before out m s.next s.quoted
     turned room out m put = split s.made refl
       where
-        split : (q : Bool) → s.made ≡ q → Read accents t before out m s.next s.quoted
-        split true q = rw (put.is, put.count, q) (kept room q)
-        split false q = rw (put.is, put.count, q) (passed q)
+        split : (o : Option Node) → s.made ≡ o → Read accents t before out m s.next s.quoted
+        split (Some node) q = rw (put.is, put.count, q) (kept room node q)
+        split None q =
+            let same : n + 0 ≡ n = omega arith in
+            rw (put.is, put.count, q, same) (passed q)

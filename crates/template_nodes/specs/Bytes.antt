@@ -1,9 +1,9 @@
 -- Nodes as bytes: a compiled template is lent as the bytes of its nodes, six each.
-use Rattle.std.specs.Prelude.{◌≡◌, refl, true, List, [], ◌∷◌, ◌++◌, ℕ, zero, suc, ◌+◌, ◌*◌, ◌/◌, ◌%◌, ◌≤◌, leb, length, drop}
+use Rattle.std.specs.Prelude.{◌≡◌, refl, true, List, [], ◌∷◌, ◌++◌, ℕ, zero, suc, ◌+◌, ◌*◌, ◌/◌, ◌%◌, ◌≤◌, leb, length, drop, Option, None, Some}
 use Rattle.std.proofs.lemmas.List.Edits.{sets}
 use Rattle.base_notation.specs.Choice.{when◌then◌else◌}
 use Rattle.base_notation.specs.Text.{byte_at}
-use Rattle.template_nodes.specs.Template.{character, in_mode, literal, pattern}
+use Rattle.template_nodes.specs.Template.{character, in_mode, literal, made_by, pattern}
 use Rattle.template_nodes.specs.declared.Node.{Node}
 use Rattle.template_nodes.specs.declared.Step.{Step}
 
@@ -48,10 +48,15 @@ pub record Parsed (ns : List Node) (before after : List ℕ) (r : ℕ) : Type 0 
   pub count : r ≡ length ns
   pub few : r ≤ 256
 
+-- the buffer with a node put as number i, if there is one
+abbrev pub with_node : Option Node → List ℕ → ℕ → List ℕ
+with_node (Some n) before i = sets before (6 * i) (bytes_of n)
+with_node None before i = before
+
 -- the buffer with the node of a step put as number i, if the step made one; r is how many nodes there are then
 pub record Put (s : Step) (before after : List ℕ) (i r : ℕ) : Type 0 where
-  pub is : after ≡ (when s.made then sets before (6 * i) (bytes_of s.node) else before)
-  pub count : r ≡ (when s.made then i + 1 else i)
+  pub is : after ≡ with_node s.made before i
+  pub count : r ≡ i + length (made_by s)
 
 -- two nodes, and five bytes over
 pub worked : nodes_in (encoded (pattern 0 4 54 1 ∷ literal character 200 2 ∷ []) ++ 7 ∷ 7 ∷ 7 ∷ 7 ∷ 7 ∷ []) ≡ pattern 0 4 54 1 ∷ literal character 200 2 ∷ []

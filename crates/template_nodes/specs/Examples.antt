@@ -1,5 +1,5 @@
 -- Worked examples: templates and their nodes.
-use Rattle.std.specs.Prelude.{◌≡◌, refl, List, [], ◌∷◌, ℕ}
+use Rattle.std.specs.Prelude.{◌≡◌, refl, [], ◌∷◌, ℕ}
 use Rattle.base_notation.specs.Text.{utf8}
 use Rattle.base_accents.specs.Accents.{measure_computes}
 use Rattle.template_patterns.specs.Affixes.{bit_at}

@@ -1,6 +1,6 @@
 -- The nodes of a template, as parse_format of formatting.c makes them; in the accents mode a letter with its accents is
 -- one character. Every node says in which mode it was made.
-use Rattle.std.specs.Prelude.{◌≡◌, Bool, true, false, not, ◌&&◌, ◌||◌, List, [], ◌∷◌, ◌++◌, ℕ, zero, suc, ◌+◌, ◌<◌, ◌≤◌, eqb, ltb, length}
+use Rattle.std.specs.Prelude.{◌≡◌, Bool, true, false, not, ◌&&◌, ◌||◌, List, [], ◌∷◌, ◌++◌, ℕ, zero, suc, ◌+◌, ◌<◌, ◌≤◌, eqb, ltb, length, Option, None, Some}
 use Prim.Native.Char.{code}
 use Rattle.std.specs.Int.Bits.{bit_or}
 use Rattle.base_notation.specs.Choice.{when◌then◌else◌}
@@ -10,7 +10,6 @@ use Rattle.base_accents.specs.Accents.{measure_of}
 use Rattle.template_patterns.specs.Affixes.{bit_at, affix_length}
 use Rattle.template_patterns.specs.Search.{pattern_at}
 use Rattle.template_patterns.specs.declared.Found.{Found}
-use Rattle.template_patterns.specs.declared.Found.TheVariants.{Pattern, Nothing}
 use Rattle.template_nodes.specs.declared.Node.{Node}
 use Rattle.template_nodes.specs.declared.Step.{Step}
 
@@ -60,10 +59,10 @@ end_node = literal end 0 0
 
 -- a step that makes no node, and one that makes a node
 abbrev pub skip : ℕ → Bool → Step
-skip next quoted = record { made = false; node = end_node; next = next; quoted = quoted }
+skip next quoted = record { made = None; next = next; quoted = quoted }
 
 abbrev pub make : Node → ℕ → Bool → Step
-make node next quoted = record { made = true; node = node; next = next; quoted = quoted }
+make node next quoted = record { made = Some node; next = next; quoted = quoted }
 
 -- one character as a node
 abbrev pub char_at : Bool → List ℕ → ℕ → ℕ → Bool → Step
@@ -101,15 +100,15 @@ literal_at accents t at quoted =
     else let place = char_place t at quoted in char_at accents t place (when quoted then character else kind_of (byte_at t place)) quoted
 
 -- a pattern's name at a place, and the suffix after it
-abbrev pub action_at : Bool → List ℕ → ℕ → ℕ → ℕ → ℕ → Step
-action_at accents t at prefix number len =
-    let suffix = bit_at false t (at + len) in
-    make (in_mode accents (pattern at len number (bit_or prefix suffix))) (at + len + affix_length suffix) false
+abbrev pub action_at : Bool → List ℕ → ℕ → ℕ → Found → Step
+action_at accents t at prefix found =
+    let suffix = bit_at false t (at + found.len) in
+    make (in_mode accents (pattern at found.len found.number (bit_or prefix suffix))) (at + found.len + affix_length suffix) false
 
 -- a pattern, or a literal: the prefix before a literal is dropped
-abbrev pub element_of : Bool → Found → List ℕ → ℕ → ℕ → Step
-element_of accents (Pattern number len) t at prefix = action_at accents t at prefix number len
-element_of accents Nothing t at prefix = literal_at accents t at false
+abbrev pub element_of : Bool → Option Found → List ℕ → ℕ → ℕ → Step
+element_of accents (Some found) t at prefix = action_at accents t at prefix found
+element_of accents None t at prefix = literal_at accents t at false
 
 abbrev pub element_at : Bool → List ℕ → ℕ → ℕ → Step
 element_at accents t at prefix = element_of accents (pattern_at t at) t at prefix
@@ -129,8 +128,13 @@ pub record Stepped (at : ℕ) (s r : Step) : Type 0 where
   pub is : r ≡ s
   pub on : at < r.next
 
+-- the node, if there is one
+abbrev pub in_list : Option Node → List Node
+in_list (Some n) = n ∷ []
+in_list None = []
+
 abbrev pub made_by : Step → List Node
-made_by s = when s.made then s.node ∷ [] else []
+made_by s = in_list s.made
 
 -- the nodes from a place on, in at most fuel steps
 unfoldable pub nodes_from : Bool → ℕ → List ℕ → ℕ → Bool → List Node

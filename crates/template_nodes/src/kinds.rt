@@ -6,6 +6,7 @@ ghost use Rattle.template_nodes.specs.Template.{character, is_single, kind_of};
 
 use crate::{FN_CHAR, FN_SEPARATOR, FN_SPACE};
 
+#[tactic(auto, unfolding(crate::specs::Template::kind_of))]
 pub fn kind_of(b: u8) -> u8
     ensures { result ≡ kind_of b }
 {
@@ -30,6 +31,7 @@ pub fn literal_kind(quoted: bool, b: u8) -> u8
 
 // Whether a byte outside quotes is a space, or a separator but for a quote, and so a node by itself. Only bytes below
 // 64 are asked for: letters begin at 65.
+#[tactic(auto, using(crate::proofs::Singles::singles))]
 pub fn is_single(t: &[u8], at: usize, quoted: bool) -> bool
     requires { at < length t.now }
     ensures { result ≡ (not quoted && is_single (byte_at t.now at)) }
@@ -41,6 +43,7 @@ pub fn is_single(t: &[u8], at: usize, quoted: bool) -> bool
 }
 
 // The kind of such a byte: the spaces come before the separators.
+#[tactic(auto, using(crate::proofs::Singles::single_kind))]
 pub fn single_kind(b: u8) -> u8
     requires { is_single b ≡ true }
     ensures { result ≡ kind_of b }

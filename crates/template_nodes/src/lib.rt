@@ -9,7 +9,7 @@ ghost use Rattle.base_notation.specs.Choice.{when◌then◌else◌};
 ghost use Rattle.std.proofs.lemmas.List.Edits.{sets};
 ghost use Rattle.template_patterns.specs.Affixes.{affix_length};
 ghost use Rattle.template_patterns.specs.Search.{pattern_at};
-ghost use Rattle.template_nodes.specs.Template.{Placed, Stepped, char_at, end_node, in_mode, is_quoted_char, literal, literal_at, nodes_by, skip};
+ghost use Rattle.template_nodes.specs.Template.{Placed, Stepped, char_at, end_node, in_mode, is_quoted_char, literal, literal_at, nodes_by, pattern, skip};
 ghost use Rattle.template_nodes.specs.Elements.{Made, Rested, element_from, element_in, named_at, nowhere, rest_at};
 ghost use Rattle.template_nodes.specs.Bytes.{Parsed, Put, bytes_of, mode_bit, nodes_in};
 
@@ -39,6 +39,16 @@ pub struct Node {
     pub accents: bool,
 }
 
+// What comes after the last node.
+const END: Node = Node {
+    len: 0,
+    start: 0,
+    kind: FN_END,
+    pattern: 0,
+    suffix: 0,
+    accents: false,
+};
+
 // The bit of the accents mode in the last byte of a node, above those of prefixes and suffixes.
 const MODE: u8 = 128;
 
@@ -50,8 +60,7 @@ pub const NODES: usize = 1536;
 // One step through a template: the node that it made, if any, where it ended, and whether it ended in quotes.
 #[derive(Clone, Copy)]
 pub struct Step {
-    pub made: bool,
-    pub node: Node,
+    pub made: Option<Node>,
     pub next: usize,
     pub quoted: bool,
 }
@@ -59,19 +68,25 @@ pub struct Step {
 fn skipped(next: usize, quoted: bool) -> Step
     ensures { result ≡ skip next quoted }
 {
-    let node = Node {
-        start: 0,
-        len: 0,
-        kind: FN_END,
-        pattern: 0,
-        suffix: 0,
-        accents: false,
-    };
     Step {
-        made: false,
-        node,
+        made: None,
         next,
         quoted,
+    }
+}
+
+// The node of a literal.
+fn literal(accents: bool, start: usize, len: usize, kind: u8) -> Node
+    requires { (start < 256) × (len ≤ 256) }
+    ensures { result ≡ in_mode accents (literal kind start len) }
+{
+    Node {
+        start: start as u8,
+        len: len as u16,
+        kind,
+        pattern: 0,
+        suffix: 0,
+        accents,
     }
 }
 
@@ -81,17 +96,9 @@ fn char_at(accents: bool, t: &[u8], at: usize, kind: u8, quoted: bool) -> Step
     ensures { Stepped at (char_at accents t.now at kind quoted) result }
 {
     let n = base_accents::measure_usual(t, at, accents);
-    let node = Node {
-        start: at as u8,
-        len: n as u16,
-        kind,
-        pattern: 0,
-        suffix: 0,
-        accents,
-    };
+    let node = literal(accents, at, n, kind);
     Step {
-        made: true,
-        node,
+        made: Some(node),
         next: at + n,
         quoted,
     }
@@ -99,6 +106,7 @@ fn char_at(accents: bool, t: &[u8], at: usize, kind: u8, quoted: bool) -> Step
 
 // Where the literal character is: after a backslash, unless the backslash is the character itself. In quotes it is
 // that as the last byte, outside quotes everywhere but before a quote.
+#[tactic(auto, unfolding(crate::specs::Template::char_place), using(base_notation::proofs::Bytes::byte_within))]
 fn char_place(t: &[u8], at: usize, quoted: bool) -> usize
     requires { at < length t.now }
     ensures { Placed t.now at quoted result }
@@ -119,6 +127,7 @@ fn char_place(t: &[u8], at: usize, quoted: bool) -> usize
 }
 
 // A quote, or one literal character.
+#[tactic(auto, using(crate::proofs::Steps::at_quote, crate::proofs::Steps::at_literal))]
 fn literal_step(accents: bool, t: &[u8], at: usize, quoted: bool) -> Step
     requires { (at < length t.now) × (length t.now ≤ 256) }
     ensures { Stepped at (literal_at accents t.now at quoted) result }
@@ -143,15 +152,20 @@ fn past_affix(at: usize, bit: u8) -> usize
     if bit == 0 { at } else { at + 2 }
 }
 
-// What is outside quotes at a place: a pattern with the bits of its prefix and suffix, and where what comes after it
-// is; or, where none is found, the place of the literal, after a prefix that is dropped.
+// A pattern in a template: where its name is, its number in the table, and the bits of its prefix and suffix.
 #[derive(Clone, Copy)]
-pub struct Element {
-    pub found: bool,
+pub struct Pattern {
     pub start: u8,
     pub len: u16,
     pub number: u8,
     pub bits: u8,
+}
+
+// What is outside quotes at a place: a pattern, and where what comes after it is; or, where none is found, the place of
+// the literal, after a prefix that is dropped.
+#[derive(Clone, Copy)]
+pub struct Element {
+    pub pattern: Option<Pattern>,
     pub next: usize,
 }
 
@@ -159,39 +173,53 @@ fn no_pattern(next: usize) -> Element
     ensures { result ≡ nowhere next }
 {
     Element {
-        found: false,
-        start: 0,
-        len: 0,
-        number: 0,
-        bits: 0,
+        pattern: None,
         next,
     }
 }
 
 // A pattern whose name is at a place, and the suffix after it.
-fn named(t: &[u8], at: usize, prefix: u8, number: usize, len: usize) -> Element
-    requires { (at ≤ 255) × (number < 112) × (1 ≤ len) × (len ≤ 5) }
-    ensures { Made at (named_at t.now at prefix number len) result }
+fn named(t: &[u8], at: usize, prefix: u8, found: Found) -> Element
+    requires { (at ≤ 255) × (found.number < 112) × (1 ≤ found.len) × (found.len ≤ 5) }
+    ensures { Made at (named_at t.now at prefix found) result }
 {
-    let suffix = template_patterns::fmt_suffix_search(t, at + len, false);
-    Element {
-        found: true,
+    let end = at + found.len;
+    let suffix = template_patterns::fmt_suffix_search(t, end, false);
+    let pattern = Pattern {
         start: at as u8,
-        len: len as u16,
-        number: number as u8,
+        len: found.len as u16,
+        number: found.number as u8,
         bits: prefix | suffix,
-        next: past_affix(at + len, suffix),
+    };
+    Element {
+        pattern: Some(pattern),
+        next: past_affix(end, suffix),
+    }
+}
+
+// The node of a pattern.
+fn action(accents: bool, p: Pattern) -> Node
+    ensures { result ≡ in_mode accents (pattern p.start p.len p.number p.bits) }
+{
+    Node {
+        start: p.start,
+        len: p.len,
+        kind: FN_ACTION,
+        pattern: p.number,
+        suffix: p.bits,
+        accents,
     }
 }
 
 // A pattern, or none, after a prefix.
+#[tactic(auto, using(template_patterns::proofs::Search::found_range))]
 fn element_after(t: &[u8], at: usize, prefix: u8) -> Element
     requires { (at < length t.now) × (length t.now ≤ 256) }
     ensures { Made at (element_in (pattern_at t.now at) t.now at prefix) result }
 {
     match template_patterns::fmt_index_search(t, at) {
-        Found::Pattern { number, len } => named(t, at, prefix, number, len),
-        Found::Nothing => no_pattern(at),
+        Some(found) => named(t, at, prefix, found),
+        None => no_pattern(at),
     }
 }
 
@@ -227,13 +255,7 @@ fn is_quoted_char(t: &[u8], at: usize, quoted: bool) -> bool
     requires { at < length t.now }
     ensures { result ≡ is_quoted_char t.now at quoted }
 {
-    if !quoted {
-        return false;
-    }
-    if t[at] == b'"' {
-        return false;
-    }
-    t[at] != b'\\'
+    quoted && t[at] != b'"' && t[at] != b'\\'
 }
 
 // The last byte of a node: the bits of its prefix and suffix, and that of its mode.
@@ -245,33 +267,18 @@ fn last_byte(suffix: u8, accents: bool) -> u8
 }
 
 // Puts the six bytes of a node into the array of nodes.
-fn put_bytes(out: &mut [u8], i: usize, start: u8, len: u16, kind: u8, pattern: u8, last: u8)
+fn put_node(out: &mut [u8], i: usize, node: Node)
     requires { 6 * i + 6 ≤ length out.old }
-    ensures { out.new ≡ sets out.old (6 * i) (start ∷ len / 256 ∷ len % 256 ∷ kind ∷ pattern ∷ last ∷ []) }
+    ensures { out.new ≡ sets out.old (6 * i) (bytes_of node) }
 {
     let at = NODE * i;
-    out[at] = start;
-    out[at + 1] = (len / 256) as u8;
-    out[at + 2] = (len % 256) as u8;
-    out[at + 3] = kind;
-    out[at + 4] = pattern;
-    out[at + 5] = last;
-}
-
-// Puts the node of a literal.
-fn put_literal(accents: bool, out: &mut [u8], i: usize, start: usize, len: usize, kind: u8)
-    requires { (6 * i + 6 ≤ length out.old) × (start < 256) × (len ≤ 256) }
-    ensures { out.new ≡ sets out.old (6 * i) (bytes_of (in_mode accents (literal kind start len))) }
-{
-    put_bytes(
-        out,
-        i,
-        start as u8,
-        len as u16,
-        kind,
-        0,
-        last_byte(0, accents),
-    );
+    let [high, low] = node.len.to_be_bytes();
+    out[at] = node.start;
+    out[at + 1] = high;
+    out[at + 2] = low;
+    out[at + 3] = node.kind;
+    out[at + 4] = node.pattern;
+    out[at + 5] = last_byte(node.suffix, node.accents);
 }
 
 // Puts the node of a step, if it made one. The result is how many nodes there are then.
@@ -279,10 +286,8 @@ fn put_made(out: &mut [u8], i: usize, s: Step) -> usize
     requires { (6 * i + 6 ≤ length out.old) × (i ≤ 256) }
     ensures { Put s out.old out.new i result }
 {
-    if s.made {
-        let node = s.node;
-        let last = last_byte(node.suffix, node.accents);
-        put_bytes(out, i, node.start, node.len, node.kind, node.pattern, last);
+    if let Some(node) = s.made {
+        put_node(out, i, node);
         return i + 1;
     }
     i
@@ -296,21 +301,14 @@ pub fn node_at(c: &[u8], i: usize) -> Node
         let at = NODE * i;
         return Node {
             start: c[at],
-            len: c[at + 1] as u16 * 256 + c[at + 2] as u16,
+            len: u16::from_be_bytes([c[at + 1], c[at + 2]]),
             kind: c[at + 3],
             pattern: c[at + 4],
             suffix: c[at + 5] % MODE,
             accents: MODE <= c[at + 5],
         };
     }
-    Node {
-        start: 0,
-        len: 0,
-        kind: FN_END,
-        pattern: 0,
-        suffix: 0,
-        accents: false,
-    }
+    END
 }
 
 // Puts the bytes of a template's nodes into the buffer; the result is how many nodes they are. `accents` is the mode.
@@ -324,11 +322,11 @@ pub fn parse_format(accents: bool, t: &[u8], out: &mut [u8]) -> usize
     while at < t.len() {
         if is_quoted_char(t, at, quoted) {
             let len = base_accents::measure_usual(t, at, accents);
-            put_literal(accents, out, n, at, len, FN_CHAR);
+            put_node(out, n, literal(accents, at, len, FN_CHAR));
             n += 1;
             at += len;
         } else if kinds::is_single(t, at, quoted) {
-            put_literal(accents, out, n, at, 1, kinds::single_kind(t[at]));
+            put_node(out, n, literal(accents, at, 1, kinds::single_kind(t[at])));
             n += 1;
             at += 1;
         } else if t[at] == b'"' {
@@ -336,9 +334,8 @@ pub fn parse_format(accents: bool, t: &[u8], out: &mut [u8]) -> usize
             quoted = !quoted;
         } else {
             let e = element_at(t, at, quoted);
-            if e.found {
-                let last = last_byte(e.bits, accents);
-                put_bytes(out, n, e.start, e.len, FN_ACTION, e.number, last);
+            if let Some(pattern) = e.pattern {
+                put_node(out, n, action(accents, pattern));
                 n += 1;
                 at = e.next;
             } else {

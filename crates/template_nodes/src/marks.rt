@@ -9,10 +9,7 @@ use crate::{FN_ACTION, NODE, Node, node_at};
 fn is_lone_mark(t: &[u8], n: Node) -> bool
     ensures { result ≡ is_mark t.now n }
 {
-    if n.kind == FN_ACTION {
-        return false;
-    }
-    base_accents::is_mark(t, n.start as usize)
+    n.kind != FN_ACTION && base_accents::is_mark(t, usize::from(n.start))
 }
 
 // Whether a mark counts alone in the template that was compiled to these bytes. Any bytes are taken for nodes.
@@ -20,12 +17,10 @@ pub fn has_lone_mark(c: &[u8], t: &[u8]) -> bool
     ensures { result ≡ has_lone_mark t.now (nodes_in c.now) }
 {
     let count = c.len() / NODE;
-    let mut i = 0;
-    while i < count {
+    for i in 0..count {
         if is_lone_mark(t, node_at(c, i)) {
             return true;
         }
-        i += 1;
     }
     false
 }

@@ -1,7 +1,7 @@
 -- The affix at a place is that of its two letters. Assumes nothing.
 -- `by_letters`: the bit at a place is that of the two letters there. `none_past`: past the end there is none.
 -- `none_below`: no affix begins with a byte below F.
--- `affix_short`: an affix has at most two letters. `affix_there`: its letters are in the text, whole.
+-- `affix_there`: its letters are in the text, whole.
 use mathlib.Core.Path.{◌≡◌, ◌∙◌, refl, sym}
 use mathlib.Core.Bool.{Bool, true, false, and-false}
 use mathlib.Core.List.{List, [], ◌∷◌}
@@ -13,7 +13,6 @@ use lib.Dec.{eqb}
 use lib.ListN.{length, get_or-eq_default}
 use lib.Seq.{drop-cons}
 use Rattle.base_notation.proofs.Bytes.{byte_within}
-use Rattle.base_notation.proofs.Cases.{by_if}
 use Rattle.base_notation.specs.Text.{byte_at}
 use Rattle.template_patterns.specs.Affixes.{affix_length, bit_at}
 use Rattle.template_patterns.proofs.Names.{There}
@@ -36,10 +35,6 @@ pub none_below : (wanted : Bool) (t : List ℕ) (at : ℕ) → byte_at t at < 70
 unfolding bit_at
 none_below true t at h = simp (below _ 70 h (omega arith), below _ 102 h (omega arith), below _ 84 h (omega arith), below _ 116 h (omega arith))
 none_below false t at h = simp (below _ 84 h (omega arith), below _ 116 h (omega arith), below _ 83 h (omega arith))
-
--- an affix has at most two letters
-pub affix_short : (bit : ℕ) → affix_length bit ≤ 2
-affix_short bit = by_if (λ (n : ℕ). n ≤ 2) (eqb bit 0) 0 2 (λ e. omega arith) (λ e. omega arith)
 
 -- an affix has a second letter
 second_letter : (wanted : Bool) (a b : ℕ) → b ≡ 0 → bit_at wanted (a ∷ b ∷ []) 0 ≡ 0

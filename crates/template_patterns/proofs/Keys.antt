@@ -1,24 +1,26 @@
 -- A name and the bytes at a place compared as numbers. Assumes nothing.
 -- `same_parts`: numbers with a lowest byte each are the same exactly if both parts are.
 -- `number_parts`: what the number of a name says: its first byte, how many bits and bytes it has, and its bytes.
+-- `number_in`: the number of a name in a table of them all.
 -- `key_begins`: the lowest bits of the bytes at a place are those of a name exactly if the name is there.
 -- `key_first`: the lowest byte of the bytes at a place is the first.
 -- `no_start`: no name begins with a byte that is none of the first bytes.
-use mathlib.Core.Path.{◌≡◌, refl, ◌∙◌, sym, ap}
+use mathlib.Core.Path.{◌≡◌, refl, ◌∙◌, ap, sym}
 use mathlib.Core.Bool.{Bool, true, false, ◌&&◌, ◌||◌, false≢true}
-use mathlib.Core.List.{List, [], ◌∷◌}
+use mathlib.Core.List.{List, [], ◌∷◌, map}
 use Prim.Native.Nat.{ℕ, zero, suc, ◌+◌, ◌*◌, ◌/◌, ◌%◌, ◌^◌, ◌<◌, ◌≤◌}
 use native.Mathlib.Nat.{mod-one, not-suc-le-zero}
 use native.Mathlib.Omega.{arith}
 use borrow.Author.Tests.{eq-eqb, ne_eqb, eqb-true, eqb-false, ltb-true}
 use lib.Dec.{eqb, ltb}
-use lib.ListN.{length, get_or-eq_default}
+use lib.ListN.{length, get_or, get_or-map}
 use lib.Pow.{mod-pow-add}
 use Rattle.base_notation.proofs.Cases.{both}
 use Rattle.base_notation.proofs.Table.{all_from, entry}
 use Rattle.base_notation.specs.Text.{byte_at, utf8}
+use Rattle.std.specs.Prelude.{None}
 use Rattle.template_patterns.specs.Numbers.{five_at, name_number, number_of, packed}
-use Rattle.template_patterns.specs.Patterns.{names, name_of, pattern_of, patterns}
+use Rattle.template_patterns.specs.Patterns.{names, name_of}
 use Rattle.template_patterns.specs.Search.{first_with, matches_at, start_of}
 use Rattle.template_patterns.proofs.Names.{head, name_is, name_length}
 
@@ -62,10 +64,11 @@ number_parts k h =
       bytes = after_size.1;
     }
 
--- past the table a name has no bytes
-pub past_numbers : (k : ℕ) → 112 ≤ k → name_number k ≡ 0
+-- the number of a name in a table of them all
+pub number_in : (table : List ℕ) → table ≡ map number_of names → (k : ℕ) → get_or table k 0 ≡ name_number k
 unfolding name_number
-past_numbers k h = rw (get_or-eq_default patterns (pattern_of 112) h)
+number_in table e k =
+    ap (λ (l : List ℕ). get_or l k 0) e ∙ get_or-map number_of names k [] ∙ ap number_of (name_is k)
 
 -- c is none of some bytes, as a match says of its last arm
 abbrev pub NoneOf : ℕ → List ℕ → Type 0
@@ -85,13 +88,13 @@ another c (b ∷ bs) none n e = split (eqb n b) refl (another c bs none.0 n)
     split false q rest = rest (rw q at e)
 
 -- then no name begins with it
-none_from : (c k : ℕ) (ns : List (List ℕ)) → NoneOf c first_bytes → all_from (λ (j : ℕ) (n : List ℕ). elem (byte_at n 0) first_bytes) k ns ≡ true → first_with k c ns ≡ k + length ns
-none_from c k [] none e = omega arith
+none_from : (c k : ℕ) (ns : List (List ℕ)) → NoneOf c first_bytes → all_from (λ (j : ℕ) (n : List ℕ). elem (byte_at n 0) first_bytes) k ns ≡ true → first_with k c ns ≡ None
+none_from c k [] none e = refl
 none_from c k (n ∷ ns) none e =
     let tests = both (elem (byte_at n 0) first_bytes) _ e in
-    rw (another c first_bytes none (byte_at n 0) tests.0) (none_from c (suc k) ns none tests.1 ∙ omega arith)
+    rw (another c first_bytes none (byte_at n 0) tests.0) (none_from c (suc k) ns none tests.1)
 
-pub no_start : (c : ℕ) → NoneOf c first_bytes → start_of c ≡ 112
+pub no_start : (c : ℕ) → NoneOf c first_bytes → start_of c ≡ None
 unfolding start_of
 no_start c none = none_from c 0 names none refl
 

@@ -3,11 +3,10 @@
 -- `at_letter`, `at_space`: a byte of a name's row is the name's, or a space past it.
 -- `matches_not`: a name is not at a place where a byte is another.
 -- `name_there`: a pattern's name that is at a place is in the text whole, as its bytes from there on.
-use mathlib.Core.Path.{◌≡◌, refl, ◌∙◌, sym, ap}
+use mathlib.Core.Path.{◌≡◌, refl, ◌∙◌, sym}
 use mathlib.Core.Bool.{Bool, true, false, ◌&&◌, not}
 use mathlib.Core.List.{List, [], ◌∷◌, ◌++◌}
 use Prim.Native.Nat.{ℕ, suc, ◌+◌, ◌*◌, ◌<◌, ◌≤◌}
-use native.Mathlib.Nat.{add-suc}
 use native.Mathlib.Numerals.{add-one}
 use native.Mathlib.Omega.{arith}
 use borrow.Author.Tests.{ne_eqb, eqb-true, eqb-false, leb-true, ltb-true, ltb-false, not-true}
@@ -18,7 +17,7 @@ use Rattle.base_notation.proofs.Bytes.{byte_within}
 use Rattle.base_notation.proofs.Cases.{both}
 use Rattle.base_notation.proofs.Table.{all_from, entry}
 use Rattle.base_notation.specs.Text.{byte_at}
-use Rattle.template_patterns.specs.Patterns.{Pattern, patterns, names, name_of, pattern_of}
+use Rattle.template_patterns.specs.Patterns.{Pattern, patterns, names, name_of}
 use Rattle.template_patterns.specs.Rows.{filled}
 use Rattle.template_patterns.specs.Search.{matches_at, name_table}
 use Rattle.template_patterns.proofs.Rows.{row_byte, in_name, past_name}

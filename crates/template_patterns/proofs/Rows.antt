@@ -1,9 +1,9 @@
 -- Names laid out in rows: each byte of a row. Assumes nothing.
 -- `row_byte`: byte j of row k is byte j of name k, filled with spaces.
 -- `in_name`, `past_name`: that is the name's byte, and past the name a space.
-use mathlib.Core.Path.{◌≡◌, refl, ◌∙◌, ap, sym}
+use mathlib.Core.Path.{◌≡◌, ◌∙◌}
 use mathlib.Core.Bool.{Bool, true}
-use mathlib.Core.List.{List, [], ◌∷◌, ◌++◌}
+use mathlib.Core.List.{List, [], ◌∷◌}
 use Prim.Native.Nat.{ℕ, zero, suc, ◌+◌, ◌-◌, ◌*◌, ◌≤◌, ◌<◌}
 use native.Mathlib.Nat.{le_of_suc-le-suc, not-suc-le-zero, mul-suc}
 use native.Mathlib.Omega.{arith}

@@ -1,6 +1,5 @@
 -- Names of patterns as numbers, each compared with a template at once.
-use Rattle.std.specs.Prelude.{◌≡◌, refl, List, [], ◌∷◌, ℕ, ◌+◌, ◌*◌, ◌/◌, ◌%◌, ◌^◌, ◌<◌, length}
-use Prim.Native.Char.{code}
+use Rattle.std.specs.Prelude.{◌≡◌, refl, List, [], ◌∷◌, ℕ, ◌+◌, ◌*◌, ◌^◌, ◌<◌, length}
 use Rattle.base_notation.specs.Text.{byte_at, utf8}
 use Rattle.template_patterns.specs.Patterns.{name_of}
 

@@ -29,18 +29,18 @@ pub enum Case {
     Title,
 }
 
-// What is at a place of a template: a pattern, by its number in the table, and the length of its name; or none.
+// A pattern at a place of a template: its number in the table, and the length of its name.
 #[derive(Clone, Copy)]
-pub enum Found {
-    Pattern { number: usize, len: usize },
-    Nothing,
+pub struct Found {
+    pub number: usize,
+    pub len: usize,
 }
 
 // Four bytes as a number, the first the lowest.
 fn four(a: u8, b: u8, c: u8, d: u8) -> u32
     ensures { result ≡ packed (a ∷ b ∷ c ∷ d ∷ []) }
 {
-    a as u32 + b as u32 * 0x100 + c as u32 * 0x10000 + d as u32 * 0x1000000
+    u32::from_le_bytes([a, b, c, d])
 }
 
 // The five bytes from a place on as a number.
@@ -48,7 +48,7 @@ fn five(t: &[u8], at: usize) -> u64
     requires { at + 5 ≤ length t.now }
     ensures { Key t.now at result }
 {
-    four(t[at], t[at + 1], t[at + 2], t[at + 3]) as u64 + t[at + 4] as u64 * 0x100000000
+    u64::from(four(t[at], t[at + 1], t[at + 2], t[at + 3])) + u64::from(t[at + 4]) * 0x100000000
 }
 
 // The same where at most four are left, with zeros for those past the end.
@@ -59,7 +59,7 @@ fn last_four(t: &[u8], at: usize) -> u64
     let b = base_notation::byte_at(t, at + 1);
     let c = base_notation::byte_at(t, at + 2);
     let d = base_notation::byte_at(t, at + 3);
-    t[at] as u64 + four(b, c, d, 0) as u64 * 0x100
+    u64::from(t[at]) + u64::from(four(b, c, d, 0)) * 0x100
 }
 
 fn key_at(t: &[u8], at: usize) -> u64
@@ -82,29 +82,24 @@ fn begins(key: u64, name: u64) -> bool
 }
 
 // The first pattern in table order whose name is at a place of the template.
-pub fn fmt_index_search(t: &[u8], at: usize) -> Found
+pub fn fmt_index_search(t: &[u8], at: usize) -> Option<Found>
     requires { at < length t.now }
     ensures { result ≡ pattern_at t.now at }
 {
-    let mut k = numbers::first_of(t[at]);
-    if k == 112 {
-        return Found::Nothing;
-    }
+    let first = numbers::first_of(t[at])?;
     let key = key_at(t, at);
-    while k < 112 {
-        let name = numbers::name_of(k);
+    let names = numbers::names();
+    for k in first..names.len() {
+        let name = names[k];
         if name % 256 != key % 256 {
-            return Found::Nothing;
+            return None;
         }
         if begins(key, name) {
-            return Found::Pattern {
-                number: k,
-                len: (name >> 43) as usize,
-            };
+            let len = (name >> 43) as usize;
+            return Some(Found { number: k, len });
         }
-        k += 1;
     }
-    Found::Nothing
+    None
 }
 
 // The bits of the prefixes and suffixes of a pattern.
@@ -118,76 +113,50 @@ pub const SUFFIX_SP: u8 = 8;
 
 pub const SUFFIX_TM: u8 = 16;
 
-// The bit of the prefix of two letters, 0 if there is none.
+// The bit of the prefix that two letters are; no bit if they are none.
+#[tactic(auto, unfolding(crate::specs::Affixes::bit_at))]
 fn prefix_bit(a: u8, b: u8) -> u8
     ensures { result ≡ bit_at true (a ∷ b ∷ []) 0 }
 {
-    if b == b'M' {
-        if a == b'F' {
-            return SUFFIX_FM;
-        }
-        if a == b'T' {
-            return SUFFIX_TM;
-        }
-        return 0;
+    match (a, b) {
+        (b'F', b'M') | (b'f', b'm') => SUFFIX_FM,
+        (b'T', b'M') | (b't', b'm') => SUFFIX_TM,
+        _ => 0,
     }
-    if b == b'm' {
-        if a == b'f' {
-            return SUFFIX_FM;
-        }
-        if a == b't' {
-            return SUFFIX_TM;
-        }
-        return 0;
-    }
-    0
 }
 
-// The bit of the suffix of two letters, 0 if there is none.
+// The bit of the suffix that two letters are; no bit if they are none.
+#[tactic(auto, unfolding(crate::specs::Affixes::bit_at))]
 fn suffix_bit(a: u8, b: u8) -> u8
     ensures { result ≡ bit_at false (a ∷ b ∷ []) 0 }
 {
-    if b == b'H' {
-        if a == b'T' {
-            return SUFFIX_TH;
-        }
-        return 0;
+    match (a, b) {
+        (b'T', b'H') => SUFFIX_TH,
+        (b't', b'h') => SUFFIX_TH_SMALL,
+        (b'S', b'P') => SUFFIX_SP,
+        _ => 0,
     }
-    if b == b'h' {
-        if a == b't' {
-            return SUFFIX_TH_SMALL;
-        }
-        return 0;
-    }
-    if b == b'P' {
-        if a == b'S' {
-            return SUFFIX_SP;
-        }
-        return 0;
-    }
-    0
 }
 
-// The bit of the prefix or suffix at a place of the template, 0 if none is there.
+// The bit of the prefix or suffix at a place of the template. The result is a set of bits, empty where none is there.
 pub fn fmt_suffix_search(t: &[u8], at: usize, prefix: bool) -> u8
     ensures { result ≡ bit_at prefix t.now at }
 {
-    if at >= t.len() {
-        return 0;
-    }
-    let a = t[at];
+    let a = base_notation::byte_at(t, at);
     // no affix begins with a lower byte, as most of what is there does
     if a < b'F' {
         return 0;
     }
     let b = base_notation::byte_at(t, at + 1);
     if prefix {
-        return prefix_bit(a, b);
+        prefix_bit(a, b)
+    } else {
+        suffix_bit(a, b)
     }
-    suffix_bit(a, b)
 }
 
 // Whether the pattern of a number is read as digits. A set of patterns has a bit for each number.
+#[tactic(auto, using(crate::proofs::Sets::digits))]
 pub fn is_digit(k: u8) -> bool
     ensures { result ≡ (pattern_of k).is_digit }
 {
@@ -195,6 +164,7 @@ pub fn is_digit(k: u8) -> bool
 }
 
 // The case of a pattern by its number.
+#[tactic(auto, using(crate::proofs::Sets::smalls, crate::proofs::Sets::titles), unfolding(crate::specs::Cases::case_of))]
 pub fn case_of(k: u8) -> Case
     ensures { result ≡ case_of k }
 {

@@ -5,7 +5,7 @@ ghost use Rattle.template_patterns.specs.Words.{longest as longest_of, word_tabl
 ghost use Rattle.template_patterns.specs.declared.tables.WordList.TheVariants.{MonthsFull};
 
 // The names of the patterns in table order, five bytes each, filled with spaces.
-const DCH_NAMES: [u8; 560] = *b"\
+const DCH_NAMES: &[u8; 560] = b"\
     A.D. A.M. AD   AM   B.C. BC   CC   DAY  DDD  DD   DY   Day  Dy   D    \
     FF1  FF2  FF3  FF4  FF5  FF6  FX   HH24 HH12 HH   IDDD ID   IW   IYYY \
     IYY  IY   I    J    MI   MM   MONTHMON  MS   MonthMon  OF   P.M. PM   \
@@ -16,32 +16,32 @@ const DCH_NAMES: [u8; 560] = *b"\
     sssssssss ss   tzh  tzm  tz   us   ww   w    y,yyyyyyy yyy  yy   y    ";
 
 // The word lists in small letters, nine bytes a word, filled with spaces.
-const WORDS_MONTHS_FULL: [u8; 108] =
-    *b"january  february march    april    may      june     july     august   septemberoctober  november december ";
+const WORDS_MONTHS_FULL: &[u8; 108] =
+    b"january  february march    april    may      june     july     august   septemberoctober  november december ";
 
-const WORDS_MONTHS_ABBREV: [u8; 108] =
-    *b"jan      feb      mar      apr      may      jun      jul      aug      sep      oct      nov      dec      ";
+const WORDS_MONTHS_ABBREV: &[u8; 108] =
+    b"jan      feb      mar      apr      may      jun      jul      aug      sep      oct      nov      dec      ";
 
-const WORDS_DAYS_FULL: [u8; 108] =
-    *b"sunday   monday   tuesday  wednesdaythursday friday   saturday                                              ";
+const WORDS_DAYS_FULL: &[u8; 108] =
+    b"sunday   monday   tuesday  wednesdaythursday friday   saturday                                              ";
 
-const WORDS_DAYS_ABBREV: [u8; 108] =
-    *b"sun      mon      tue      wed      thu      fri      sat                                                   ";
+const WORDS_DAYS_ABBREV: &[u8; 108] =
+    b"sun      mon      tue      wed      thu      fri      sat                                                   ";
 
-const WORDS_AMPM: [u8; 108] =
-    *b"am       pm       am       pm                                                                               ";
+const WORDS_AMPM: &[u8; 108] =
+    b"am       pm       am       pm                                                                               ";
 
-const WORDS_AMPM_LONG: [u8; 108] =
-    *b"a.m.     p.m.     a.m.     p.m.                                                                             ";
+const WORDS_AMPM_LONG: &[u8; 108] =
+    b"a.m.     p.m.     a.m.     p.m.                                                                             ";
 
-const WORDS_ADBC: [u8; 108] =
-    *b"ad       bc       ad       bc                                                                               ";
+const WORDS_ADBC: &[u8; 108] =
+    b"ad       bc       ad       bc                                                                               ";
 
-const WORDS_ADBC_LONG: [u8; 108] =
-    *b"a.d.     b.c.     a.d.     b.c.                                                                             ";
+const WORDS_ADBC_LONG: &[u8; 108] =
+    b"a.d.     b.c.     a.d.     b.c.                                                                             ";
 
-const WORDS_RM_MONTHS_LOWER: [u8; 108] =
-    *b"xii      xi       x        ix       viii     vii      vi       v        iv       iii      ii       i        ";
+const WORDS_RM_MONTHS_LOWER: &[u8; 108] =
+    b"xii      xi       x        ix       viii     vii      vi       v        iv       iii      ii       i        ";
 
 #[derive(Clone, Copy)]
 pub enum WordList {
@@ -73,15 +73,10 @@ pub fn longest(list: WordList) -> usize
     }
 }
 
-// The list that is asked for most has a function of its own: a choice among nine lists lays out more than one.
-pub fn months_full() -> [u8; 108]
-    ensures { result ≡ word_table MonthsFull }
-{
-    WORDS_MONTHS_FULL
-}
-
-pub fn words(list: WordList) -> [u8; 108]
-    ensures { result ≡ word_table list }
+// A list's table, lent from the library's data: a call copies nothing.
+#[tactic(auto, unfolding(crate::specs::Words::word_table))]
+pub fn words(list: WordList) -> &'static [u8; 108]
+    ensures { result.now ≡ word_table list }
 {
     match list {
         WordList::MonthsFull => WORDS_MONTHS_FULL,
@@ -96,8 +91,15 @@ pub fn words(list: WordList) -> [u8; 108]
     }
 }
 
-pub fn dch_names() -> [u8; 560]
-    ensures { result ≡ name_table }
+pub fn months_full() -> &'static [u8; 108]
+    ensures { result.now ≡ word_table MonthsFull }
+{
+    words(WordList::MonthsFull)
+}
+
+#[tactic(auto, unfolding(crate::specs::Search::name_table))]
+pub fn dch_names() -> &'static [u8; 560]
+    ensures { result.now ≡ name_table }
 {
     DCH_NAMES
 }

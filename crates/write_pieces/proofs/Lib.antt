@@ -4,7 +4,7 @@
 pub mod Puts
 -- a word in a case, byte by byte and folded
 pub mod Cased
--- the letters and dots of a marker, put into a buffer
+-- the length of a marker
 mod Markers
 -- the names of months in the table of the code
 mod Months

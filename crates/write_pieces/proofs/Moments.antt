@@ -5,7 +5,6 @@
 -- `dates`: so are the numbers that the calendar's functions give for the date.
 -- `result`: and so is what a call returns, where its contract says that it is such a number.
 -- `cast`, `value`: such a number may be cast to a u32, and keeps its value.
--- `last_number`: the number of a piece that is none of the first twelve is the microsecond.
 -- `morning`: the code's test of the hour is the definition's.
 -- `named_month`: the month that the code casts to a u32 is the moment's, 1 to 12.
 use mathlib.Core.Path.{◌≡◌, ◌∙◌, refl, ap}
@@ -13,7 +12,7 @@ use mathlib.Core.Bool.{Bool, true, not}
 use Prim.Native.Nat.{ℕ, zero, suc, ◌-◌, ◌<◌, ◌≤◌, ◌^◌}
 use native.Mathlib.Nat.{lt_of_not-le}
 use native.Mathlib.Omega.{arith}
-use borrow.Author.Tests.{le-ltb, ne_eqb, not-true}
+use borrow.Author.Tests.{le-ltb, not-true}
 use lib.Dec.{T, leb}
 use lib.IntN.{ℤ, pos, negsuc, nat_abs}
 use lib.ListN.{get_or, get_or-eq_default}
@@ -36,7 +35,7 @@ use Rattle.calendar_julian.proofs.IsoWeeks.{date2isoweek_is, date2isoyear_is}
 use Rattle.moment_sums.specs.Within.{Within}
 use Rattle.moment_sums.proofs.Within.{within as in_range}
 use Rattle.write_pieces.specs.Moment.{is_moment, within, PlainMoment}
-use Rattle.write_pieces.specs.Pieces.{is_morning, number_of}
+use Rattle.write_pieces.specs.Pieces.{is_morning}
 use Rattle.write_pieces.specs.declared.Moment.{Moment}
 
 -- the number z is n, and fits 31 bits
@@ -185,30 +184,6 @@ dates n = dated (read_plain n.year w32 tt) (read_plain n.month w32 tt) (read_pla
 -- a call's result
 pub result : {r z : ℤ} {n : ℕ} → r ≡ z → Plain z n → Plain r n
 result e p = record { is = e ∙ p.is; small = p.small }
-
--- p is none of the numbers 1 to k
-abbrev pub NoneTo : ℕ → ℕ → Type 0
-NoneTo p zero = Unit {0}
-NoneTo p (suc k) = NoneTo p k × (p ≡ suc k → ⊥)
-
--- the number of a piece that is none of the first twelve
-pub last_number : (p : ℕ) (m : Moment) → NoneTo p 12 → number_of p m ≡ nat_abs m.micros
-unfolding number_of
-last_number p m (((((((((((((u, not_1), not_2), not_3), not_4), not_5), not_6), not_7), not_8), not_9), not_10), not_11), not_12)) =
-    rw (
-      ne_eqb p 1 not_1,
-      ne_eqb p 2 not_2,
-      ne_eqb p 3 not_3,
-      ne_eqb p 4 not_4,
-      ne_eqb p 5 not_5,
-      ne_eqb p 6 not_6,
-      ne_eqb p 7 not_7,
-      ne_eqb p 8 not_8,
-      ne_eqb p 9 not_9,
-      ne_eqb p 10 not_10,
-      ne_eqb p 11 not_11,
-      ne_eqb p 12 not_12,
-    )
 
 -- the test of the hour
 pub morning : (m : Moment) → is_moment m ≡ true → lt_z (read m.hour) (pos 12) ≡ is_morning m

@@ -2,8 +2,8 @@
 -- `put_length`: a text that is put leaves the buffer's length. `put_nothing`: to put no text changes nothing.
 -- `put_same`: where a text is put, any text that is the same is put.
 -- `put_after`: two texts, one put after the other, are put as one.
--- `next_byte`, `no_byte`: what is left of a text is put by its next byte and then the rest; at its end nothing is left.
--- `one_byte`: a text of one byte is put by that byte.
+-- `put_copied`: a text that a part of the buffer now holds is put there.
+-- `next_byte`: what is left of a text is put by its next byte and then the rest.
 -- `last_digit`, `no_digit`: the digits of a number are put by its last and then those before; of no digits nothing is.
 use mathlib.Core.Path.{◌≡◌, ◌∙◌, refl, sym, ap}
 use mathlib.Core.List.{List, [], ◌∷◌, ◌++◌}
@@ -12,7 +12,9 @@ use native.Mathlib.Nat.{add-zero, add-suc, suc-add}
 use native.Mathlib.Numerals.{add-one}
 use native.Mathlib.Omega.{arith}
 use lib.ListN.{length, drop, get_or, set}
-use lib.Seq.{sets, set_comm, drop-cons, drop-length, length-sets}
+use borrow.Rule.Slice.PartMut.{put_mid}
+use lib.Seq.{sets, sets-eq, set_comm, drop-cons, length-sets, take-length}
+use Rattle.std.proofs.lemmas.Slice.{put_mid-paste}
 use Rattle.base_strtol.specs.Decimal.{decimal}
 use Rattle.base_strtol.proofs.Decimals.{decimal-length}
 use Rattle.write_pieces.specs.Output.{Put}
@@ -26,6 +28,17 @@ put_nothing l at = record { is = refl; next = omega arith }
 
 pub put_same : {before : List ℕ} {at : ℕ} {text same after : List ℕ} {r : ℕ} → text ≡ same → Put before at text after r → Put before at same after r
 put_same e p = rw e at p
+
+-- a text copied over the part of the buffer that is as long
+pub put_copied : (l : List ℕ) (at : ℕ) (text part : List ℕ) → at + length text ≤ length l → part ≡ text
+    → Put l at text (put_mid at (at + length text - at) l part) (at + length text)
+put_copied l at text part room e =
+    record {
+      is =
+          put_mid-paste at _ l _ text (length text) e (omega arith) refl
+          ∙ rw (take-length text) (sym (sets-eq text l at (omega arith)));
+      next = refl;
+    }
 
 -- a text put after another: the two as one
 pub put_after : (l : List ℕ) (at : ℕ) (xs ys : List ℕ) → sets (sets l at xs) (at + length xs) ys ≡ sets l at (xs ++ ys)
@@ -42,15 +55,6 @@ after_first l at (x ∷ xs) k b h =
 pub next_byte : (l : List ℕ) (at : ℕ) (text : List ℕ) (i : ℕ) → i < length text
     → sets (set l (at + i) (get_or text i 0)) (at + (i + 1)) (drop (i + 1) text) ≡ sets l (at + i) (drop i text)
 next_byte l at text i h = rw (drop-cons text i 0 h, add-one i, add-suc at i)
-
-pub no_byte : (l : List ℕ) (at : ℕ) (text : List ℕ) (i : ℕ) → i ≡ length text → sets l (at + i) (drop i text) ≡ l
-no_byte l at text i e = rw (e, drop-length text)
-
--- a text of one byte
-pub one_byte : (l : List ℕ) (at : ℕ) (text : List ℕ) → length text ≡ 1 → set l at (get_or text 0 0) ≡ sets l at text
-one_byte l at [] e = absurd (omega (arith, e))
-one_byte l at (x ∷ []) e = refl
-one_byte l at (x ∷ y ∷ ys) e = absurd (omega (arith, e))
 
 -- the last of i digits, put before those in front of it
 pub last_digit : (l : List ℕ) (at i n : ℕ) → 0 < i → sets (set l (at + (i - 1)) (48 + n % 10)) at (decimal (i - 1) (n / 10)) ≡ sets l at (decimal i n)

@@ -8,5 +8,5 @@ pub mod Words
 pub mod Pieces
 -- a text put into a buffer
 pub mod Output
--- the table that the code has: the piece of each pattern
+-- the piece of each pattern as a table of letters
 pub mod Tables

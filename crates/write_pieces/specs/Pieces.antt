@@ -1,6 +1,6 @@
 -- What the writer writes for a pattern: a number of fixed width; or a marker of the half of the day or the name of a
 -- month, in the pattern's case.
-use Rattle.std.specs.Prelude.{◌≡◌, refl, Bool, true, false, List, [], ◌∷◌, map, ℕ, ◌+◌, ◌*◌, ◌%◌, eqb, ltb, nat_abs, get_or}
+use Rattle.std.specs.Prelude.{◌≡◌, refl, Bool, true, false, List, [], ◌∷◌, map, ℕ, ◌+◌, ◌*◌, ◌%◌, eqb, ltb, nat_abs, get_or, Option, None, Some}
 use Prim.Native.String.{String}
 use Rattle.calendar_gregorian.specs.IsoWeek.{weeks_compute, iso_week, iso_weekday, iso_year}
 use Rattle.base_notation.specs.Choice.{when◌then◌else◌}
@@ -15,6 +15,8 @@ use Rattle.base_strtol.specs.Decimal.{decimal}
 use Rattle.write_pieces.specs.Moment.{moment}
 use Rattle.write_pieces.specs.Words.{marker_text, month_text}
 use Rattle.write_pieces.specs.declared.Moment.{Moment}
+use Rattle.write_pieces.specs.declared.Piece.{Piece}
+use Rattle.write_pieces.specs.declared.Piece.TheVariants.{Year, Month, Day, YearDay, WeekYear, Week, Weekday, Hour24, Hour12, Minute, Second, DaySecond, Micros, Marker, DottedMarker, MonthName, ShortMonth}
 
 -- the pieces: none; year, month and day; day of the year; ISO year, week and weekday; hour of 24 and of 12, minute,
 -- second; second of the day; microsecond; markers without and with dots; names of months, full and of three letters
@@ -71,6 +73,30 @@ month_name = 16
 
 abbrev pub short_month : ℕ
 short_month = 17
+
+-- a piece of the code as one of these numbers, and so what the code finds for a pattern
+abbrev pub piece_number : Piece → ℕ
+piece_number Year = year
+piece_number Month = month
+piece_number Day = day
+piece_number YearDay = year_day
+piece_number WeekYear = week_year
+piece_number Week = week
+piece_number Weekday = weekday
+piece_number Hour24 = hour24
+piece_number Hour12 = hour12
+piece_number Minute = minute
+piece_number Second = second
+piece_number DaySecond = day_second
+piece_number Micros = micros
+piece_number Marker = marker
+piece_number DottedMarker = dotted_marker
+piece_number MonthName = month_name
+piece_number ShortMonth = short_month
+
+abbrev pub found_number : Option Piece → ℕ
+found_number None = none
+found_number (Some piece) = piece_number piece
 
 -- a row of the table below: names of patterns, and their piece
 pub record Row : Type 0 where

@@ -1,4 +1,4 @@
--- The table that the code has: the piece of each pattern, in the order of the patterns.
+-- The piece of each pattern by a letter, in the order of the patterns.
 use Rattle.std.specs.Prelude.{◌≡◌, refl, List, map, ℕ, ◌+◌, length, take}
 use Prim.Native.Char.{code}
 use Rattle.base_notation.specs.Text.{utf8}

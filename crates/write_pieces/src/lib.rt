@@ -6,14 +6,13 @@ mod numbers;
 mod output;
 mod words;
 
-ghost use Rattle.std.specs.Prelude.{◌≡◌, true, ◌+◌, ◌<◌, ◌≤◌, length};
+ghost use Rattle.std.specs.Prelude.{◌≡◌, true, ◌+◌, ◌≤◌, length};
 ghost use Rattle.template_patterns.specs.declared.Case.{Case};
 ghost use Rattle.write_pieces.specs.Moment.{is_moment, seven_numbers};
 ghost use Rattle.write_pieces.specs.Output.{Put};
-ghost use Rattle.write_pieces.specs.Pieces.{piece_of, piece_text, prefix_of, width_of};
-ghost use Rattle.write_pieces.specs.Tables.{piece_table};
+ghost use Rattle.write_pieces.specs.Pieces.{found_number, piece_number, piece_of, piece_text, prefix_of, width_of};
 
-pub use numbers::is_moment;
+pub use numbers::{checked, is_moment};
 pub use output::put_bytes;
 use template_patterns::{Case, SUFFIX_FM};
 
@@ -27,6 +26,13 @@ pub struct Moment {
     pub minute: i32,
     pub second: i32,
     pub micros: i32,
+}
+
+// Seven numbers that are a moment.
+#[derive(Clone, Copy)]
+pub struct RealMoment {
+    pub moment: Moment,
+    ghost is_one: { is_moment moment ≡ true },
 }
 
 // The moment of seven numbers in their order; whether it is one, `is_moment` says.
@@ -52,134 +58,120 @@ pub fn seven_numbers(
     }
 }
 
-// The pieces: what is written for a pattern.
-pub const NONE: u8 = 0;
-
-pub const YEAR: u8 = 1;
-
-pub const MONTH: u8 = 2;
-
-pub const DAY: u8 = 3;
-
-pub const YEAR_DAY: u8 = 4;
-
-pub const WEEK_YEAR: u8 = 5;
-
-pub const WEEK: u8 = 6;
-
-pub const WEEKDAY: u8 = 7;
-
-pub const HOUR24: u8 = 8;
-
-pub const HOUR12: u8 = 9;
-
-pub const MINUTE: u8 = 10;
-
-pub const SECOND: u8 = 11;
-
-pub const DAY_SECOND: u8 = 12;
-
-pub const MICROS: u8 = 13;
-
-pub const MARKER: u8 = 14;
-
-pub const DOTTED_MARKER: u8 = 15;
-
-pub const MONTH_NAME: u8 = 16;
-
-pub const SHORT_MONTH: u8 = 17;
-
-// The piece of each pattern in table order, by its letter: A for 1 to Q for 17, @ for none.
-const PIECES: [u8; 112] = *b"\
-    @O@N@@@@DC@@@@@@\
-    @@@@@HII@GFE@@@@\
-    JBPQ@PQ@ON@@L@K@\
-    @@M@@@A@@@@O@N@@\
-    @@DC@@@@@@@@@HII\
-    @GFE@@@@JBPQ@@ON\
-    @@L@K@@@M@@@A@@@";
-
-// The table is laid out once and lent to what writes by it.
-pub fn table() -> [u8; 112]
-    ensures { result ≡ piece_table }
-{
-    PIECES
+// What is written for a pattern.
+#[derive(Clone, Copy, PartialEq, Eq)]
+pub enum Piece {
+    Year,
+    Month,
+    Day,
+    YearDay,
+    WeekYear,
+    Week,
+    Weekday,
+    Hour24,
+    Hour12,
+    Minute,
+    Second,
+    DaySecond,
+    Micros,
+    Marker,
+    DottedMarker,
+    MonthName,
+    ShortMonth,
 }
 
-// The piece of a pattern, by its number.
-pub fn piece_of(table: &[u8; 112], pattern: u8) -> u8
-    requires { table.now ≡ piece_table }
-    ensures { result ≡ piece_of pattern }
+// The piece of a pattern, by its number in the table; none where the writer does not know the pattern. A match with a
+// constant in each arm is a table that is there before a call.
+#[tactic(auto, unfolding(crate::specs::Pieces::piece_of))]
+pub fn piece_of(pattern: u8) -> Option<Piece>
+    ensures { found_number result ≡ piece_of pattern }
 {
-    if pattern >= 112 {
-        return NONE;
+    match pattern {
+        54 | 108 => Some(Piece::Year), // YYYY, yyyy
+        33 | 89 => Some(Piece::Month), // MM, mm
+        9 | 67 => Some(Piece::Day), // DD, dd
+        8 | 66 => Some(Piece::YearDay), // DDD, ddd
+        27 | 83 => Some(Piece::WeekYear), // IYYY, iyyy
+        26 | 82 => Some(Piece::Week), // IW, iw
+        25 | 81 => Some(Piece::Weekday), // ID, id
+        21 | 77 => Some(Piece::Hour24), // HH24, hh24
+        22 | 78 => Some(Piece::Hour12), // HH12, hh12
+        23 | 79 => Some(Piece::Hour12), // HH, hh
+        32 | 88 => Some(Piece::Minute), // MI, mi
+        46 | 100 => Some(Piece::Second), // SS, ss
+        44 | 98 => Some(Piece::DaySecond), // SSSSS, sssss
+        50 | 104 => Some(Piece::Micros), // US, us
+        3 | 41 | 61 | 95 => Some(Piece::Marker), // AM, PM, am, pm
+        1 | 40 | 59 | 94 => Some(Piece::DottedMarker), // A.M., P.M., a.m., p.m.
+        34 | 37 | 90 => Some(Piece::MonthName), // MONTH, Month, month
+        35 | 38 | 91 => Some(Piece::ShortMonth), // MON, Mon, mon
+        _ => None,
     }
-    table[pattern as usize] - b'@'
 }
 
 // The prefix that the pattern of a piece needs: FM on the full name of a month, none on any other.
-pub fn prefix_of(piece: u8) -> u8
-    ensures { result ≡ prefix_of piece }
-{
-    if piece != MONTH_NAME {
-        return 0;
-    }
-    SUFFIX_FM
-}
-
-// How many bytes a piece has at every moment.
-fn width_of(piece: u8) -> usize
-    ensures { result ≡ width_of piece }
+pub fn prefix_of(piece: Option<Piece>) -> u8
+    ensures { result ≡ prefix_of (found_number piece) }
 {
     match piece {
-        YEAR => 4,
-        MONTH => 2,
-        DAY => 2,
-        YEAR_DAY => 3,
-        WEEK_YEAR => 4,
-        WEEK => 2,
-        WEEKDAY => 1,
-        HOUR24 => 2,
-        HOUR12 => 2,
-        MINUTE => 2,
-        SECOND => 2,
-        DAY_SECOND => 5,
-        MICROS => 6,
-        MARKER => 2,
-        DOTTED_MARKER => 4,
-        MONTH_NAME => 0,
-        SHORT_MONTH => 3,
+        Some(Piece::MonthName) => SUFFIX_FM,
         _ => 0,
     }
 }
 
-// The length of a piece's text at a moment, which is the same in every case.
-pub fn piece_length(piece: u8, m: Moment) -> usize
-    requires { (piece < 18) × (is_moment m ≡ true) }
-    ensures { ((case : Case) → result ≡ length (piece_text piece case m)) × (result ≤ 9) }
+// How many bytes a piece has at every moment; 0 for the full name of a month, whose length depends on the moment.
+fn width_of(piece: Piece) -> usize
+    ensures { result ≡ width_of (piece_number piece) }
 {
-    if piece == MONTH_NAME {
-        return words::name_length(true, m.month as u32);
+    match piece {
+        Piece::Year => 4,
+        Piece::Month => 2,
+        Piece::Day => 2,
+        Piece::YearDay => 3,
+        Piece::WeekYear => 4,
+        Piece::Week => 2,
+        Piece::Weekday => 1,
+        Piece::Hour24 => 2,
+        Piece::Hour12 => 2,
+        Piece::Minute => 2,
+        Piece::Second => 2,
+        Piece::DaySecond => 5,
+        Piece::Micros => 6,
+        Piece::Marker => 2,
+        Piece::DottedMarker => 4,
+        Piece::MonthName => 0,
+        Piece::ShortMonth => 3,
     }
-    width_of(piece)
 }
 
-// The text of a piece put into the buffer. Tests of one piece each become one jump, with those of `number_of`.
-pub fn put_piece(piece: u8, case: Case, m: Moment, out: &mut [u8], at: usize) -> usize
-    requires { (piece < 18) × (is_moment m ≡ true) × (at + length (piece_text piece case m) ≤ length out.old) }
-    ensures { Put out.old at (piece_text piece case m) out.new result }
+// The length of a piece's text at a moment, which is the same in every case; 0 where there is no piece.
+pub fn piece_length(piece: Option<Piece>, m: RealMoment) -> usize
+    ensures { ((case : Case) → result ≡ length (piece_text (found_number piece) case m.moment)) × (result ≤ 9) }
 {
-    if piece == MARKER {
-        return words::put_marker(case, false, m.hour < 12, out, at);
+    match piece {
+        Some(Piece::MonthName) => words::name_length(true, m.moment.month as u32),
+        Some(piece) => width_of(piece),
+        None => 0,
     }
-    if piece == DOTTED_MARKER {
-        return words::put_marker(case, true, m.hour < 12, out, at);
+}
+
+// The text of a piece put into the buffer; nothing where there is no piece.
+pub fn put_piece(
+    piece: Option<Piece>,
+    case: Case,
+    m: RealMoment,
+    out: &mut [u8],
+    at: usize,
+) -> usize
+    requires { at + length (piece_text (found_number piece) case m.moment) ≤ length out.old }
+    ensures { Put out.old at (piece_text (found_number piece) case m.moment) out.new result }
+{
+    match piece {
+        Some(Piece::Marker) => words::put_marker(case, false, m.moment.hour < 12, out, at),
+        Some(Piece::DottedMarker) => words::put_marker(case, true, m.moment.hour < 12, out, at),
+        Some(Piece::MonthName) => words::put_month(true, m.moment.month as u32, case, out, at),
+        Some(Piece::ShortMonth) => words::put_month(false, m.moment.month as u32, case, out, at),
+        Some(piece) => output::put_number(numbers::number_of(piece, m), width_of(piece), out, at),
+        None => at,
     }
-    if piece == MONTH_NAME {
-        return words::put_month(true, m.month as u32, case, out, at);
-    }
-    if piece == SHORT_MONTH {
-        return words::put_month(false, m.month as u32, case, out, at);
-    }
-    output::put_number(numbers::number_of(piece, m), width_of(piece), out, at)
 }

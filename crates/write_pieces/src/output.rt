@@ -3,7 +3,8 @@ ghost use Rattle.std.specs.Prelude.{◌+◌, ◌≤◌, length};
 ghost use Rattle.base_strtol.specs.Decimal.{decimal};
 ghost use Rattle.write_pieces.specs.Output.{Put};
 
-// A text. Most have one byte, of a literal, and need no loop.
+// A text. Most have one byte, of a literal, and need no call.
+#[tactic(auto, using(crate::proofs::Puts::put_copied))]
 pub fn put_bytes(text: &[u8], out: &mut [u8], at: usize) -> usize
     requires { at + length text.now ≤ length out.old }
     ensures { Put out.old at text.now out.new result }
@@ -12,12 +13,9 @@ pub fn put_bytes(text: &[u8], out: &mut [u8], at: usize) -> usize
         out[at] = text[0];
         return at + 1;
     }
-    let mut i = 0;
-    while i < text.len() {
-        out[at + i] = text[i];
-        i += 1;
-    }
-    at + i
+    let end = at + text.len();
+    out[at..end].copy_from_slice(text);
+    end
 }
 
 // The last `width` digits of a number, filled with zeros, from the last on.
@@ -26,9 +24,7 @@ pub fn put_number(n: u32, width: usize, out: &mut [u8], at: usize) -> usize
     ensures { Put out.old at (decimal width n) out.new result }
 {
     let mut rest = n;
-    let mut i = width;
-    while i > 0 {
-        i -= 1;
+    for i in (0..width).rev() {
         out[at + i] = b'0' + (rest % 10) as u8;
         rest /= 10;
     }

@@ -13,12 +13,8 @@ fn letter_in(case: Case, first: bool, b: u8) -> u8
     match case {
         Case::Capitals => base_chars::raised(b),
         Case::Small => base_chars::folded(b),
-        Case::Title => {
-            if first {
-                return base_chars::raised(b);
-            }
-            base_chars::folded(b)
-        }
+        Case::Title if first => base_chars::raised(b),
+        Case::Title => base_chars::folded(b),
     }
 }
 
@@ -27,12 +23,10 @@ fn put_word(word: &[u8], case: Case, out: &mut [u8], at: usize) -> usize
     requires { at + length word.now ≤ length out.old }
     ensures { Put out.old at (in_case case word.now) out.new result }
 {
-    let mut i = 0;
-    while i < word.len() {
-        out[at + i] = letter_in(case, i == 0, word[i]);
-        i += 1;
+    for (i, b) in word.iter().enumerate() {
+        out[at + i] = letter_in(case, i == 0, *b);
     }
-    at + i
+    at + word.len()
 }
 
 // A marker put into the buffer.
@@ -61,7 +55,7 @@ pub fn name_length(full: bool, month: u32) -> usize
     ensures { ((case : Case) → result ≡ length (month_text case full month)) × (result ≤ 9) }
 {
     if full {
-        return LENGTHS[month as usize - 1] as usize;
+        return usize::from(LENGTHS[month as usize - 1]);
     }
     3
 }

@@ -1,22 +1,21 @@
 -- The text is the same in both modes of characters. Assumes nothing.
 -- `text_in_both`, `unwritten_in_both`, `pieces_in_both`: the text, the first pattern that is not written, and the
 -- pieces of a template's patterns, by the nodes of either mode.
-use mathlib.Core.Path.{◌≡◌, ◌∙◌, refl, sym, ap}
+use mathlib.Core.Path.{◌≡◌, refl, ap}
 use mathlib.Core.Bool.{Bool, false}
-use mathlib.Core.List.{List, [], ◌∷◌, ◌++◌, append_assoc}
+use mathlib.Core.List.{List, ◌++◌, append_assoc}
 use Prim.Native.Nat.{ℕ, ◌+◌}
 use lib.Dec.{eqb}
-use lib.ListN.{take, drop}
+use lib.ListN.{drop}
 use lib.Seq.{drop-drop, take-add}
-use Rattle.base_notation.specs.Choice.{when◌then◌else◌}
 use Rattle.template_nodes.specs.Joined.{longer}
 use Rattle.template_nodes.specs.Template.{action, nodes_by, nodes_of}
 use Rattle.template_nodes.specs.declared.Node.{Node}
 use Rattle.template_nodes.proofs.Joined.{Kept, in_both_modes}
 use Rattle.write_pieces.specs.declared.Moment.{Moment}
 use Rattle.write_text.specs.Full.{pieces}
-use Rattle.write_text.specs.Text.{literal_text, node_text, nodes_text, text_of}
-use Rattle.write_text.specs.Writer.{first_unwritten, is_written}
+use Rattle.write_text.specs.Text.{node_text, nodes_text, text_of}
+use Rattle.write_text.specs.Writer.{first_unwritten}
 
 module _ (t : List ℕ) (m : Moment) where
   -- a letter with its mark has the bytes of both

@@ -1,12 +1,12 @@
 -- Why nothing is written names no pattern, or one of the template's. Assumes nothing.
 -- `written_own`: so it is by a template. `written_in_own`: so it is by the nodes that any bytes hold.
+use Rattle.std.specs.Prelude.{Err, None, Ok, Option, Result, Some}
 use mathlib.Core.Path.{◌≡◌, refl, subst}
 use mathlib.Core.Bool.{false, not}
 use mathlib.Core.List.{List, [], ◌∷◌}
 use mathlib.Core.Logic.{inl, inr, ⊎_elim}
-use Prim.Native.Nat.{ℕ, ◌<◌}
-use native.Mathlib.Omega.{arith}
-use borrow.Author.Tests.{eqb-true, ltb-true, not-false}
+use Prim.Native.Nat.{ℕ}
+use borrow.Author.Tests.{eqb-true, not-false}
 use lib.Dec.{eqb, ltb}
 use lib.ListN.{length}
 use Rattle.base_notation.proofs.Cases.{by_if, neither}
@@ -22,35 +22,45 @@ use Rattle.write_pieces.specs.Moment.{is_moment}
 use Rattle.write_pieces.specs.declared.Moment.{Moment}
 use Rattle.write_text.specs.Report.{unwritten_report}
 use Rattle.write_text.specs.Text.{text_of}
-use Rattle.write_text.specs.Writer.{all_written, first_unwritten, is_written, nodes_limit, text_in, written_by, written_in, written_to}
+use Rattle.write_text.specs.Writer.{first_unwritten, is_written, nodes_limit, text_in, written_by, written_in, written_to}
 use Rattle.write_text.specs.declared.Unwritten.{Unwritten}
-use Rattle.write_text.specs.declared.Written.{Written}
-use Rattle.write_text.specs.declared.Written.TheVariants.{Length, Refused}
 
 -- P holds of the pattern that a refusal names
-abbrev WrittenNames : (ℕ → Type 0) → Written → Type 0
-WrittenNames P (Length n) = Unit {0}
-WrittenNames P (Refused why) = P (unwritten_report why).pattern
+abbrev WrittenNames : (ℕ → Type 0) → Result ℕ Unwritten → Type 0
+WrittenNames P (Ok n) = Unit {0}
+WrittenNames P (Err why) = P (unwritten_report why).pattern
 
 -- a node that is not written is a pattern
 unwritten_action : (n : Node) → is_written n ≡ false → n.kind ≡ action
 unwritten_action n e = eqb-true n.kind action (not-false _ (neither (not (eqb n.kind action)) _ e).0)
 
--- the first node that is not written, if there is one
-first_own : (ns : List Node) → first_unwritten ns < all_written → NoneOrIn ns (first_unwritten ns)
+-- P holds of the first pattern that is not written, if there is one
+abbrev FirstNames : (ℕ → Type 0) → Option ℕ → Type 0
+FirstNames P None = Unit {0}
+FirstNames P (Some p) = P p
+
+-- that of the nodes after a node is in the nodes from it on
+later : (n : Node) (ns : List Node) (first : Option ℕ) → FirstNames (NoneOrIn ns) first → FirstNames (NoneOrIn (n ∷ ns)) first
+later n ns None h = tt
+later n ns (Some p) h = ⊎_elim inl (λ i. inr (inr i)) h
+
+first_own : (ns : List Node) → FirstNames (NoneOrIn ns) (first_unwritten ns)
 unfolding first_unwritten
-first_own [] = λ h. absurd (omega arith)
+first_own [] = tt
 first_own (n ∷ ns) =
-    by_if (λ k. k < all_written → NoneOrIn (n ∷ ns) k) (is_written n) _ _ (λ e h. ⊎_elim inl (λ i. inr (inr i)) (first_own ns h))
-    (λ e h. by_if (NoneOrIn (n ∷ ns)) (ltb n.pattern no_pattern) _ _ (λ _. inr (inl (unwritten_action n e, refl))) (λ _. inl refl))
+    by_if (FirstNames (NoneOrIn (n ∷ ns))) (is_written n) _ _ (λ e. later n ns (first_unwritten ns) (first_own ns))
+    (λ e. by_if (NoneOrIn (n ∷ ns)) (ltb n.pattern no_pattern) _ _ (λ _. inr (inl (unwritten_action n e, refl))) (λ _. inl refl))
 
 -- the answer by nodes
 by_own : (ns : List Node) (m : Moment) (text : List ℕ) (room : ℕ) → WrittenNames (NoneOrIn ns) (written_by (first_unwritten ns) m text room)
 unfolding unwritten_report
-by_own ns m text room =
-    let P = WrittenNames (NoneOrIn ns) in
-    by_if P (ltb (first_unwritten ns) all_written) _ _ (λ e. first_own ns (ltb-true _ _ e))
-    (λ e. by_if P (not (is_moment m)) _ _ (λ e. inl refl) (λ e. by_if P (ltb room (length text)) _ _ (λ e. inl refl) (λ e. tt)))
+by_own ns m text room = by (first_unwritten ns) (first_own ns)
+  where
+    by : (first : Option ℕ) → FirstNames (NoneOrIn ns) first → WrittenNames (NoneOrIn ns) (written_by first m text room)
+    by (Some p) h = h
+    by None h =
+        let P = WrittenNames (NoneOrIn ns) in
+        by_if P (not (is_moment m)) _ _ (λ e. inl refl) (λ e. by_if P (ltb room (length text)) _ _ (λ e. inl refl) (λ e. tt))
 
 module _ (set : Settings) (t : List ℕ) (m : Moment) (room : ℕ) where
   to_own : WrittenNames (NoneOrIn (nodes_of t)) (written_to set t m room)
@@ -66,8 +76,8 @@ module _ (set : Settings) (t : List ℕ) (m : Moment) (room : ℕ) where
       by_if (WrittenNames (NoneOrIn (nodes_in c))) (ltb (nodes_limit set) (length c)) _ _ (λ e. inl refl)
       (λ e. by_own (nodes_in c) m (text_in c t m) room)
 
-  pub written_own : {why : Unwritten} → written_to set t m room ≡ Refused why → NoneOrIn (nodes_of t) (unwritten_report why).pattern
+  pub written_own : {why : Unwritten} → written_to set t m room ≡ Err why → NoneOrIn (nodes_of t) (unwritten_report why).pattern
   written_own e = subst (WrittenNames (NoneOrIn (nodes_of t))) e to_own
 
-  pub written_in_own : (c : List ℕ) {why : Unwritten} → written_in set c t m room ≡ Refused why → NoneOrIn (nodes_in c) (unwritten_report why).pattern
+  pub written_in_own : (c : List ℕ) {why : Unwritten} → written_in set c t m room ≡ Err why → NoneOrIn (nodes_in c) (unwritten_report why).pattern
   written_in_own c e = subst (WrittenNames (NoneOrIn (nodes_in c))) e (in_own c)

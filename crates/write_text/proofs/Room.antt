@@ -1,6 +1,7 @@
 -- What is written is the text, and has room. Assumes nothing.
 -- `to_measured`, `in_measured`: where a length is answered, by a template or by nodes, it is the text's, and the buffer
 -- is no shorter.
+use Rattle.std.specs.Prelude.{Err, None, Ok, Option, Result, Some}
 use mathlib.Core.Path.{◌≡◌, sym}
 use mathlib.Core.Bool.{not}
 use mathlib.Core.List.{List}
@@ -18,27 +19,25 @@ use Rattle.write_pieces.specs.declared.Moment.{Moment}
 use Rattle.template_nodes.specs.Bytes.{nodes_in}
 use Rattle.template_nodes.specs.Template.{nodes_of}
 use Rattle.write_text.specs.Text.{text_of}
-use Rattle.write_text.specs.Writer.{all_written, first_unwritten, nodes_limit, text_in, written_by, written_in, written_to}
+use Rattle.write_text.specs.Writer.{first_unwritten, nodes_limit, text_in, written_by, written_in, written_to}
 use Rattle.write_text.specs.declared.Unwritten.{Unwritten}
-use Rattle.write_text.specs.declared.Written.{Written}
-use Rattle.write_text.specs.declared.Written.TheVariants.{Length, Refused}
 
 -- a length is the text's, and no longer than the buffer
-abbrev pub Measured : ℕ → List ℕ → Written → Type 0
-Measured room text w = (n : ℕ) → w ≡ Length n → (n ≡ length text) × (n ≤ room)
+abbrev pub Measured : ℕ → List ℕ → Result ℕ Unwritten → Type 0
+Measured room text w = (n : ℕ) → w ≡ Ok n → (n ≡ length text) × (n ≤ room)
 
 -- by the length of the buffer
 module _ (room : ℕ) where
-  refused : (text : List ℕ) (why : Unwritten) → Measured room text (Refused why)
+  refused : (text : List ℕ) (why : Unwritten) → Measured room text (Err why)
   refused text why n e = let clash : ◌≡◌ {A = ℕ} 0 1 = cc in absurd (omega arith)
 
-  by_measured : (u : ℕ) (m : Moment) (text : List ℕ) → Measured room text (written_by u m text room)
-  by_measured u m text =
+  by_measured : (first : Option ℕ) (m : Moment) (text : List ℕ) → Measured room text (written_by first m text room)
+  by_measured (Some p) m text = refused text _
+  by_measured None m text =
       let M = Measured room text in
-      by_if M (ltb u all_written) _ _ (λ e. refused text _)
-      (λ e. by_if M (not (is_moment m)) _ _ (λ e. refused text _)
+      by_if M (not (is_moment m)) _ _ (λ e. refused text _)
       (λ e. by_if M (ltb room (length text)) _ _ (λ e. refused text _)
-      (λ e n q. let same : length text ≡ n = cc in (sym same, omega (arith, ltb-false room (length text) e)))))
+      (λ e n q. let same : length text ≡ n = cc in (sym same, omega (arith, ltb-false room (length text) e))))
 
   pub to_measured : (set : Settings) (t : List ℕ) (m : Moment) → Measured room (text_of t m) (written_to set t m room)
   unfolding written_to

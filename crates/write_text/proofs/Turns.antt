@@ -6,6 +6,7 @@
 -- `room_here`, `put_next`: where there is room for what is left, there is room for the node here; once that is put, for
 -- the rest, and putting the rest puts all that was left.
 -- `text_end`: at the end no text is left.
+use Rattle.std.specs.Prelude.{Some}
 use mathlib.Core.Path.{◌≡◌, ◌∙◌, ap}
 use mathlib.Core.Bool.{true, false}
 use mathlib.Core.List.{List, [], ◌∷◌, ◌++◌}
@@ -47,7 +48,7 @@ module _ (nodes : List Node) (i : ℕ) where
     one : left ≡ here ∷ next
     one = drop-cons nodes i end_node h ∙ rw (add-one i)
 
-    pub unwritten_here : is_written here ≡ false → first_unwritten left ≡ named here.pattern
+    pub unwritten_here : is_written here ≡ false → first_unwritten left ≡ Some (named here.pattern)
     unfolding first_unwritten
     unwritten_here e = rw (one, e)
 

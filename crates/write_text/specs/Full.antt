@@ -2,6 +2,7 @@
 -- for FM on the full name of a month (a dropped prefix does not count). Of these they have one date group, one time
 -- group and US, each once; order and literals are free.
 use Rattle.std.specs.Prelude.{◌≡◌, refl, Bool, true, false, ◌&&◌, List, [], ◌∷◌, ◌++◌, ℕ, suc, eqb, leb, length, replicate}
+use Rattle.std.specs.Option.{is_none}
 use Prim.Native.Char.{code}
 use Rattle.base_notation.specs.Choice.{when◌then◌else◌}
 use Rattle.base_notation.specs.Text.{utf8}
@@ -13,7 +14,7 @@ use Rattle.template_nodes.specs.Examples.{nodes_compute}
 use Rattle.template_nodes.specs.Template.{action, nodes_of}
 use Rattle.template_nodes.specs.declared.Node.{Node}
 use Rattle.write_pieces.specs.Pieces.{year, month, day, year_day, week_year, week, weekday, hour24, hour12, minute, second, day_second, micros, marker, dotted_marker, month_name, short_month, piece_of}
-use Rattle.write_text.specs.Writer.{all_written, first_unwritten}
+use Rattle.write_text.specs.Writer.{first_unwritten}
 
 -- the pieces of a template's patterns, in order
 unfoldable pub pieces : List Node → List ℕ
@@ -62,7 +63,7 @@ are_full ps = any_of date_groups (λ date. any_of time_groups (λ time. same ps 
 
 -- a full template, for a caller with settings
 unfoldable pub is_full : Settings → List ℕ → Bool
-is_full set t = leb (length t) (template_limit set) && (well_formed t && (eqb (first_unwritten (nodes_of t)) all_written && are_full (pieces (nodes_of t))))
+is_full set t = leb (length t) (template_limit set) && (well_formed t && (is_none (first_unwritten (nodes_of t)) && are_full (pieces (nodes_of t))))
 
 -- an ISO date and time is full; without its microseconds it is not; a dropped prefix does not count
 pub worked

@@ -1,11 +1,12 @@
 -- `dates::answer_all`: what is kept is within the input's buffer, and the buffers keep their lengths. Each turn leaves
 -- fewer reads.
-use Rattle.std.proofs.Common.{◌≤◌, length}
+use Rattle.std.proofs.Common.{◌≤◌, MatchOption, length}
+use Rattle.std.specs.Bool.{⊤}
 use Rattle.line_texts.specs.Texts.{longest}
 use Rattle.dates.proofs.answer_all.Given as goal
 
 abbrev pub invariant-loop-s : goal.invariant-loop-s
-invariant-loop-s g l = (l.s.kept ≤ length l.input) × (longest ≤ length l.out)
+invariant-loop-s g l = MatchOption l.s.kept ⊤ (λ n. n ≤ length l.input) × (longest ≤ length l.out)
 
 abbrev pub decreases-loop-s : goal.decreases-loop-s
 decreases-loop-s g l = l.s.reads

@@ -4,4 +4,4 @@ use Rattle.line_texts.proofs.Texts.{past_end}
 use Rattle.dates.proofs.answer_text.Goals as goal
 
 pub returns : goal.returns
-returns g c = λ e. past_end c.args.text.now c.loop-s.s.from (omega arith)
+returns g c = past_end c.args.text.now c.loop-s.s.from (omega arith)

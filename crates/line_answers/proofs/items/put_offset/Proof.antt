@@ -9,19 +9,19 @@ use Rattle.line_answers.proofs.items.put_offset.Statement.{statement}
 use Rattle.line_answers.proofs.items.put_offset.Tie as tie
 
 -- none
-returns : tie.Need-returns-in-Absent
+returns : tie.Need-returns-in-None
 returns c =
     let after_item = c.before.before in
     let at_absent = after_item.before.before.before in
-    rw at_absent.in-Absent.is (after_item.put_item.ensures, omega arith)
+    rw at_absent.in-None.is (after_item.put_item.ensures, omega arith)
 
 -- its seconds
-returns-2 : tie.Need-returns-in-East
+returns-2 : tie.Need-returns-in-Some
 returns-2 c =
     let after_int = c.before.before in
     let at_east = after_int.before.before in
-    let fits : SFits w32 at_east.in-East.seconds = search rules in
-    rw at_east.in-East.is (rw (to_z-of_z fits) at after_int.put_int.ensures, int_length _ fits)
+    let fits : SFits w32 at_east.in-Some.seconds = search rules in
+    rw at_east.in-Some.is (rw (to_z-of_z fits) at after_int.put_int.ensures, int_length _ fits)
 
 pub put_offset_spec : {M : Type 1} → statement M
 put_offset_spec =

@@ -1,55 +1,42 @@
 -- `replay::questions::of_strtol` meets its contract: the number is read from the text that the item is.
-use Rattle.std.proofs.Common.{◌≡◌, ◌-◌, FitsSigned, length, rules, to_z-of_z, w64}
+use Rattle.std.proofs.Common.{◌≡◌, ◌∙◌, ◌-◌, FitsSigned, length, rules, to_z-of_z, w64}
 use mir.Facts.{to_z_pos}
 use Rattle.replay.specs.Answers.{of_strtol}
-use Rattle.replay.proofs.Texts.{read_as, part_is, part_fits}
-use Rattle.replay.proofs.Casts.{at_small, back, end_small}
+use Rattle.replay.proofs.Texts.{part_is, part_fits}
+use Rattle.replay.proofs.Casts.{back, end_small, flagged}
 use Rattle.replay.proofs.questions.of_strtol.Goals as goal
 
 -- no place
-pub returns-then-start : goal.returns-then-start
+pub returns-in_err-start : goal.returns-in_err-start
 unfolding of_strtol
-returns-then-start c =
-    rw (← c.read_place-start.ensures, c.if-start.true)
+returns-in_err-start c = rw (← c.in_err-start.ensures.place) c.from_residual.ensures
 
 -- no text
-pub returns-then-bytes : goal.returns-then-bytes
+pub returns-in_err-count : goal.returns-in_err-count
 unfolding of_strtol
-returns-then-bytes c =
-    rw (← c.read_place-start.ensures, c.if-start.false, read_as c.read_bytes-bytes.ensures c.if-bytes.true)
+returns-in_err-count c =
+    rw (← c.in_ok-start.ensures.place, ← c.in_err-count.ensures.is) c.from_residual-in_err-count.ensures
 
 -- the text is within the buffer
 pub slice_bounds-c_strtol-end : goal.slice_bounds-c_strtol-end
-slice_bounds-c_strtol-end c =
-    part_fits c.read_bytes-bytes.ensures c.if-bytes.false
+slice_bounds-c_strtol-end c = part_fits c.in_ok-count.ensures
 
 -- its end can be cast: it is where it was sought, at a place, or within the text
 pub overflow_cast-result : goal.overflow_cast-result
 overflow_cast-result c =
-    let read = c.read_bytes-bytes in
+    let read = c.read_bytes in
     let size : length read.new.text ≡ 512 = search rules in
-    let place = at_small c.args.line.now c.args.from _ c.read_place-start.ensures in
-    let small = end_small read.new.text (read.result.count - 0) _ _ c.c_strtol-n.ensures place size in
+    let small = end_small read.new.text (c.in_ok-count.count - 0) _ _ c.c_strtol-n.ensures c.in_ok-start.ensures.below size in
     record { sfits = small }
 
 -- a number
 pub returns : goal.returns
 unfolding of_strtol
 returns c =
-    let read = c.read_bytes-bytes in
-    let size : length read.new.text ≡ 512 = search rules in
-    let place = at_small c.args.line.now c.args.from _ c.read_place-start.ensures in
-    let small = end_small read.new.text (read.result.count - 0) _ _ c.c_strtol-n.ensures place size in
-    let ok = c.if-bytes.false in
+    let read = c.in_ok-count.ensures in
+    let size : length c.read_bytes.new.text ≡ 512 = search rules in
     let found = c.c_strtol-n in
+    let small = end_small c.read_bytes.new.text (c.in_ok-count.count - 0) _ _ found.ensures c.in_ok-start.ensures.below size in
     let value_fits : FitsSigned w64 found.result.value = search rules in
-    rw (
-      ← c.read_place-start.ensures,
-      c.if-start.false,
-      read_as read.ensures ok,
-      to_z-of_z value_fits,
-      to_z_pos w64 small,
-      back w64 c.flag_of.ensures c.flag_of.type_inv,
-      found.ensures,
-      part_is read.ensures ok,
-    )
+    let over = back w64 (c.from.ensures ∙ flagged found.result.overflow) c.from.type_inv in
+    rw (← c.in_ok-start.ensures.place, ← read.is, to_z-of_z value_fits, to_z_pos w64 small, over, found.ensures, part_is read)

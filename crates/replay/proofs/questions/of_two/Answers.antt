@@ -1,19 +1,14 @@
--- `replay::questions::of_two` meets its contract: in each case the name is the definition's.
-use Rattle.std.proofs.Common.{to_z-of_z, w32}
-use Rattle.line_questions.proofs.Same.{same_by}
+-- `replay::questions::of_two` meets its contract: the name is the definition's.
+use Rattle.std.proofs.Common.{◌≡◌, to_z-of_z, w32, arith, rules}
+use Rattle.std.proofs.lemmas.Slice.Eq.{text_from_reads}
+use Rattle.base_notation.specs.Text.{utf8}
 use Rattle.replay.specs.Answers.{of_two}
 use Rattle.replay.proofs.Casts.{back}
 use Rattle.replay.proofs.questions.of_two.Goals as goal
 
--- the Monday of a week
-pub returns-then-same : goal.returns-then-same
+-- the first day of the week
+pub returns-in-isoweek2j : goal.returns-in-isoweek2j
 unfolding of_two
-returns-then-same c =
-    rw (same_by c.same.ensures c.if-same.true)
-    (simp (c.one.ensures, back w32 c.pg_isoweek2j.ensures c.pg_isoweek2j.type_inv, to_z-of_z c.ranges.year, to_z-of_z c.ranges.week))
-
--- no such name
-pub returns : goal.returns
-unfolding of_two
-returns c =
-    rw (same_by c.same.ensures c.if-same.false)
+returns-in-isoweek2j c =
+    let name : c.args.name.now ≡ utf8 "isoweek2j" = text_from_reads c.args.name.now (utf8 "isoweek2j") (omega arith) (search rules) in
+    rw name (simp (c.one.ensures, back w32 c.pg_isoweek2j.ensures c.pg_isoweek2j.type_inv, to_z-of_z c.ranges.year, to_z-of_z c.ranges.week))

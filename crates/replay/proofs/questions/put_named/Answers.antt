@@ -1,70 +1,27 @@
 -- `replay::questions::put_named` meets its contract: the tests of the name are the definition's.
-use Rattle.line_questions.proofs.Same.{same_by}
+use Rattle.std.proofs.Common.{◌≡◌, sym, true, false}
+use Rattle.base_notation.specs.Text.{utf8}
+use Rattle.line_questions.specs.Items.{same}
 use Rattle.replay.specs.Answers.{named_text}
 use Rattle.replay.proofs.questions.put_named.Goals as goal
 
 -- the nodes of a template
-pub returns-then-same : goal.returns-then-same
+pub returns-then-eq : goal.returns-then-eq
 unfolding named_text
-returns-then-same c =
-    rw (same_by c.same.ensures c.if-same.true)
-    c.put_template.ensures
+returns-then-eq c =
+    let parse : same c.args.name.now (utf8 "parse") ≡ true = rw (c.as_slice.ensures) at (sym c.if-eq.ensures) in
+    rw parse c.put_template.ensures
 
--- the parts of a line
-pub returns-then-same-2 : goal.returns-then-same-2
+-- the line program's answer
+pub returns-in-Some : goal.returns-in-Some
 unfolding named_text
-returns-then-same-2 c =
-    rw (
-      same_by c.same.ensures c.if-same.false,
-      same_by c.same-2.ensures c.if-same-2.true,
-    )
-    c.put_line.ensures
-
--- its instant
-pub returns-then-same-3 : goal.returns-then-same-3
-unfolding named_text
-returns-then-same-3 c =
-    rw (
-      same_by c.same.ensures c.if-same.false,
-      same_by c.same-2.ensures c.if-same-2.false,
-      same_by c.same-3.ensures c.if-same-3.true,
-    )
-    c.put_line-then-same-3.ensures
-
--- its day
-pub returns-then-same-4 : goal.returns-then-same-4
-unfolding named_text
-returns-then-same-4 c =
-    rw (
-      same_by c.same.ensures c.if-same.false,
-      same_by c.same-2.ensures c.if-same-2.false,
-      same_by c.same-3.ensures c.if-same-3.false,
-      same_by c.same-4.ensures c.if-same-4.true,
-    )
-    c.put_line-then-same-4.ensures
-
--- the text of its moment
-pub returns-then-same-5 : goal.returns-then-same-5
-unfolding named_text
-returns-then-same-5 c =
-    rw (
-      same_by c.same.ensures c.if-same.false,
-      same_by c.same-2.ensures c.if-same-2.false,
-      same_by c.same-3.ensures c.if-same-3.false,
-      same_by c.same-4.ensures c.if-same-4.false,
-      same_by c.same-5.ensures c.if-same-5.true,
-    )
-    c.put_line-then-same-5.ensures
+returns-in-Some c =
+    let other : same c.args.name.now (utf8 "parse") ≡ false = rw (c.as_slice.ensures) at (sym c.if-eq.ensures) in
+    rw (other, ← c.in-Some.ensures) c.put_line.ensures
 
 -- numbers
-pub returns : goal.returns
+pub returns-in-None : goal.returns-in-None
 unfolding named_text
-returns c =
-    rw (
-      same_by c.same.ensures c.if-same.false,
-      same_by c.same-2.ensures c.if-same-2.false,
-      same_by c.same-3.ensures c.if-same-3.false,
-      same_by c.same-4.ensures c.if-same-4.false,
-      same_by c.same-5.ensures c.if-same-5.false,
-    )
-    (rw c.values_of.ensures at c.put_values.ensures)
+returns-in-None c =
+    let other : same c.args.name.now (utf8 "parse") ≡ false = rw (c.as_slice.ensures) at (sym c.if-eq.ensures) in
+    rw (other, ← c.in-None.ensures, ← c.values_of.ensures) c.put_values.ensures

@@ -10,4 +10,4 @@ returns-in-Three c =
     let b : FitsSigned w64 c.in-Three.b = search rules in
     let d : FitsSigned w64 c.in-Three.c = search rules in
     let two = put_then _ _ (simp (to_z-of_z a) at c.put_decimal-first.ensures) (simp (to_z-of_z b) at c.put_after-second.ensures) in
-    rw c.in-Three.is (put_then _ _ two (simp (to_z-of_z d) at c.put_after.ensures))
+    rw (c.in-Some.is, c.in-Three.is) (put_then _ _ two (simp (to_z-of_z d) at c.put_after.ensures))

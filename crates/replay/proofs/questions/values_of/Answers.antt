@@ -1,43 +1,20 @@
--- `replay::questions::values_of` meets its contract: the tests of the name are the definition's.
-use Rattle.line_questions.proofs.Same.{same_by}
+-- `replay::questions::values_of` meets its contract: in each case the name is the definition's.
+use Rattle.std.proofs.Common.{◌≡◌, arith, rules}
+use Rattle.std.proofs.lemmas.Slice.Eq.{text_from_reads}
+use Rattle.base_notation.specs.Text.{utf8}
 use Rattle.replay.specs.Answers.{values_of}
 use Rattle.replay.proofs.questions.values_of.Goals as goal
 
 -- the number at a place
-pub returns-then-same : goal.returns-then-same
+pub returns-in-strtol : goal.returns-in-strtol
 unfolding values_of
-returns-then-same c =
-    rw (same_by c.same.ensures c.if-same.true)
-    c.of_strtol.ensures
+returns-in-strtol c =
+    let name : c.args.name.now ≡ utf8 "strtol" = text_from_reads c.args.name.now (utf8 "strtol") (omega arith) (search rules) in
+    rw name c.of_strtol.ensures
 
 -- the length of a character
-pub returns-then-same-2 : goal.returns-then-same-2
+pub returns-in-mblen : goal.returns-in-mblen
 unfolding values_of
-returns-then-same-2 c =
-    rw (
-      same_by c.same.ensures c.if-same.false,
-      same_by c.same-2.ensures c.if-same-2.true,
-    )
-    c.of_mblen.ensures
-
--- whether a text is well-formed
-pub returns-then-same-3 : goal.returns-then-same-3
-unfolding values_of
-returns-then-same-3 c =
-    rw (
-      same_by c.same.ensures c.if-same.false,
-      same_by c.same-2.ensures c.if-same-2.false,
-      same_by c.same-3.ensures c.if-same-3.true,
-    )
-    c.of_utf8.ensures
-
--- a question about numbers
-pub returns : goal.returns
-unfolding values_of
-returns c =
-    rw (
-      same_by c.same.ensures c.if-same.false,
-      same_by c.same-2.ensures c.if-same-2.false,
-      same_by c.same-3.ensures c.if-same-3.false,
-    )
-    (simp (c.of_numbers.ensures, c.read_numbers.ensures))
+returns-in-mblen c =
+    let name : c.args.name.now ≡ utf8 "mblen" = text_from_reads c.args.name.now (utf8 "mblen") (omega arith) (search rules) in
+    rw name c.of_mblen.ensures

@@ -1,0 +1,30 @@
+-- `replay::questions::of_mblen` meets its contract: what is measured is the text that the item is.
+use Rattle.std.proofs.Common.{◌≡◌, pos, to_z, w64, arith}
+use mir.Facts.{to_z_pos}
+use Rattle.replay.specs.Answers.{of_mblen}
+use Rattle.replay.proofs.Texts.{part_is, part_fits}
+use Rattle.replay.proofs.questions.of_mblen.Goals as goal
+
+-- no place
+pub returns-in_err-place : goal.returns-in_err-place
+unfolding of_mblen
+returns-in_err-place c = rw (← c.in_err-place.ensures.place) c.from_residual.ensures
+
+-- no text
+pub returns-in_err-count : goal.returns-in_err-count
+unfolding of_mblen
+returns-in_err-count c =
+    rw (← c.in_ok-place.ensures.place, ← c.in_err-count.ensures.is) c.from_residual-in_err-count.ensures
+
+-- the text is within the buffer
+pub slice_bounds-pg_mblen-end : goal.slice_bounds-pg_mblen-end
+slice_bounds-pg_mblen-end c = part_fits c.in_ok-count.ensures
+
+-- a length, of at most 4
+pub returns : goal.returns
+unfolding of_mblen
+returns c =
+    let read = c.in_ok-count.ensures in
+    let measured = c.pg_mblen.ensures in
+    let small : to_z w64 c.pg_mblen.result ≡ pos c.pg_mblen.result = to_z_pos w64 (omega (arith, measured.most)) in
+    rw (← c.in_ok-place.ensures.place, ← read.is, small, measured.is, part_is read)
