@@ -23,7 +23,7 @@ use Rattle.read_fields.specs.declared.Task.{Task}
 
 -- the task that is packed into a number
 abbrev pub unpacked : ℕ → Task
-unpacked x = task (kind_of (x / 32 % 8)) (x % 32) (x / 256 % 16) (x / 4096 % 16)
+unpacked x = record { kind = x / 32 % 8; field = x % 32; rule = x / 256 % 16; operand = x / 4096 % 16 }
 
 -- a kind by its own number
 kind_back : (k : Kind) → kind_of (kind_number k) ≡ k
@@ -41,14 +41,14 @@ same_kind_lem a b e = sym (kind_back a) ∙ ap kind_of (eqb-true _ _ e) ∙ kind
 
 -- two tasks are the same, as a test that computes
 abbrev pub same_task : Task → Task → Bool
-same_task a b = same_kind a.kind b.kind && (eqb a.field b.field && (eqb a.rule b.rule && eqb a.operand b.operand))
+same_task a b = eqb a.kind b.kind && (eqb a.field b.field && (eqb a.rule b.rule && eqb a.operand b.operand))
 
 pub same_task_lem : (a b : Task) → same_task a b ≡ true → a ≡ b
 same_task_lem a b e =
-    let on_kind = both (same_kind a.kind b.kind) _ e in
+    let on_kind = both (eqb a.kind b.kind) _ e in
     let on_field = both (eqb a.field b.field) _ on_kind.1 in
     let on_rule = both (eqb a.rule b.rule) _ on_field.1 in
-    let kind = same_kind_lem a.kind b.kind on_kind.0 in
+    let kind = eqb-true a.kind b.kind on_kind.0 in
     let field = eqb-true a.field b.field on_field.0 in
     let rule = eqb-true a.rule b.rule on_rule.0 in
     let operand = eqb-true a.operand b.operand on_rule.1 in
@@ -59,7 +59,7 @@ same_task_lem a b e =
 abbrev right : ℕ → ℕ → Bool
 right k x =
     same_task (unpacked x) (task_of k)
-    && (ltb (unpacked x).field 24 && (eqb (x / 65536) (pattern_of k).mode && (ltb (x / 65536) 256 && not (same_kind (task_of k).kind number && eqb (task_of k).field 0))))
+    && (ltb (unpacked x).field 24 && (eqb (x / 65536) (pattern_of k).mode && (ltb (x / 65536) 256 && not (same_kind (kind_of (task_of k).kind) number && eqb (task_of k).field 0))))
 
 -- past the table all patterns are alike
 past_table : (k : ℕ) → 112 ≤ k → pattern_of k ≡ pattern_of 112
@@ -96,7 +96,7 @@ module _ (k : ℕ) where
       let on_task = both (same_task (unpacked x) (task_of k)) _ (all_right k) in
       record { is = same_task_lem _ _ on_task.0; known = ltb-true _ _ (both (ltb (unpacked x).field 24) _ on_task.1).0 }
 
-  rest : (eqb (x / 65536) (pattern_of k).mode && (ltb (x / 65536) 256 && not (same_kind (task_of k).kind number && eqb (task_of k).field 0))) ≡ true
+  rest : (eqb (x / 65536) (pattern_of k).mode && (ltb (x / 65536) 256 && not (same_kind (kind_of (task_of k).kind) number && eqb (task_of k).field 0))) ≡ true
   rest = (both (ltb (unpacked x).field 24) _ (both (same_task (unpacked x) (task_of k)) _ (all_right k)).1).1
 
   pub mode_is : x / 65536 ≡ (pattern_of k).mode
@@ -105,5 +105,5 @@ module _ (k : ℕ) where
   pub mode_small : x / 65536 < 256
   mode_small = ltb-true _ _ (both (ltb (x / 65536) 256) _ (both (eqb (x / 65536) (pattern_of k).mode) _ rest).1).0
 
-  pub number_apart : (task_of k).kind ≡ number → (task_of k).field ≡ 0 → ⊥
+  pub number_apart : kind_of (task_of k).kind ≡ number → (task_of k).field ≡ 0 → ⊥
   number_apart e z = absurd (true≢false (sym (both (ltb (x / 65536) 256) _ (both (eqb (x / 65536) (pattern_of k).mode) _ rest).1).1 ∙ rw (e, eq-eqb _ _ z) refl))

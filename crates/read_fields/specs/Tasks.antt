@@ -36,7 +36,7 @@ offset = Offset
 abbrev pub offset_minutes : Kind
 offset_minutes = OffsetMinutes
 
--- a kind by its number in the table; any other number is that of nothing to read
+-- a kind by its number, as a task has it; any other number is that of nothing to read
 abbrev pub kind_of : ℕ → Kind
 kind_of k =
     when eqb k 1 then exact
@@ -146,7 +146,7 @@ no_letter = 2
 
 -- a task by its kind, its field, its rule and its operand: the width of a number, or the number of a word list
 abbrev pub task : Kind → ℕ → ℕ → ℕ → Task
-task kind field rule operand = record { kind = kind; field = field; rule = rule; operand = operand }
+task kind field rule operand = record { kind = kind_number kind; field = field; rule = rule; operand = operand }
 
 -- names that are read alike, and their task; a name is meant in either case
 pub record Row : Type 0 where
@@ -230,7 +230,7 @@ pub record Assigned (k : ℕ) (r : Task) : Type 0 where
 
 -- a task in one number: its operand, its rule, its kind and its field in 4, 4, 3 and 5 bits
 abbrev pub packed : Task → ℕ
-packed t = t.operand * 4096 + t.rule * 256 + kind_number t.kind * 32 + t.field
+packed t = t.operand * 4096 + t.rule * 256 + t.kind * 32 + t.field
 
 -- the task and the date mode of the pattern number k in one number
 abbrev pub row_of : ℕ → ℕ

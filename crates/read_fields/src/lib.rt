@@ -54,11 +54,11 @@ pub enum Kind {
     OffsetMinutes,
 }
 
-// A kind by its number in the table of tasks. Any other number means that nothing is read.
-impl From<u32> for Kind {
+// A kind by its number. Any other number means that nothing is read.
+impl From<usize> for Kind {
     ghost from_gives = { λ k kind. kind ≡ kind_of k };
 
-    fn from(k: u32) -> Kind {
+    fn from(k: usize) -> Kind {
         match k {
             1 => Kind::Exact,
             2 => Kind::Number,
@@ -72,11 +72,20 @@ impl From<u32> for Kind {
     }
 }
 
-// What reading a pattern does. The operand is the width of a number, or the number of a word list. Field and rule are
-// whole registers, so that no copy packs them into one.
+// The same of a number of 32 bits.
+impl From<u32> for Kind {
+    ghost from_gives = { λ k kind. kind ≡ kind_of k };
+
+    fn from(k: u32) -> Kind {
+        Kind::from(k as usize)
+    }
+}
+
+// What reading a pattern does. The kind is the number of a `Kind`. The operand is the width of a number, or the number
+// of a word list. Kind, field and rule are whole registers, so that no copy packs them into one.
 #[derive(Clone, Copy)]
 pub struct Task {
-    pub kind: Kind,
+    pub kind: usize,
     pub field: usize,
     pub rule: usize,
     pub operand: u8,

@@ -4,7 +4,7 @@ ghost use Rattle.template_patterns.specs.Patterns.{pattern_of};
 ghost use Rattle.template_patterns.specs.Search.{count_from};
 ghost use Rattle.read_fields.specs.Tasks.{Assigned, row_of};
 
-use crate::{Kind, Task};
+use crate::Task;
 
 // The rules for a number. PLAIN keeps it as it is and notes nothing.
 pub const PLAIN: usize = 0;
@@ -198,7 +198,7 @@ pub fn task_at(pattern: u8) -> Task
 {
     let x = row_of(pattern);
     Task {
-        kind: Kind::from(x / 32 % 8),
+        kind: (x / 32 % 8) as usize,
         field: (x % 32) as usize,
         rule: (x / 256 % 16) as usize,
         operand: (x / 4096 % 16) as u8,

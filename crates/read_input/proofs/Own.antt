@@ -15,7 +15,7 @@ use Rattle.template_patterns.specs.Patterns.{pattern_of}
 use Rattle.template_nodes.specs.Template.{action}
 use Rattle.template_nodes.specs.declared.Node.{Node}
 use Rattle.read_fields.specs.Fields.{get, mode, no_fields}
-use Rattle.read_fields.specs.Tasks.{task_of}
+use Rattle.read_fields.specs.Tasks.{kind_of, task_of}
 use Rattle.read_fields.specs.declared.Kind.TheVariants.{Nothing, Exact, Number, Word, Dropped, CommaYear, Offset, OffsetMinutes}
 use Rattle.read_fields.specs.declared.Fields.{Fields}
 use Rattle.read_fields.specs.declared.Place.{Place}
@@ -40,7 +40,7 @@ module _ (P : ℕ → Type 0) (t s : List ℕ) where
     performed_own : (free : Bool) (task : Task) → ReadingNames P (performed s n free task f p)
     unfolding performed
     performed_own free task =
-        (elim task.kind as (λ k. ReadingNames P (by_kind k s n free task f p)) [
+        (elim (kind_of task.kind) as (λ k. ReadingNames P (by_kind k s n free task f p)) [
           | Nothing ↦ tt
           | Exact ↦ tt
           | Number ↦ read_number_own P s n own f p free task

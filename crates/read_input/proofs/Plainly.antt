@@ -31,7 +31,7 @@ use Rattle.template_patterns.specs.Patterns.{pattern_of}
 use Rattle.template_nodes.specs.Template.{end_node}
 use Rattle.template_nodes.specs.declared.Node.{Node}
 use Rattle.read_fields.specs.Fields.{at_place, conflicts, fields_of, get, mode, put, read}
-use Rattle.read_fields.specs.Tasks.{comma_year, exact, number, same_kind, task_of}
+use Rattle.read_fields.specs.Tasks.{comma_year, exact, kind_of, number, same_kind, task_of}
 use Rattle.read_fields.specs.declared.Fields.{Fields}
 use Rattle.read_fields.specs.declared.Kind.{Kind}
 use Rattle.read_fields.specs.declared.Place.{Place}
@@ -68,7 +68,7 @@ module _ (t s : List ℕ) (n next : Node) (f : Fields) (p : Place) (d : Short) (
   abbrev end : ℕ
   end = d.end
 
-  module _ (kind : task.kind ≡ number) (bare : ordinal n.suffix ≡ false) (inexact : p.fx ≡ 0)
+  module _ (kind : kind_of task.kind ≡ number) (bare : ordinal n.suffix ≡ false) (inexact : p.fx ≡ 0)
       (wide : is_free t n next ≡ false → end - p.at ≡ task.operand)
       (unmixed : mixes new (get f mode) ≡ false)
       (alone : conflicts (get f task.field) value ≡ false)
@@ -77,7 +77,7 @@ module _ (t s : List ℕ) (n next : Node) (f : Fields) (p : Place) (d : Short) (
       q = place p.at p.extra false
 
       -- no space is before the digits
-      entered_is : entered_by s (not (same_kind task.kind exact)) p ≡ q
+      entered_is : entered_by s (not (same_kind (kind_of task.kind) exact)) p ≡ q
       entered_is = rw (kind, inexact, few_no_space s p.at n.pattern task.operand d there, add-zero p.at, add-zero p.extra) refl
 
       abbrev r : Reading
@@ -104,7 +104,7 @@ module _ (t s : List ℕ) (n next : Node) (f : Fields) (p : Place) (d : Short) (
 
       pub plainly
           : read (with_number task value (end - p.at) (with_mode new f)) (past_field s (place end 0 false))
-          ≡ action_read t s n next f (entered_by s (not (same_kind task.kind exact)) p)
+          ≡ action_read t s n next f (entered_by s (not (same_kind (kind_of task.kind) exact)) p)
       plainly = rw entered_is (passed t s n next f q unmixed r is refl)
 
 -- of two tests one passed, and not the second
@@ -117,10 +117,10 @@ module _ (t s : List ℕ) (n next : Node) (before : List ℤ) (p : Place) {after
     (there : short_at s p.at ≡ Some d) (task_is : task ≡ task_of n.pattern) (new_is : new ≡ (pattern_of n.pattern).mode)
   where
     pub is_taken
-        : task.kind ≡ number → ordinal n.suffix ≡ false → p.fx ≡ 0 → (eqb (d.end - p.at) task.operand || is_free t n next) ≡ true
+        : kind_of task.kind ≡ number → ordinal n.suffix ≡ false → p.fx ≡ 0 → (eqb (d.end - p.at) task.operand || is_free t n next) ≡ true
         → NumberPut new task (pos d.value) (d.end - p.at) before put after → put ≡ true
         → after_spaces ≡ past_field s (place d.end 0 false)
-        → read (fields_of after) after_spaces ≡ action_read t s n next (fields_of before) (entered_by s (not (same_kind (task_of n.pattern).kind exact)) p)
+        → read (fields_of after) after_spaces ≡ action_read t s n next (fields_of before) (entered_by s (not (same_kind (kind_of (task_of n.pattern).kind) exact)) p)
     is_taken kind bare inexact fits was_put held place_is =
         let put_is = rw (task_is, new_is) at was_put in
         let wide : is_free t n next ≡ false → d.end - p.at ≡ (task_of n.pattern).operand = λ f. eqb-true (d.end - p.at) (task_of n.pattern).operand (or_first (eqb (d.end - p.at) (task_of n.pattern).operand) (rw task_is at fits) f) in
@@ -133,7 +133,7 @@ module _ (t s : List ℕ) (ns : List Node) (whole : Reading) (i : ℕ) (f : Fiel
     (n : Node) (e : n ≡ get_or ns i end_node)
   where
     pub of_pattern
-        : n.kind ≡ 1 → {g : Fields} {q : Place} → read g q ≡ action_read t s n (get_or ns (i + 1) end_node) f (entered_by s (not (same_kind (task_of n.pattern).kind exact)) p)
+        : n.kind ≡ 1 → {g : Fields} {q : Place} → read g q ≡ action_read t s n (get_or ns (i + 1) end_node) f (entered_by s (not (same_kind (kind_of (task_of n.pattern).kind) exact)) p)
         → Turned t s ns whole (i + 1) g q
     unfolding node_read entered
     of_pattern k is = passes t s ns whole i f p turned h l n (get_or ns (i + 1) end_node) e refl _ _ (rw (eq-eqb n.kind 1 k) is)

@@ -22,7 +22,7 @@ use Rattle.template_patterns.specs.Patterns.{pattern_of}
 use Rattle.template_nodes.specs.Template.{action}
 use Rattle.template_nodes.specs.declared.Node.{Node}
 use Rattle.read_fields.specs.Fields.{conflicts, get, put, no_fields, onward, is_zero, mode, clock, yysz, tzsign, tzh, tzm, ff}
-use Rattle.read_fields.specs.Tasks.{number, comma_year, same_kind, fraction, hour12, whole_year, part_year, odd_hour12, hours, no_letter, task_of}
+use Rattle.read_fields.specs.Tasks.{number, comma_year, kind_of, same_kind, fraction, hour12, whole_year, part_year, odd_hour12, hours, no_letter, task_of}
 use Rattle.read_fields.proofs.Assigned.{each_task}
 use Rattle.read_fields.specs.declared.Fields.{Fields}
 use Rattle.read_fields.specs.declared.Kind.TheVariants as K
@@ -65,7 +65,7 @@ module _ (f : Fields) (h : Precise f) where
 
 -- a task sets another field, and one that notes the digits of a fraction has at most 6
 abbrev takes_number : Task → Bool
-takes_number t = same_kind t.kind number || same_kind t.kind comma_year
+takes_number t = same_kind (kind_of t.kind) number || same_kind (kind_of t.kind) comma_year
 
 abbrev precise : Task → Bool
 precise t = ltb t.field 23 && (not (takes_number t && eqb t.rule fraction) || ltb t.operand 7)
@@ -151,7 +151,7 @@ module _ (s : List ℕ) (n : Node) (free : Bool) where
       let stored : takes_number task ≡ true → (z : Result Number Refusal) → PreciseIn (stored_number s n task z f p)
       = λ taken. stored_number_lem s n f p h task field (λ e. let small = ltb-true task.operand 7 (rw (taken, e) at tests.1) in omega arith)
       in
-      (elim task.kind as (λ k. task.kind ≡ k → PreciseIn (by_kind k s n free task f p)) [
+      (elim (kind_of task.kind) as (λ k. kind_of task.kind ≡ k → PreciseIn (by_kind k s n free task f p)) [
         | K.Nothing ↦ λ k. h
         | K.Exact ↦ λ k. h
         | K.Number ↦ λ k. stored (rw k refl) _

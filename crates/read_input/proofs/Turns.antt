@@ -21,7 +21,7 @@ use Rattle.template_nodes.specs.declared.Node.{Node}
 use Rattle.read_fields.specs.Fields.{no_fields, read, onward}
 use Rattle.read_literals.specs.Literals.{Payable, entered_by, place}
 use Rattle.read_input.specs.Reader.{action_read, entered, head_of, node_read, read_all, read_from}
-use Rattle.read_fields.specs.Tasks.{exact, same_kind, task_of}
+use Rattle.read_fields.specs.Tasks.{exact, kind_of, same_kind, task_of}
 use Rattle.read_input.specs.Turn.{Turned}
 use Rattle.read_fields.specs.declared.Fields.{Fields}
 use Rattle.read_fields.specs.declared.Place.{Place}
@@ -86,7 +86,7 @@ module _ (t s : List ℕ) (ns : List Node) (whole : Reading) (i : ℕ) (f : Fiel
 
     -- a pattern
     module _ (k : n.kind ≡ 1) (r : Reading)
-        (is : r ≡ action_read t s n next f (entered_by s (not (same_kind (task_of n.pattern).kind exact)) p))
+        (is : r ≡ action_read t s n next f (entered_by s (not (same_kind (kind_of (task_of n.pattern).kind) exact)) p))
       where
         node : r ≡ node_read t s n next (eqb i 0) f p
         unfolding node_read entered
@@ -99,7 +99,7 @@ module _ (t s : List ℕ) (ns : List Node) (whole : Reading) (i : ℕ) (f : Fiel
         pub goes_on : r.verdict ≡ Ok tt → Turned t s ns whole (i + 1) r.fields r.place
         goes_on v =
             next_turn r node v
-            (rw (← is) at (payable_action s f (entered_by s (not (same_kind (task_of n.pattern).kind exact)) p) t n next (rw is at v)))
+            (rw (← is) at (payable_action s f (entered_by s (not (same_kind (kind_of (task_of n.pattern).kind) exact)) p) t n next (rw is at v)))
 
     -- a node that is read, whichever it is
     pub passes : (g : Fields) (q : Place) → read g q ≡ node_read t s n next (eqb i 0) f p → Turned t s ns whole (i + 1) g q

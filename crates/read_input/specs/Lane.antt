@@ -3,7 +3,7 @@ use Rattle.std.specs.Prelude.{◌≡◌, Bool, true, false, not, List, ℕ, ◌�
 use Rattle.template_nodes.specs.Template.{action, end_node}
 use Rattle.template_nodes.specs.declared.Node.{Node}
 use Rattle.read_fields.specs.Fields.{conflicts, fields_of, get, mode, read}
-use Rattle.read_fields.specs.Tasks.{exact, same_kind, task_of}
+use Rattle.read_fields.specs.Tasks.{exact, kind_of, same_kind, task_of}
 use Rattle.read_fields.specs.declared.Fields.{Fields}
 use Rattle.read_fields.specs.declared.Place.{Place}
 use Rattle.read_fields.specs.declared.Reading.{Reading}
@@ -25,7 +25,7 @@ pub record NumberPut (new : ℕ) (task : Task) (z : ℤ) (n : ℕ) (before : Lis
 pub record Took (t s : List ℕ) (n next : Node) (before : List ℤ) (p : Place) (r : Option Place) (after : List ℤ) : Type 0 where
   pub left : r ≡ None → after ≡ before
   pub taken : (q : Place) → r ≡ Some q
-      → read (fields_of after) q ≡ action_read t s n next (fields_of before) (entered_by s (not (same_kind (task_of n.pattern).kind exact)) p)
+      → read (fields_of after) q ≡ action_read t s n next (fields_of before) (entered_by s (not (same_kind (kind_of (task_of n.pattern).kind) exact)) p)
 
 -- the next node and the place, where no skipped space is left
 abbrev pub passed_at : ℕ → ℕ → Passed

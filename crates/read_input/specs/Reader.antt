@@ -8,7 +8,7 @@ use Rattle.template_nodes.specs.Template.{action, end_node}
 use Rattle.template_nodes.specs.declared.Node.{Node}
 use Rattle.read_fields.specs.Fields.{fields_of, mode, no_fields, get, put, read, refuse, onward, conflicts}
 use Rattle.read_numbers.specs.Numbers.{read_number, read_dropped}
-use Rattle.read_fields.specs.Tasks.{exact, same_kind, task_of}
+use Rattle.read_fields.specs.Tasks.{exact, kind_of, same_kind, task_of}
 use Rattle.read_words.specs.Words.{read_word}
 use Rattle.read_offsets.specs.Offsets.{read_offset, read_offset_minutes}
 use Rattle.read_literals.specs.Literals.{place, past_field, literal_passed, entered_by}
@@ -40,7 +40,7 @@ by_kind Offset s n free task f p = read_offset s n free task f p
 by_kind OffsetMinutes s n free task f p = read_offset_minutes s n free f p
 
 unfoldable pub performed : List ℕ → Node → Bool → Task → Fields → Place → Reading
-performed s n free task f p = by_kind task.kind s n free task f p
+performed s n free task f p = by_kind (kind_of task.kind) s n free task f p
 
 unfoldable pub past_spaces : List ℕ → Reading → Reading
 past_spaces s r = record { verdict = r.verdict; fields = r.fields; place = past_field s r.place }
@@ -66,7 +66,7 @@ pub record Went (r : Reading) (o : Outcome) (values : List ℤ) : Type 0 where
 
 -- spaces are skipped before a pattern but FX, and before the first node
 abbrev pub skips : Node → Bool → Bool
-skips n first = when eqb n.kind action then not (same_kind (task_of n.pattern).kind exact) else first
+skips n first = when eqb n.kind action then not (same_kind (kind_of (task_of n.pattern).kind) exact) else first
 
 unfoldable pub entered : List ℕ → Node → Bool → Place → Place
 entered s n first p = entered_by s (skips n first) p

@@ -3,7 +3,7 @@ ghost use Rattle.std.specs.Prelude.{not, ◌≡◌, ◌<◌, ◌≤◌, length};
 ghost use Rattle.read_literals.specs.Literals.{Payable, entered_by};
 ghost use Rattle.read_input.specs.Reader.{Went, action_read, mixes, performed, with_mode};
 ghost use Rattle.read_fields.specs.Fields.{fields_of, read_into};
-ghost use Rattle.read_fields.specs.Tasks.{Assigned, exact, same_kind, task_of};
+ghost use Rattle.read_fields.specs.Tasks.{Assigned, exact, kind_of, same_kind, task_of};
 
 use base_refusals::Refusal;
 use read_fields::{Kind, Outcome, Place, Task, field, state, table};
@@ -15,7 +15,7 @@ fn performed(s: &[u8], n: Node, free: bool, task: Task, f: &mut [i32; 24], p: Pl
     requires { (task.field < 24) × (p.at ≤ length s.now) }
     ensures { read_into result f.new ≡ performed s.now n free task (fields_of f.old) p }
 {
-    match task.kind {
+    match Kind::from(task.kind) {
         Kind::Number | Kind::CommaYear => read_numbers::read_number(s, n, free, task, f, p),
         Kind::Word => read_words::read_word(s, n, task, f, p),
         Kind::Exact => state::read(read_literals::exact(p)),
@@ -72,9 +72,9 @@ fn action_read(
 #[tactic(auto, using(read_literals::proofs::Literals::entered_within))]
 pub fn pattern_read(t: &[u8], s: &[u8], n: Node, next: Node, f: &mut [i32; 24], p: Place) -> Outcome
     requires { Payable s.now p × (p.at ≤ length s.now) × (length s.now ≤ 512) }
-    ensures { Went (action_read t.now s.now n next (fields_of f.old) (entered_by s.now (not (same_kind (task_of n.pattern).kind exact)) p)) result f.new }
+    ensures { Went (action_read t.now s.now n next (fields_of f.old) (entered_by s.now (not (same_kind (kind_of (task_of n.pattern).kind) exact)) p)) result f.new }
 {
     let task = table::task_at(n.pattern);
-    let q = read_literals::entered(s, task.kind != Kind::Exact, p);
+    let q = read_literals::entered(s, Kind::from(task.kind) != Kind::Exact, p);
     action_read(t, s, n, next, task, f, q)
 }

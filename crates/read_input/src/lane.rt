@@ -10,7 +10,7 @@ ghost use Rattle.template_nodes.specs.Bytes.{nodes_in};
 ghost use Rattle.template_nodes.specs.Template.{end_node};
 ghost use Rattle.read_literals.specs.Literals.{Payable, entered_by, literal_passed};
 ghost use Rattle.read_integers.specs.Suffix.{is_free, ordinal};
-ghost use Rattle.read_fields.specs.Tasks.{Assigned, number};
+ghost use Rattle.read_fields.specs.Tasks.{Assigned, kind_of, number};
 ghost use Rattle.read_input.specs.Lane.{CharsRead, LaneRead, NodeTook, NumberPut, Took, passed_at};
 
 use crate::actions;
@@ -77,7 +77,7 @@ fn number_taken(
     f: &mut [i32; 24],
     p: Place,
 ) -> Option<Place>
-    requires { (i < length (nodes_in c.now)) × (length s.now ≤ 512) × Assigned n.pattern task × (task.kind ≡ number) × (ordinal n.suffix ≡ false) × (p.fx ≡ 0) }
+    requires { (i < length (nodes_in c.now)) × (length s.now ≤ 512) × Assigned n.pattern task × (kind_of task.kind ≡ number) × (ordinal n.suffix ≡ false) × (p.fx ≡ 0) }
     ensures { Took t.now s.now n (get_or (nodes_in c.now) (i + 1) end_node) f.old p result f.new }
 {
     let Short { value, end } = base_strtol::short_number(s, p.at)?;
@@ -113,7 +113,7 @@ fn pattern_taken(
         return None;
     }
     let task = table::task_at(n.pattern);
-    if task.kind != Kind::Number {
+    if Kind::from(task.kind) != Kind::Number {
         return None;
     }
     number_taken(c, t, s, i, n, task, f, p)

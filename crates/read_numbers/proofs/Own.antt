@@ -14,7 +14,7 @@ use Rattle.read_integers.specs.declared.Number.{Number}
 use Rattle.read_integers.proofs.Own.{NumberNames, number_own}
 use Rattle.template_nodes.specs.declared.Node.{Node}
 use Rattle.read_fields.specs.Fields.{conflicts, get}
-use Rattle.read_fields.specs.Tasks.{comma_year, same_kind}
+use Rattle.read_fields.specs.Tasks.{comma_year, kind_of, same_kind}
 use Rattle.read_fields.specs.declared.Fields.{Fields}
 use Rattle.read_fields.specs.declared.Place.{Place}
 use Rattle.read_fields.specs.declared.Task.{Task}
@@ -52,7 +52,7 @@ module _ (P : ℕ → Type 0) (s : List ℕ) (n : Node) (own : P n.pattern) (f :
   pub read_number_own : (free : Bool) (task : Task) → ReadingNames P (read_number s n free task f p)
   read_number_own free task =
       stored_own task (number_of s n free task p.at)
-      (by_if (NumberNames P) (same_kind task.kind comma_year) _ _ (λ e. comma_own P n.pattern own s p.at)
+      (by_if (NumberNames P) (same_kind (kind_of task.kind) comma_year) _ _ (λ e. comma_own P n.pattern own s p.at)
       (λ e. number_own P n.pattern own s p.at task.operand free))
 
   pub read_dropped_own : (free : Bool) (task : Task) → ReadingNames P (read_dropped s n free task f p)

@@ -10,7 +10,7 @@ use Rattle.read_integers.specs.declared.Number.{Number}
 use Rattle.template_nodes.specs.declared.Node.{Node}
 use Rattle.base_wrapping.specs.Wrap.{◌⊕◌, ◌⊗◌}
 use Rattle.read_fields.specs.Fields.{conflicts, get, put, read, refuse, at_place, clock, yysz, ff}
-use Rattle.read_fields.specs.Tasks.{comma_year, same_kind, hour12, millis, micros, fraction, iso_day, whole_year, part_year}
+use Rattle.read_fields.specs.Tasks.{comma_year, kind_of, same_kind, hour12, millis, micros, fraction, iso_day, whole_year, part_year}
 use Rattle.read_fields.specs.declared.Fields.{Fields}
 use Rattle.read_fields.specs.declared.Place.{Place}
 use Rattle.read_fields.specs.declared.Reading.{Reading}
@@ -61,7 +61,8 @@ stored_number s n task (Ok r) f p =
 
 -- the number at a place: with a comma, or of a width
 abbrev pub number_of : List ℕ → Node → Bool → Task → ℕ → Result Number Refusal
-number_of s n free task at = when same_kind task.kind comma_year then comma_year_at s at n.pattern else number_at s at task.operand n.pattern free
+number_of s n free task at =
+    when same_kind (kind_of task.kind) comma_year then comma_year_at s at n.pattern else number_at s at task.operand n.pattern free
 
 abbrev pub read_number : List ℕ → Node → Bool → Task → Fields → Place → Reading
 read_number s n free task f p = stored_number s n task (number_of s n free task p.at) f p

@@ -133,7 +133,7 @@ fn number_at(s: &[u8], n: Node, free: bool, task: Task, at: usize) -> Result<Num
     requires { at ≤ length s.now }
     ensures { Numbered s.now at (number_of s.now n free task at) result }
 {
-    if task.kind == Kind::CommaYear {
+    if Kind::from(task.kind) == Kind::CommaYear {
         return years::comma_year(s, at, n.pattern);
     }
     read_integers::parse_int_len(s, at, task.operand, n.pattern, free)

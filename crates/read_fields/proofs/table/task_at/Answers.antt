@@ -3,4 +3,4 @@ use Rattle.read_fields.proofs.Assigned.{assigned}
 use Rattle.read_fields.proofs.table.task_at.Goals as goal
 
 pub returns : goal.returns
-returns c = rw (c.from.ensures, c.row_of-x.ensures) (assigned c.args.pattern)
+returns c = rw c.row_of-x.ensures (assigned c.args.pattern)
