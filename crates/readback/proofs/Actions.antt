@@ -20,7 +20,7 @@ use Rattle.read_fields.specs.Fields.{get, put, read, mode}
 use Rattle.read_numbers.specs.Numbers.{stored_number}
 use Rattle.read_literals.specs.Literals.{place}
 use Rattle.read_input.specs.Reader.{mixes, with_mode, performed, past_spaces, action_read, entered, node_read}
-use Rattle.read_fields.specs.Tasks.{exact, kind_number, number, same_kind, word}
+use Rattle.read_fields.specs.Tasks.{exact, kind_number, kind_of, number, same_kind, word}
 use Rattle.read_fields.proofs.Assigned.{same_kind_lem}
 use Rattle.read_words.specs.Words.{stored_word}
 use Rattle.read_fields.specs.declared.Fields.{Fields}
@@ -45,21 +45,21 @@ use Rattle.readback.proofs.Words.{word_read}
 
 -- the pieces 1 to 13 are numbers
 record IsNumber (p : ℕ) : Type 0 where
-  kind : kind_number (task_for p).kind ≡ kind_number number
+  kind : kind_number (kind_of (task_for p).kind) ≡ kind_number number
   operand : (task_for p).operand ≡ width_of p
 
 is_number : (p : ℕ) → 1 ≤ p → p ≤ 13 → IsNumber p
 is_number = each IsNumber 1 12 (omega arith)
 
 -- and 14 to 17 are words
-is_word : (p : ℕ) → 14 ≤ p → p ≤ 17 → (task_for p).kind ≡ word
+is_word : (p : ℕ) → 14 ≤ p → p ≤ 17 → kind_of (task_for p).kind ≡ word
 is_word p from to =
-    same_kind_lem _ _ (eq-eqb _ _ (each (λ p. kind_number (task_for p).kind ≡ kind_number word) 14 3 (omega arith) p from to))
+    same_kind_lem _ _ (eq-eqb _ _ (each (λ p. kind_number (kind_of (task_for p).kind) ≡ kind_number word) 14 3 (omega arith) p from to))
 
 -- none is FX
-no_exact : (p : ℕ) → 1 ≤ p → p ≤ 17 → same_kind (task_for p).kind exact ≡ false
+no_exact : (p : ℕ) → 1 ≤ p → p ≤ 17 → same_kind (kind_of (task_for p).kind) exact ≡ false
 no_exact p from to =
-    ne_eqb _ _ (each (λ p. kind_number (task_for p).kind ≡ kind_number exact → ⊥) 1 16 (omega arith) p from to)
+    ne_eqb _ _ (each (λ p. kind_number (kind_of (task_for p).kind) ≡ kind_number exact → ⊥) 1 16 (omega arith) p from to)
 
 -- the date mode is no field of a piece
 mode_apart : (p : ℕ) → 1 ≤ p → p ≤ 17 → (f : Fields) → get (with_mode (mode_for p) f) (task_for p).field ≡ get f (task_for p).field
@@ -84,7 +84,7 @@ module _ (s : List ℕ) {y mo d h mi sec us : ℕ} (is : IsMoment y mo d h mi se
     unfolding performed stored_number past_ordinal
     number_performed free stops to bare e =
         let task = is_number p from to in
-        let kind : (task_for p).kind ≡ number = same_kind_lem _ _ (eq-eqb _ _ task.kind) in
+        let kind : kind_of (task_for p).kind ≡ number = same_kind_lem _ _ (eq-eqb _ _ task.kind) in
         let small = number_small is p from to in
         let taken : at + width_of p - at ≡ width_of p = omega arith in
         let size : length x ≡ width_of p = rw e (decimal-length (width_of p) (number_of p now)) in
