@@ -16,16 +16,17 @@ const LAST_LOW: u8 = 0xbf;
 
 const LAST_HIGH: u8 = 0xaf;
 
-// Whether there is a mark at a place, one of the characters U+0300 to U+036F.
+// Whether there is a mark at a place, one of the characters U+0300 to U+036F. The second byte is asked for only after a
+// first byte of a mark, as few are.
 #[tactic(auto, unfolding(crate::specs::Accents::mark_at))]
 pub fn is_mark(s: &[u8], at: usize) -> bool
     ensures { result ≡ mark_at s.now at }
 {
-    at < s.len()
-        && matches!(
-            &s[at..],
-            [FIRST_LOW, SECOND..=LAST_LOW, ..] | [FIRST_HIGH, SECOND..=LAST_HIGH, ..]
-        )
+    match s.get(at) {
+        Some(&FIRST_LOW) => matches!(base_notation::byte_at(s, at + 1), SECOND..=LAST_LOW),
+        Some(&FIRST_HIGH) => matches!(base_notation::byte_at(s, at + 1), SECOND..=LAST_HIGH),
+        _ => false,
+    }
 }
 
 // Whether there is a letter at a place: one of ASCII, or a character outside ASCII that is no mark.
@@ -53,7 +54,9 @@ fn past_marks(s: &[u8], at: usize) -> usize
     i
 }
 
-// The length of the character at a place in the accents mode: a letter has all marks right after it.
+// The length of the character at a place in the accents mode: a letter has all marks right after it. A call of its own:
+// what is left of `measure` is small enough to go into its callers.
+#[inline(never)]
 #[tactic(auto, using(crate::proofs::Measures::counted), unfolding(crate::specs::Accents::measure_of))]
 pub fn whole(s: &[u8], at: usize) -> usize
     ensures { Counted true s.now at result }
