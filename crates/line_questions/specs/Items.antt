@@ -1,5 +1,5 @@
 -- The items of a question: each follows a separator. They are numbers, a place in a text, or a text as the last item.
-use Rattle.std.specs.Prelude.{◌≡◌, refl, Bool, true, false, ◌&&◌, ◌||◌, Option, Some, None, List, [], ◌∷◌, ◌++◌, map, ℕ, ◌+◌, ◌-◌, ◌*◌, eqb, ltb, leb, ℤ, pos, negsuc, length, drop, get_or, replicate}
+use Rattle.std.specs.Prelude.{◌≡◌, refl, Bool, true, false, ◌&&◌, ◌||◌, Option, Some, None, Result, Ok, Err, List, [], ◌∷◌, ◌++◌, map, ℕ, ◌+◌, ◌-◌, ◌*◌, eqb, ltb, leb, ℤ, pos, negsuc, length, drop, get_or, replicate}
 use Rattle.std.specs.Str.{bytes_eq}
 use Rattle.std.proofs.lemmas.List.Edits.{sets}
 use Rattle.base_notation.specs.Choice.{when◌then◌else◌}
@@ -37,16 +37,16 @@ numbers_of ns = when are_numbers ns && leb (length ns) 3 then numbers (map value
 abbrev pub numbers_at : List ℕ → ℕ → Numbers
 numbers_at line from = numbers_of (map int_of (items_at line from))
 
--- a number of 0 or more is a place
-unfoldable pub place_of : Option ℤ → ℕ → Option Place
-place_of (Some (pos n)) end = Some (record { at = n; end = end })
-place_of (Some (negsuc n)) end = None
-place_of None end = None
+-- a number of 0 or more is a place; where there is none, the item from `from` to `end` is not passed
+unfoldable pub place_of : Option ℤ → ℕ → ℕ → Result Place ℕ
+place_of (Some (pos n)) from end = Ok (record { at = n; end = end })
+place_of (Some (negsuc n)) from end = Err from
+place_of None from end = Err from
 
--- the next item as a place, and where that item ends
-abbrev pub place_at : List ℕ → ℕ → Option Place
+-- the next item as a place, and where that item ends; else where its separator is
+abbrev pub place_at : List ℕ → ℕ → Result Place ℕ
 place_at line from =
-    let item = get_or (items_at line from) 0 [] in place_of (number_of item) (from + 1 + length item)
+    let item = get_or (items_at line from) 0 [] in place_of (number_of item) from (from + 1 + length item)
 
 -- two texts are the same
 abbrev pub same : List ℕ → List ℕ → Bool
@@ -86,8 +86,8 @@ three_numbers = (refl, refl, refl, refl)
 
 -- a place; one below 0; one past 64 bits; none
 pub places
-    : (place_at (utf8 "q 12 3132") 1 ≡ Some (record { at = 12; end = 4 })) × (place_at (utf8 "q -1 31") 1 ≡ None)
-    × (place_at (utf8 "q 9223372036854775808 31") 1 ≡ None) × (place_at (utf8 "q") 1 ≡ None)
+    : (place_at (utf8 "q 12 3132") 1 ≡ Ok (record { at = 12; end = 4 })) × (place_at (utf8 "q -1 31") 1 ≡ Err 1)
+    × (place_at (utf8 "q 9223372036854775808 31") 1 ≡ Err 1) × (place_at (utf8 "q") 1 ≡ Err 1)
 unfolding items_compute
 places = (refl, refl, refl, refl)
 

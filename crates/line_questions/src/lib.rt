@@ -1,7 +1,7 @@
 // The items of a question: numbers, a place in a text, and the bytes of a text in hexadecimal digits, `-` for none.
 #![tactic(auto)]
 
-ghost use Rattle.std.specs.Prelude.{◌≡◌, ◌<◌, ◌^◌, ⊤, MatchOption, []};
+ghost use Rattle.std.specs.Prelude.{◌≡◌, ◌<◌, ◌^◌, IfOk, []};
 ghost use Rattle.line_questions.specs.Items.{ReadBytes, numbers, numbers_at, place_at, place_of};
 
 // The most numbers of a question.
@@ -33,7 +33,8 @@ pub fn read_numbers(line: &[u8], from: usize) -> Numbers
         let Some(n) = line_numbers::read_int(&line[at + 1..end]) else {
             return no_numbers();
         };
-        if count == MOST {
+        let full = MOST <= count;
+        if full {
             return no_numbers();
         }
         values[count] = n;
@@ -69,24 +70,30 @@ pub fn read_bytes(line: &[u8], from: usize, text: &mut [u8]) -> Option<usize>
     Some(count)
 }
 
-// The number of an item that ends at `end`, as a place.
+// The number of an item from `from` to `end`, as a place.
 #[tactic(auto, unfolding(crate::specs::Items::place_of))]
-fn place_of(n: i64, end: usize) -> Option<Place>
-    ensures place { result ≡ place_of (Some n) end }
-    ensures below { MatchOption result ⊤ (λ p. p.at < 2 ^ 63) }
+fn place_of(n: i64, from: usize, end: usize) -> Result<Place, usize>
+    ensures place { result ≡ place_of (Some n) from end }
+    ensures below { IfOk result (λ p. p.at < 2 ^ 63) }
 {
-    let at = usize::try_from(n).ok()?;
-    Some(Place { at, end })
+    let Ok(at) = usize::try_from(n) else {
+        return Err(from);
+    };
+    Ok(Place { at, end })
 }
 
-// The next item of a line as a place in a text.
-pub fn read_place(line: &[u8], from: usize) -> Option<Place>
+// The next item of a line as a place in a text, and where that item ends. Where an item is malformed, the error is
+// where its separator is: the item is not passed.
+pub fn read_place(line: &[u8], from: usize) -> Result<Place, usize>
     ensures place { result ≡ place_at line.now from }
-    ensures below { MatchOption result ⊤ (λ p. p.at < 2 ^ 63) }
+    ensures below { IfOk result (λ p. p.at < 2 ^ 63) }
 {
     if line.len() <= from {
-        return None;
+        return Err(from);
     }
     let end = line_buffers::find(line, from + 1, b' ');
-    place_of(line_numbers::read_number(&line[from + 1..end])?, end)
+    let Some(n) = line_numbers::read_number(&line[from + 1..end]) else {
+        return Err(from);
+    };
+    place_of(n, from, end)
 }

@@ -13,10 +13,10 @@ returns-in_default c =
     let items = next_item _ _ _ (omega arith) c.find-end.ensures in
     c.no_numbers.ensures ∙ no_number c.loop-at.invariant.1 _ c.find-end.result items (sym c.in_default.ensures)
 
-pub returns-then-count-eq-MOST : goal.returns-then-count-eq-MOST
-returns-then-count-eq-MOST c =
+pub returns-then-full : goal.returns-then-full
+returns-then-full c =
     let items = next_item _ _ _ (omega arith) c.find-end.ensures in
-    c.no_numbers-then-count-eq-MOST.ensures ∙ too_many c.loop-at.invariant.1 _ c.find-end.result items (omega arith)
+    c.no_numbers-then-full.ensures ∙ too_many c.loop-at.invariant.1 _ c.find-end.result items (omega arith)
 
 pub loop-at-preserved : goal.loop-at-preserved
 loop-at-preserved c =

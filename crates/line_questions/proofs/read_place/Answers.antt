@@ -13,15 +13,15 @@ pub returns-then-line-from-clause-place : goal.returns-then-line-from-clause-pla
 returns-then-line-from-clause-place c = sym (no_place _ _ c.if-line-from.true)
 
 -- no number
-pub returns-in_err-read_number-clause-place : goal.returns-in_err-read_number-clause-place
+pub returns-in_default-clause-place : goal.returns-in_default-clause-place
 unfolding place_of
-returns-in_err-read_number-clause-place c =
+returns-in_default-clause-place c =
     let next = next_place _ _ _ (omega arith) c.find-end.ensures in
-    c.from_residual.ensures ∙ sym (rw (← c.in_err-read_number.ensures) at next)
+    sym (rw (← c.in_default.ensures) at next)
 
 -- a number
 pub returns-clause-place : goal.returns-clause-place
 returns-clause-place c =
     let next = next_place _ _ _ (omega arith) c.find-end.ensures in
-    let fits : SFits w64 c.in_ok-read_number.field-0 = search rules in
-    simp (to_z-of_z fits) at c.place_of.ensures.place ∙ sym (rw (← c.in_ok-read_number.ensures) at next)
+    let fits : SFits w64 c.in-Some.n = search rules in
+    simp (to_z-of_z fits) at c.place_of.ensures.place ∙ sym (rw (← c.in-Some.ensures) at next)
