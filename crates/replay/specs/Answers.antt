@@ -1,8 +1,7 @@
 -- The answer to a question. A question is a line: a name, and items after it; its answer is numbers, the nodes of a
 -- template, or what the line program answers to a line. What is unknown or malformed is answered by `?`.
-use Rattle.std.specs.Prelude.{Option, Some, None, is_some, Bool, true, false, List, [], ◌∷◌, ◌++◌, ℕ, eqb, ℤ, pos, nat_abs, take, get_or}
+use Rattle.std.specs.Prelude.{Option, Some, None, is_some, Result, Ok, Err, Bool, true, false, List, [], ◌∷◌, ◌++◌, ℕ, eqb, ℤ, pos, nat_abs, take, get_or}
 use Prim.Native.Char.{code}
-use Rattle.std.specs.Option.{option_and_then}
 use Rattle.base_notation.specs.Choice.{when◌then◌else◌}
 use Rattle.base_notation.specs.Text.{utf8}
 use Rattle.base_chars.specs.Character.{char_length}
@@ -24,6 +23,7 @@ use Rattle.line_answers.specs.declared.Mode.{Mode}
 use Rattle.line_answers.specs.declared.Mode.TheVariants as mode
 use Rattle.line_questions.specs.Items.{same, numbers_at, place_at, bytes_at, text_at}
 use Rattle.line_questions.specs.declared.Numbers.{Numbers}
+use Rattle.line_questions.specs.declared.Place.{Place}
 use Rattle.replay.specs.declared.questions.Values.{Values}
 use Rattle.replay.specs.declared.questions.Values.TheVariants.{One, Three}
 
@@ -74,9 +74,12 @@ abbrev pub of_text : {A : Type 0} → List ℕ → ℕ → ℕ → (List ℕ →
 of_text line from room answer other = when is_some (bytes_at line from room) then answer (text_at line from) else other
 
 -- an answer about a place and a text of at most 512 bytes
+abbrev pub at_place : List ℕ → Result Place ℕ → (ℕ → List ℕ → Values) → Option Values
+at_place line (Ok place) answer = of_text line place.end 512 (λ text. Some (answer place.at text)) None
+at_place line (Err from) answer = None
+
 abbrev pub of_place : List ℕ → ℕ → (ℕ → List ℕ → Values) → Option Values
-of_place line from answer =
-    option_and_then (λ place. of_text line place.end 512 (λ text. Some (answer place.at text)) None) (place_at line from)
+of_place line from answer = at_place line (place_at line from) answer
 
 -- a number that is read, the place after it, and whether it is past 64 bits
 abbrev pub strtol_values : Strtol → Values

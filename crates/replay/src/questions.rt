@@ -100,7 +100,9 @@ fn of_numbers(name: &[u8], n: Numbers) -> Option<Values>
 fn of_strtol(line: &[u8], from: usize) -> Option<Values>
     ensures { result ≡ of_strtol line.now from }
 {
-    let start = read_place(line, from)?;
+    let Ok(start) = read_place(line, from) else {
+        return None;
+    };
     let mut text = [0u8; TEXT];
     let count = read_bytes(line, start.end, &mut text)?;
     let n = base_strtol::c_strtol(&text[0..count], start.at);
@@ -111,7 +113,9 @@ fn of_strtol(line: &[u8], from: usize) -> Option<Values>
 fn of_mblen(line: &[u8], from: usize) -> Option<Values>
     ensures { result ≡ of_mblen line.now from }
 {
-    let place = read_place(line, from)?;
+    let Ok(place) = read_place(line, from) else {
+        return None;
+    };
     let mut text = [0u8; TEXT];
     let count = read_bytes(line, place.end, &mut text)?;
     Some(Values::One(base_chars::pg_mblen(&text[0..count], place.at) as i64))
