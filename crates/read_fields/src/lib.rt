@@ -81,8 +81,9 @@ impl From<u32> for Kind {
     }
 }
 
-// What reading a pattern does. The kind is the number of a `Kind`. The operand is the width of a number, or the number
-// of a word list. Kind, field and rule are whole registers, so that no copy packs them into one.
+// What reading a pattern does. The kind is a number: that of a `Kind`, as `Kind::Word as usize`, or any other. The
+// operand is the width of a number, or the number of a word list. Kind, field and rule are whole registers, so that no
+// copy packs them into one.
 #[derive(Clone, Copy)]
 pub struct Task {
     pub kind: usize,
