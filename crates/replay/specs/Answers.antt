@@ -73,11 +73,12 @@ of_numbers name n =
 abbrev pub of_text : {A : Type 0} → List ℕ → ℕ → ℕ → (List ℕ → A) → A → A
 of_text line from room answer other = when is_some (bytes_at line from room) then answer (text_at line from) else other
 
--- an answer about a place and a text of at most 512 bytes
+-- an answer about what was read as a place, and a text of at most 512 bytes; none without a place
 abbrev pub at_place : List ℕ → Result Place ℕ → (ℕ → List ℕ → Values) → Option Values
 at_place line (Ok place) answer = of_text line place.end 512 (λ text. Some (answer place.at text)) None
 at_place line (Err from) answer = None
 
+-- an answer about the next item as a place, and the text after it
 abbrev pub of_place : List ℕ → ℕ → (ℕ → List ℕ → Values) → Option Values
 of_place line from answer = at_place line (place_at line from) answer
 
