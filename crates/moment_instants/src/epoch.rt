@@ -136,7 +136,7 @@ pub fn round_to_precision(t: i64, precision: i32) -> Result<i64, Undated>
     added(rounded_count(scale, t - EPOCH_2000), EPOCH_2000)
 }
 
-// The instant of a moment's parts.
+// The instant of a moment's parts: microseconds since 1970-01-01, UTC.
 #[tactic(auto, unfolding(crate::specs::Instant::instant_of))]
 pub fn instant_of(p: Parts) -> Result<i64, Undated>
     ensures { result ≡ instant_of p }
@@ -146,7 +146,7 @@ pub fn instant_of(p: Parts) -> Result<i64, Undated>
     round_to_precision(t, p.precision)
 }
 
-// The day of a moment's parts. The ends of the 32-bit range mean the infinities.
+// The day of a moment's parts: days since 1970-01-01. The ends of the 32-bit range mean the infinities.
 #[tactic(auto, unfolding(crate::specs::Instant::day_of))]
 pub fn day_of(p: Parts) -> Result<i32, Undated>
     ensures { result ≡ day_of p }

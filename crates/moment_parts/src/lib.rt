@@ -30,6 +30,7 @@ pub struct Parts {
     pub second: i32,
     pub micros: i32,
     pub precision: i32,
+    // Seconds east of UTC.
     pub offset: Option<i32>,
     pub marks: u8,
 }
