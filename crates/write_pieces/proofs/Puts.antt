@@ -2,7 +2,6 @@
 -- `put_length`: a text that is put leaves the buffer's length. `put_nothing`: to put no text changes nothing.
 -- `put_same`: where a text is put, any text that is the same is put.
 -- `put_after`: two texts, one put after the other, are put as one.
--- `put_copied`: a text that a part of the buffer now holds is put there.
 -- `next_byte`: what is left of a text is put by its next byte and then the rest.
 -- `last_digit`, `no_digit`: the digits of a number are put by its last and then those before; of no digits nothing is.
 use mathlib.Core.Path.{◌≡◌, ◌∙◌, refl, sym, ap}
@@ -28,17 +27,6 @@ put_nothing l at = record { is = refl; next = omega arith }
 
 pub put_same : {before : List ℕ} {at : ℕ} {text same after : List ℕ} {r : ℕ} → text ≡ same → Put before at text after r → Put before at same after r
 put_same e p = rw e at p
-
--- a text copied over the part of the buffer that is as long
-pub put_copied : (l : List ℕ) (at : ℕ) (text part : List ℕ) → at + length text ≤ length l → part ≡ text
-    → Put l at text (put_mid at (at + length text - at) l part) (at + length text)
-put_copied l at text part room e =
-    record {
-      is =
-          put_mid-paste at _ l _ text (length text) e (omega arith) refl
-          ∙ rw (take-length text) (sym (sets-eq text l at (omega arith)));
-      next = refl;
-    }
 
 -- a text put after another: the two as one
 pub put_after : (l : List ℕ) (at : ℕ) (xs ys : List ℕ) → sets (sets l at xs) (at + length xs) ys ≡ sets l at (xs ++ ys)

@@ -4,9 +4,10 @@
 
 mod numbers;
 mod output;
+mod table;
 mod words;
 
-ghost use Rattle.std.specs.Prelude.{◌≡◌, true, ◌+◌, ◌≤◌, length};
+ghost use Rattle.std.specs.Prelude.{◌≡◌, true, ℕ, ◌+◌, ◌≤◌, length};
 ghost use Rattle.template_patterns.specs.declared.Case.{Case};
 ghost use Rattle.write_pieces.specs.Moment.{is_moment, seven_numbers};
 ghost use Rattle.write_pieces.specs.Output.{Put};
@@ -80,41 +81,63 @@ pub enum Piece {
     ShortMonth,
 }
 
-// The piece of a pattern, by its number in the table; none where the writer does not know the pattern. A match with a
-// constant in each arm is a table that is there before a call.
-#[tactic(auto, unfolding(crate::specs::Pieces::piece_of))]
+// The piece of a pattern, by its number in the table; none where the writer does not know the pattern.
+#[tactic(auto, using(crate::proofs::PieceTable::piece_in))]
 pub fn piece_of(pattern: u8) -> Option<Piece>
     ensures { found_number result ≡ piece_of pattern }
 {
-    match pattern {
-        54 | 108 => Some(Piece::Year), // YYYY, yyyy
-        33 | 89 => Some(Piece::Month), // MM, mm
-        9 | 67 => Some(Piece::Day), // DD, dd
-        8 | 66 => Some(Piece::YearDay), // DDD, ddd
-        27 | 83 => Some(Piece::WeekYear), // IYYY, iyyy
-        26 | 82 => Some(Piece::Week), // IW, iw
-        25 | 81 => Some(Piece::Weekday), // ID, id
-        21 | 77 => Some(Piece::Hour24), // HH24, hh24
-        22 | 78 => Some(Piece::Hour12), // HH12, hh12
-        23 | 79 => Some(Piece::Hour12), // HH, hh
-        32 | 88 => Some(Piece::Minute), // MI, mi
-        46 | 100 => Some(Piece::Second), // SS, ss
-        44 | 98 => Some(Piece::DaySecond), // SSSSS, sssss
-        50 | 104 => Some(Piece::Micros), // US, us
-        3 | 41 | 61 | 95 => Some(Piece::Marker), // AM, PM, am, pm
-        1 | 40 | 59 | 94 => Some(Piece::DottedMarker), // A.M., P.M., a.m., p.m.
-        34 | 37 | 90 => Some(Piece::MonthName), // MONTH, Month, month
-        35 | 38 | 91 => Some(Piece::ShortMonth), // MON, Mon, mon
-        _ => None,
+    table::pieces().get(usize::from(pattern)).copied().flatten()
+}
+
+// A piece by its number in the definitions: any number, or what is found for a pattern, where none is 0.
+pub trait PieceNumber {
+    ghost piece: { Self → ℕ };
+
+    fn number(self) -> u8
+        ensures { result ≡ piece self };
+}
+
+impl PieceNumber for u8 {
+    ghost piece = { λ n. n };
+
+    fn number(self) -> u8 {
+        self
     }
 }
 
-// The prefix that the pattern of a piece needs: FM on the full name of a month, none on any other.
-pub fn prefix_of(piece: Option<Piece>) -> u8
-    ensures { result ≡ prefix_of (found_number piece) }
+impl PieceNumber for Option<Piece> {
+    ghost piece = { found_number };
+
+    fn number(self) -> u8 {
+        match self {
+            None => 0,
+            Some(Piece::Year) => 1,
+            Some(Piece::Month) => 2,
+            Some(Piece::Day) => 3,
+            Some(Piece::YearDay) => 4,
+            Some(Piece::WeekYear) => 5,
+            Some(Piece::Week) => 6,
+            Some(Piece::Weekday) => 7,
+            Some(Piece::Hour24) => 8,
+            Some(Piece::Hour12) => 9,
+            Some(Piece::Minute) => 10,
+            Some(Piece::Second) => 11,
+            Some(Piece::DaySecond) => 12,
+            Some(Piece::Micros) => 13,
+            Some(Piece::Marker) => 14,
+            Some(Piece::DottedMarker) => 15,
+            Some(Piece::MonthName) => 16,
+            Some(Piece::ShortMonth) => 17,
+        }
+    }
+}
+
+// The prefix that the pattern of a piece needs: FM on the full name of a month, none on any other number.
+pub fn prefix_of<P: PieceNumber>(piece: P) -> u8
+    ensures { result ≡ prefix_of (P.piece piece) }
 {
-    match piece {
-        Some(Piece::MonthName) => SUFFIX_FM,
+    match piece.number() {
+        16 => SUFFIX_FM,
         _ => 0,
     }
 }

@@ -3,8 +3,7 @@ ghost use Rattle.std.specs.Prelude.{◌+◌, ◌≤◌, length};
 ghost use Rattle.base_strtol.specs.Decimal.{decimal};
 ghost use Rattle.write_pieces.specs.Output.{Put};
 
-// A text. Most have one byte, of a literal, and need no call.
-#[tactic(auto, using(crate::proofs::Puts::put_copied))]
+// A text. Most have one byte, of a literal, and need no loop.
 pub fn put_bytes(text: &[u8], out: &mut [u8], at: usize) -> usize
     requires { at + length text.now ≤ length out.old }
     ensures { Put out.old at text.now out.new result }
@@ -13,9 +12,10 @@ pub fn put_bytes(text: &[u8], out: &mut [u8], at: usize) -> usize
         out[at] = text[0];
         return at + 1;
     }
-    let end = at + text.len();
-    out[at..end].copy_from_slice(text);
-    end
+    for (i, b) in text.iter().enumerate() {
+        out[at + i] = *b;
+    }
+    at + text.len()
 }
 
 // The last `width` digits of a number, filled with zeros, from the last on.
