@@ -11,9 +11,7 @@ use native.Mathlib.Nat.{add-zero, add-suc, suc-add}
 use native.Mathlib.Numerals.{add-one}
 use native.Mathlib.Omega.{arith}
 use lib.ListN.{length, drop, get_or, set}
-use borrow.Rule.Slice.PartMut.{put_mid}
-use lib.Seq.{sets, sets-eq, set_comm, drop-cons, length-sets, take-length}
-use Rattle.std.proofs.lemmas.Slice.{put_mid-paste}
+use lib.Seq.{sets, set_comm, drop-cons, length-sets}
 use Rattle.base_strtol.specs.Decimal.{decimal}
 use Rattle.base_strtol.proofs.Decimals.{decimal-length}
 use Rattle.write_pieces.specs.Output.{Put}

@@ -132,7 +132,7 @@ impl PieceNumber for Option<Piece> {
     }
 }
 
-// The prefix that the pattern of a piece needs: FM on the full name of a month, none on any other number.
+// The prefix that the pattern of a piece needs: FM on the full name of a month, 16, none on any other number.
 pub fn prefix_of<P: PieceNumber>(piece: P) -> u8
     ensures { result ≡ prefix_of (P.piece piece) }
 {
